@@ -19,8 +19,8 @@ use Rattle.arith_desk.specs.Question.{IsQuestion}
 use Rattle.arith_desk.specs.Truth.{Asks, HoldsWith, IsNearest, IsNearestFound, IsOver, IsTrueFormula, IsTruth, IsWithin, no_sets, with_zero}
 use Rattle.arith_desk.proofs.TruthLemmas.{HasNoWord, hit_holds, holds_hit, same_or_not, some_holds, some_word}
 
-nearest_along : (P Q : ℤ → Type 0) (w : ℤ) → ((n : ℤ) → P n → Q n) → ((n : ℤ) → Q n → P n) → IsNearest P w → IsNearest Q w
-nearest_along P Q w forth back is = record {
+nearest_along : {P : ℤ → Type 0} (Q : ℤ → Type 0) {w : ℤ} → ((n : ℤ) → P n → Q n) → ((n : ℤ) → Q n → P n) → IsNearest P w → IsNearest Q w
+nearest_along {P = P} Q {w} forth back is = record {
   holds = forth w is.holds;
   least = λ n h. is.least n (back n h);
   positive = λ n h same. is.positive n (back n h) same;
@@ -32,11 +32,11 @@ module _ (x : Var) (g : Tree) (question : IsQuestion (Ex x g)) (free : IsFree x 
 
   pub seek_near : (w : ℤ) → IsNearestFound (λ n. IsAccepted a (n ∷ pos 0 ∷ [])) (Some w) → IsTruth (Ex x g) (truths.Witness w)
   seek_near w found =
-      (x, g, asks, nearest_along (λ n. IsAccepted a (n ∷ pos 0 ∷ [])) (HoldsWith x g) w (hit_holds x g question free a decides) (holds_hit x g question free a decides) found.0, found.1)
+      (x, g, asks, nearest_along (HoldsWith x g) (hit_holds x g question free a decides) (holds_hit x g question free a decides) found.0, found.1)
 
   pub seek_wide : IsReduced a → IsAutomaton a → (HasNoWord a → ⊥) → IsNearestFound (λ n. IsAccepted a (n ∷ pos 0 ∷ [])) None → IsTruth (Ex x g) truths.WitnessWide
   seek_wide reduced valid some none =
-      (x, g, asks, record { some = some_holds x g question free a decides (some_word a reduced valid some); far = λ n h. none n (holds_hit x g question free a decides n h) })
+      (x, g, asks, record { some = some_holds x g question free a decides (some_word reduced valid some); far = λ n h. none n (holds_hit x g question free a decides n h) })
 
 -- a formula that asks for nothing
 abbrev pub AsksNothing : Tree → Type 0

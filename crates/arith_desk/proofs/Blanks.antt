@@ -19,5 +19,5 @@ parted_same (f ∷ h ∷ fs) (g ∷ k ∷ gs) some_f some_g hf hg e =
     let rest = parted_same (h ∷ fs) (k ∷ gs) (λ n. cc) (λ n. cc) (All-tail HasNoBlank f (h ∷ fs) hf) (All-tail HasNoBlank g (k ∷ gs) hg) parts.1 in
     ap (λ t. t ∷ h ∷ fs) parts.0 ∙ ap (λ l. g ∷ l) rest
 
-pub same_fields : (line : List ℕ) (fs gs : List (List ℕ)) → AreFields line fs → AreFields line gs → fs ≡ gs
-same_fields line fs gs a b = parted_same fs gs a.some b.some a.no_blank b.no_blank (sym a.is ∙ b.is)
+pub same_fields : {line : List ℕ} {fs gs : List (List ℕ)} → AreFields line fs → AreFields line gs → fs ≡ gs
+same_fields {fs} {gs} a b = parted_same fs gs a.some b.some a.no_blank b.no_blank (sym a.is ∙ b.is)

@@ -31,8 +31,8 @@ module _ (P : ℤ → Type 0) where
   none_far above below (pos t) h = beyond t (λ small. above t (omega arith) small h)
   none_far above below (negsuc t) h = beyond (suc t) (λ small. below (suc t) (omega arith) small h)
 
-  above_nearest : (t : ℕ) → IsLeastFrom (λ u. P (pos u)) 0 t → ((u : ℕ) → 1 ≤ u → u ≤ 2 ^ 64 → u < t → P (neg_ℤ (pos u)) → ⊥) → IsNearest P (pos t)
-  above_nearest t is below = record { holds = is.hit; least = least; positive = positive }
+  above_nearest : {t : ℕ} → IsLeastFrom (λ u. P (pos u)) 0 t → ((u : ℕ) → 1 ≤ u → u ≤ 2 ^ 64 → u < t → P (neg_ℤ (pos u)) → ⊥) → IsNearest P (pos t)
+  above_nearest {t} is below = record { holds = is.hit; least = least; positive = positive }
     where
       least : (n : ℤ) → P n → t ≤ unsigned_abs n
       least (pos u) h = is.least u (omega arith) h
@@ -45,9 +45,9 @@ module _ (P : ℤ → Type 0) where
       positive (pos u) h same = omega (arith, ints)
       positive (negsuc u) h same = omega (arith, ints)
 
-  below_nearest : (t : ℕ) → IsLeastFrom (λ u. P (neg_ℤ (pos u))) 1 t → ((u : ℕ) → u ≤ t → P (pos u) → ⊥) → IsNearest P (neg_ℤ (pos t))
-  below_nearest zero is above = absurd (let from = is.from in omega arith)
-  below_nearest (suc m) is above = record { holds = is.hit; least = least; positive = positive }
+  below_nearest : {t : ℕ} → IsLeastFrom (λ u. P (neg_ℤ (pos u))) 1 t → ((u : ℕ) → u ≤ t → P (pos u) → ⊥) → IsNearest P (neg_ℤ (pos t))
+  below_nearest {t = zero} is above = absurd (let from = is.from in omega arith)
+  below_nearest {t = suc m} is above = record { holds = is.hit; least = least; positive = positive }
     where
       least : (n : ℤ) → P n → suc m ≤ unsigned_abs n
       least (pos u) h = not_less (suc m) u (λ less. above u (omega arith) h)
@@ -64,22 +64,22 @@ module _ (P : ℤ → Type 0) where
   abs_neg zero = refl
   abs_neg (suc t) = refl
 
-  chosen : (above below : ℕ) (b : Bool) → nat_lt below above ≡ b → IsLeastFrom (λ u. P (pos u)) 0 above → IsLeastFrom (λ u. P (neg_ℤ (pos u))) 1 below
+  chosen : {above below : ℕ} (b : Bool) → nat_lt below above ≡ b → IsLeastFrom (λ u. P (pos u)) 0 above → IsLeastFrom (λ u. P (neg_ℤ (pos u))) 1 below
       → IsNearestFound P (if b then Some (neg_ℤ (pos below)) else Some (pos above))
-  chosen above below true less up down =
+  chosen {above} {below} true less up down =
       let nearer : below < above = ltb-true below above less in (
-        below_nearest below down (λ u small h. let not_less = up.least u (omega arith) h in absurd (omega arith)),
+        below_nearest down (λ u small h. let not_less = up.least u (omega arith) h in absurd (omega arith)),
         let to = down.to in omega (arith, abs_neg below),
       )
-  chosen above below false less up down =
+  chosen {above} {below} false less up down =
       let nearer : above ≤ below = ltb-false below above less in (
-        above_nearest above up (λ u some small closer h. let not_less = down.least u some h in absurd (omega arith)),
+        above_nearest up (λ u some small closer h. let not_less = down.least u some h in absurd (omega arith)),
         up.to,
       )
 
   pub nearest_found : (above below : Option ℕ) → IsLeastOf (λ t. P (pos t)) 0 above → IsLeastOf (λ t. P (neg_ℤ (pos t))) 1 below → IsNearestFound P (nearer_of above below)
   nearest_found None None up down = none_far up down
-  nearest_found (Some t) None up down = (above_nearest t up (λ u some small closer h. down u some small h), up.to)
+  nearest_found (Some t) None up down = (above_nearest up (λ u some small closer h. down u some small h), up.to)
   nearest_found None (Some t) up down =
-      (below_nearest t down (λ u small h. let to = down.to in up u (omega arith) (omega arith) h), let to = down.to in omega (arith, abs_neg t))
-  nearest_found (Some t) (Some u) up down = chosen t u (nat_lt u t) refl up down
+      (below_nearest down (λ u small h. let to = down.to in up u (omega arith) (omega arith) h), let to = down.to in omega (arith, abs_neg t))
+  nearest_found (Some t) (Some u) up down = chosen (nat_lt u t) refl up down

@@ -38,26 +38,26 @@ module _ (f : Tree) (x y : Var) (g h : Tree) (a : Asks f x g) (b : Asks f y h) w
       subst At (sym same_var) (subst Of (sym same_body) is)
 
 -- a formula that asks for a number holds where there is one
-pub asked_holds : (f : Tree) (x : Var) (g : Tree) (n : ℤ) → Asks f x g → HoldsWith x g n → IsTrueFormula f
-asked_holds f x g n a holds = subst IsTrueFormula (sym a.is) (n, holds)
+pub asked_holds : {f : Tree} {x : Var} {g : Tree} (n : ℤ) → Asks f x g → HoldsWith x g n → IsTrueFormula f
+asked_holds n a holds = subst IsTrueFormula (sym a.is) (n, holds)
 
 pub one_truth : OneTruth
 one_truth f truths.False truths.False a b = refl
 one_truth f truths.False truths.True a b = absurd (a b.0)
-one_truth f truths.False (truths.Witness w) a (x, g, asks, near, within) = absurd (a (asked_holds f x g w asks near.holds))
-one_truth f truths.False truths.WitnessWide a (x, g, asks, wide) = absurd (a (asked_holds f x g wide.some.0 asks wide.some.1))
+one_truth f truths.False (truths.Witness w) a (x, g, asks, near, within) = absurd (a (asked_holds w asks near.holds))
+one_truth f truths.False truths.WitnessWide a (x, g, asks, wide) = absurd (a (asked_holds wide.some.0 asks wide.some.1))
 one_truth f truths.True truths.False a b = absurd (b a.0)
 one_truth f truths.True truths.True a b = refl
 one_truth f truths.True (truths.Witness w) a (x, g, asks, near, within) = absurd (a.1 x g asks)
 one_truth f truths.True truths.WitnessWide a (x, g, asks, wide) = absurd (a.1 x g asks)
-one_truth f (truths.Witness v) truths.False (x, g, asks, near, within) b = absurd (b (asked_holds f x g v asks near.holds))
+one_truth f (truths.Witness v) truths.False (x, g, asks, near, within) b = absurd (b (asked_holds v asks near.holds))
 one_truth f (truths.Witness v) truths.True (x, g, asks, near, within) b = absurd (b.1 x g asks)
 one_truth f (truths.Witness v) (truths.Witness w) (x, g, asks, near, within) (y, h, also, nearest, short) =
     let Near : (ℤ → Type 0) → Type 0 = λ P. IsNearest P w in
     ap truths.Witness (one_nearest (HoldsWith x g) v w near (moved f x y g h asks also Near nearest))
 one_truth f (truths.Witness v) truths.WitnessWide (x, g, asks, near, within) (y, h, also, wide) =
     absurd (near_and_far (HoldsWith x g) v near within (moved f x y g h asks also IsWide wide))
-one_truth f truths.WitnessWide truths.False (x, g, asks, wide) b = absurd (b (asked_holds f x g wide.some.0 asks wide.some.1))
+one_truth f truths.WitnessWide truths.False (x, g, asks, wide) b = absurd (b (asked_holds wide.some.0 asks wide.some.1))
 one_truth f truths.WitnessWide truths.True (x, g, asks, wide) b = absurd (b.1 x g asks)
 one_truth f truths.WitnessWide (truths.Witness w) (x, g, asks, wide) (y, h, also, near, within) =
     absurd (near_and_far (HoldsWith y h) w near within (moved f y x h g also asks IsWide wide))

@@ -34,32 +34,32 @@ fails_same Is (field ∷ rest) l m h k = h.1 ∙ sym k.1
 no_word_fails : (fields rest : List (List ℕ)) (w : Word) (left : ℕ) → fields ≡ word_text w ∷ rest → Fails IsWord fields left → ⊥
 no_word_fails fields rest w left e h = fails_there IsWord fields (word_text w) rest left e (w, refl) h
 
-inv_not : (scope : List Var) (fields rest : List (List ℕ)) (left : ℕ) → fields ≡ word_text Not ∷ rest → Stops scope fields left → Stops scope rest left
-inv_not scope fields rest left e (at_word _ _ _ h) = absurd (no_word_fails fields rest Not left e h)
-inv_not scope fields rest left e (behind_not _ _ more _ is h) = subst (λ l. Stops scope l left) (sym (behind fields Not Not rest more e is).1) h
-inv_not scope fields rest left e (in_first _ d _ more _ is h) = absurd (let w = (behind fields Not (Join d) rest more e is).0 in cc)
-inv_not scope fields rest left e (in_second _ d first _ more _ proper is h) = absurd (let w = (behind fields Not (Join d) rest (spelled first ++ more) e is).0 in cc)
-inv_not scope fields rest left e (at_letter _ q _ more _ is h) = absurd (let w = (behind fields Not (Bind q) rest more e is).0 in cc)
-inv_not scope fields rest left e (in_body _ q x _ more _ low fresh is h) = absurd (let w = (behind fields Not (Bind q) rest (letter x ∷ more) e is).0 in cc)
-inv_not scope fields rest left e (in_comparison _ rel _ more _ is h) = absurd (let w = (behind fields Not (Compare rel) rest more e is).0 in cc)
+inv_not : {scope : List Var} {fields : List (List ℕ)} (rest : List (List ℕ)) {left : ℕ} → fields ≡ word_text Not ∷ rest → Stops scope fields left → Stops scope rest left
+inv_not {fields} rest {left} e (at_word _ _ _ h) = absurd (no_word_fails fields rest Not left e h)
+inv_not {scope} {fields} rest {left} e (behind_not _ _ more _ is h) = subst (λ l. Stops scope l left) (sym (behind fields Not Not rest more e is).1) h
+inv_not {fields} rest e (in_first _ d _ more _ is h) = absurd (let w = (behind fields Not (Join d) rest more e is).0 in cc)
+inv_not {fields} rest e (in_second _ d first _ more _ proper is h) = absurd (let w = (behind fields Not (Join d) rest (spelled first ++ more) e is).0 in cc)
+inv_not {fields} rest e (at_letter _ q _ more _ is h) = absurd (let w = (behind fields Not (Bind q) rest more e is).0 in cc)
+inv_not {fields} rest e (in_body _ q x _ more _ low fresh is h) = absurd (let w = (behind fields Not (Bind q) rest (letter x ∷ more) e is).0 in cc)
+inv_not {fields} rest e (in_comparison _ rel _ more _ is h) = absurd (let w = (behind fields Not (Compare rel) rest more e is).0 in cc)
 
-inv_join : (c : Connective) (scope : List Var) (fields rest : List (List ℕ)) (left : ℕ) → fields ≡ word_text (Join c) ∷ rest → Stops scope fields left → StopsJoined scope rest left
-inv_join c scope fields rest left e (at_word _ _ _ h) = absurd (no_word_fails fields rest (Join c) left e h)
-inv_join c scope fields rest left e (behind_not _ _ more _ is h) = absurd (let w = (behind fields (Join c) Not rest more e is).0 in cc)
-inv_join c scope fields rest left e (in_first _ d _ more _ is h) = inl (subst (λ l. Stops scope l left) (sym (behind fields (Join c) (Join d) rest more e is).1) h)
-inv_join c scope fields rest left e (in_second _ d first _ more _ proper is h) = inr (first, more, proper, (behind fields (Join c) (Join d) rest (spelled first ++ more) e is).1, h)
-inv_join c scope fields rest left e (at_letter _ q _ more _ is h) = absurd (let w = (behind fields (Join c) (Bind q) rest more e is).0 in cc)
-inv_join c scope fields rest left e (in_body _ q x _ more _ low fresh is h) = absurd (let w = (behind fields (Join c) (Bind q) rest (letter x ∷ more) e is).0 in cc)
-inv_join c scope fields rest left e (in_comparison _ rel _ more _ is h) = absurd (let w = (behind fields (Join c) (Compare rel) rest more e is).0 in cc)
+inv_join : (c : Connective) {scope : List Var} {fields : List (List ℕ)} (rest : List (List ℕ)) {left : ℕ} → fields ≡ word_text (Join c) ∷ rest → Stops scope fields left → StopsJoined scope rest left
+inv_join c {fields} rest {left} e (at_word _ _ _ h) = absurd (no_word_fails fields rest (Join c) left e h)
+inv_join c {fields} rest e (behind_not _ _ more _ is h) = absurd (let w = (behind fields (Join c) Not rest more e is).0 in cc)
+inv_join c {scope} {fields} rest {left} e (in_first _ d _ more _ is h) = inl (subst (λ l. Stops scope l left) (sym (behind fields (Join c) (Join d) rest more e is).1) h)
+inv_join c {fields} rest e (in_second _ d first _ more _ proper is h) = inr (first, more, proper, (behind fields (Join c) (Join d) rest (spelled first ++ more) e is).1, h)
+inv_join c {fields} rest e (at_letter _ q _ more _ is h) = absurd (let w = (behind fields (Join c) (Bind q) rest more e is).0 in cc)
+inv_join c {fields} rest e (in_body _ q x _ more _ low fresh is h) = absurd (let w = (behind fields (Join c) (Bind q) rest (letter x ∷ more) e is).0 in cc)
+inv_join c {fields} rest e (in_comparison _ rel _ more _ is h) = absurd (let w = (behind fields (Join c) (Compare rel) rest more e is).0 in cc)
 
-inv_bind : (p : Quantifier) (scope : List Var) (fields rest : List (List ℕ)) (left : ℕ) → fields ≡ word_text (Bind p) ∷ rest → Stops scope fields left → StopsBound scope rest left
-inv_bind p scope fields rest left e (at_word _ _ _ h) = absurd (no_word_fails fields rest (Bind p) left e h)
-inv_bind p scope fields rest left e (behind_not _ _ more _ is h) = absurd (let w = (behind fields (Bind p) Not rest more e is).0 in cc)
-inv_bind p scope fields rest left e (in_first _ d _ more _ is h) = absurd (let w = (behind fields (Bind p) (Join d) rest more e is).0 in cc)
-inv_bind p scope fields rest left e (in_second _ d first _ more _ proper is h) = absurd (let w = (behind fields (Bind p) (Join d) rest (spelled first ++ more) e is).0 in cc)
-inv_bind p scope fields rest left e (at_letter _ q _ more _ is h) = inl (subst (λ l. Fails (IsFreshLetter scope) l left) (sym (behind fields (Bind p) (Bind q) rest more e is).1) h)
-inv_bind p scope fields rest left e (in_body _ q x _ more _ low fresh is h) = inr (x, more, low, fresh, (behind fields (Bind p) (Bind q) rest (letter x ∷ more) e is).1, h)
-inv_bind p scope fields rest left e (in_comparison _ rel _ more _ is h) = absurd (let w = (behind fields (Bind p) (Compare rel) rest more e is).0 in cc)
+inv_bind : (p : Quantifier) {scope : List Var} {fields : List (List ℕ)} (rest : List (List ℕ)) {left : ℕ} → fields ≡ word_text (Bind p) ∷ rest → Stops scope fields left → StopsBound scope rest left
+inv_bind p {fields} rest {left} e (at_word _ _ _ h) = absurd (no_word_fails fields rest (Bind p) left e h)
+inv_bind p {fields} rest e (behind_not _ _ more _ is h) = absurd (let w = (behind fields (Bind p) Not rest more e is).0 in cc)
+inv_bind p {fields} rest e (in_first _ d _ more _ is h) = absurd (let w = (behind fields (Bind p) (Join d) rest more e is).0 in cc)
+inv_bind p {fields} rest e (in_second _ d first _ more _ proper is h) = absurd (let w = (behind fields (Bind p) (Join d) rest (spelled first ++ more) e is).0 in cc)
+inv_bind p {scope} {fields} rest {left} e (at_letter _ q _ more _ is h) = inl (subst (λ l. Fails (IsFreshLetter scope) l left) (sym (behind fields (Bind p) (Bind q) rest more e is).1) h)
+inv_bind p {fields} rest e (in_body _ q x _ more _ low fresh is h) = inr (x, more, low, fresh, (behind fields (Bind p) (Bind q) rest (letter x ∷ more) e is).1, h)
+inv_bind p {fields} rest e (in_comparison _ rel _ more _ is h) = absurd (let w = (behind fields (Bind p) (Compare rel) rest more e is).0 in cc)
 
 inv_compare : (r : Rel) (scope : List Var) (fields rest : List (List ℕ)) (left : ℕ) → fields ≡ word_text (Compare r) ∷ rest → Stops scope fields left → StopsComparison scope rest left
 inv_compare r scope fields rest left e (at_word _ _ _ h) = absurd (no_word_fails fields rest (Compare r) left e h)
@@ -132,16 +132,16 @@ pub no_stop : (scope : List Var) (f : Typed) (rest fields : List (List ℕ)) (le
 no_stop scope (Compared rel terms bound) rest fields left low proper e h =
     no_stop_comparison scope terms bound rest (compared_fields terms bound rest) left low proper.0 proper.1 refl
     (inv_compare rel scope fields (compared_fields terms bound rest) left (e ∙ ap (λ l. word_text (Compare rel) ∷ l) (regroup terms bound rest)) h)
-no_stop scope (Denied f) rest fields left low proper e h = no_stop scope f rest (spelled f ++ rest) left low proper refl (inv_not scope fields (spelled f ++ rest) left e h)
+no_stop scope (Denied f) rest fields left low proper e h = no_stop scope f rest (spelled f ++ rest) left low proper refl (inv_not (spelled f ++ rest) e h)
 no_stop scope (Joined c f g) rest fields left low proper e h =
     let e2 : fields ≡ word_text (Join c) ∷ (spelled f ++ (spelled g ++ rest)) = e ∙ ap (λ l. word_text (Join c) ∷ l) (append_assoc (spelled f) (spelled g) rest) in
-    elim (inv_join c scope fields (spelled f ++ (spelled g ++ rest)) left e2 h) [
+    elim (inv_join c (spelled f ++ (spelled g ++ rest)) e2 h) [
       | inl k ↦ no_stop scope f (spelled g ++ rest) (spelled f ++ (spelled g ++ rest)) left low proper.0 refl k
       | inr k ↦
           let same = same_typed scope f k.0 (spelled g ++ rest) k.1 proper.0 k.2 k.3 in
           no_stop scope g rest k.1 left low proper.1 (sym same.1) k.4
     ]
-no_stop scope (Bound q x f) rest fields left low proper e h = elim (inv_bind q scope fields (letter x ∷ (spelled f ++ rest)) left e h) [
+no_stop scope (Bound q x f) rest fields left low proper e h = elim (inv_bind q (letter x ∷ (spelled f ++ rest)) e h) [
   | inl k ↦ fails_there (IsFreshLetter scope) (letter x ∷ (spelled f ++ rest)) (letter x) (spelled f ++ rest) left refl (x, proper.0, proper.1, refl) k
   | inr k ↦
       let var : k.0 ≡ x = same_letter k.0 x (sym (heads (letter x) (letter k.0) (spelled f ++ rest) k.1 k.4)) in
@@ -189,40 +189,40 @@ comparison_stop scope fields l m low (inr (due, rest, some, few, is, h)) (inr (o
     let moved = subst (λ n. StopsTerms scope [] n more m) count k in
     terms_stop scope [] due rest l m low h (subst (λ r. StopsTerms scope [] due r m) (tails (signed_decimal (pos other)) (signed_decimal (pos due)) more rest both) moved)
 
-word_stop : (scope : List Var) (fields : List (List ℕ)) (l m : ℕ) → Fails IsWord fields l → Stops scope fields m → l ≡ m
-word_stop scope fields l m h (at_word _ _ _ k) = fails_same IsWord fields l m h k
-word_stop scope fields l m h (behind_not _ _ more _ is k) = absurd (no_word_fails fields more Not l is h)
-word_stop scope fields l m h (in_first _ d _ more _ is k) = absurd (no_word_fails fields more (Join d) l is h)
-word_stop scope fields l m h (in_second _ d first _ more _ proper is k) = absurd (no_word_fails fields (spelled first ++ more) (Join d) l is h)
-word_stop scope fields l m h (at_letter _ q _ more _ is k) = absurd (no_word_fails fields more (Bind q) l is h)
-word_stop scope fields l m h (in_body _ q x _ more _ low fresh is k) = absurd (no_word_fails fields (letter x ∷ more) (Bind q) l is h)
-word_stop scope fields l m h (in_comparison _ rel _ more _ is k) = absurd (no_word_fails fields more (Compare rel) l is h)
+word_stop : {scope : List Var} {fields : List (List ℕ)} (l : ℕ) {m : ℕ} → Fails IsWord fields l → Stops scope fields m → l ≡ m
+word_stop {fields} l {m} h (at_word _ _ _ k) = fails_same IsWord fields l m h k
+word_stop {fields} l h (behind_not _ _ more _ is k) = absurd (no_word_fails fields more Not l is h)
+word_stop {fields} l h (in_first _ d _ more _ is k) = absurd (no_word_fails fields more (Join d) l is h)
+word_stop {fields} l h (in_second _ d first _ more _ proper is k) = absurd (no_word_fails fields (spelled first ++ more) (Join d) l is h)
+word_stop {fields} l h (at_letter _ q _ more _ is k) = absurd (no_word_fails fields more (Bind q) l is h)
+word_stop {fields} l h (in_body _ q x _ more _ low fresh is k) = absurd (no_word_fails fields (letter x ∷ more) (Bind q) l is h)
+word_stop {fields} l h (in_comparison _ rel _ more _ is k) = absurd (no_word_fails fields more (Compare rel) l is h)
 
-pub one_stop : (scope : List Var) (fields : List (List ℕ)) (l m : ℕ) → AreLetters scope → Stops scope fields l → Stops scope fields m → l ≡ m
-one_stop scope fields l m low (at_word _ _ _ h) other = word_stop scope fields l m h other
-one_stop scope fields l m low (behind_not _ _ rest _ is h) other = one_stop scope rest l m low h (inv_not scope fields rest m is other)
-one_stop scope fields l m low (in_first _ c _ rest _ is h) other = elim (inv_join c scope fields rest m is other) [
-  | inl k ↦ one_stop scope rest l m low h k
+pub one_stop : {scope : List Var} {fields : List (List ℕ)} {l m : ℕ} → AreLetters scope → Stops scope fields l → Stops scope fields m → l ≡ m
+one_stop {l} low (at_word _ _ _ h) other = word_stop l h other
+one_stop low (behind_not _ _ rest _ is h) other = one_stop low h (inv_not rest is other)
+one_stop {scope} {l} low (in_first _ c _ rest _ is h) other = elim (inv_join c rest is other) [
+  | inl k ↦ one_stop low h k
   | inr k ↦ absurd (no_stop scope k.0 k.1 rest l low k.2 k.3 h)
 ]
-one_stop scope fields l m low (in_second _ c first _ rest _ proper is h) other = elim (inv_join c scope fields (spelled first ++ rest) m is other) [
+one_stop {scope} {m} low (in_second _ c first _ rest _ proper is h) other = elim (inv_join c (spelled first ++ rest) is other) [
   | inl k ↦ absurd (no_stop scope first rest (spelled first ++ rest) m low proper refl k)
   | inr k ↦
       let same = same_typed scope first k.0 rest k.1 proper k.2 k.3 in
-      one_stop scope rest l m low h (subst (λ r. Stops scope r m) (sym same.1) k.4)
+      one_stop low h (subst (λ r. Stops scope r m) (sym same.1) k.4)
 ]
-one_stop scope fields l m low (at_letter _ q _ rest _ is h) other = elim (inv_bind q scope fields rest m is other) [
+one_stop {scope} {l} {m} low (at_letter _ q _ rest _ is h) other = elim (inv_bind q rest is other) [
   | inl k ↦ fails_same (IsFreshLetter scope) rest l m h k
   | inr k ↦ absurd (fails_there (IsFreshLetter scope) rest (letter k.0) k.1 l k.4 (k.0, k.2, k.3, refl) h)
 ]
-one_stop scope fields l m low (in_body _ q x _ rest _ small fresh is h) other = elim (inv_bind q scope fields (letter x ∷ rest) m is other) [
+one_stop {scope} {m} low (in_body _ q x _ rest _ small fresh is h) other = elim (inv_bind q (letter x ∷ rest) is other) [
   | inl k ↦ absurd (fails_there (IsFreshLetter scope) (letter x ∷ rest) (letter x) rest m refl (x, small, fresh, refl) k)
   | inr k ↦
       let var : k.0 ≡ x = same_letter k.0 x (sym (heads (letter x) (letter k.0) rest k.1 k.4)) in
       let moved = subst (λ y. Stops (y ∷ scope) k.1 m) var k.5 in
-      one_stop (x ∷ scope) rest l m (more_letters x scope small low) h (subst (λ r. Stops (x ∷ scope) r m) (sym (tails (letter x) (letter k.0) rest k.1 k.4)) moved)
+      one_stop (more_letters x scope small low) h (subst (λ r. Stops (x ∷ scope) r m) (sym (tails (letter x) (letter k.0) rest k.1 k.4)) moved)
 ]
-one_stop scope fields l m low (in_comparison _ rel _ rest _ is h) other = comparison_stop scope rest l m low h (inv_compare rel scope fields rest m is other)
+one_stop {scope} {fields} {l} {m} low (in_comparison _ rel _ rest _ is h) other = comparison_stop scope rest l m low h (inv_compare rel scope fields rest m is other)
 
 no_letters : AreLetters []
 no_letters x is = absurd is
@@ -235,7 +235,7 @@ whole_typed f fields left proper e (inr (g, rest, proper_g, is, some, count)) =
     absurd (omega arith)
 
 whole_stop : (fields : List (List ℕ)) (l m : ℕ) → StopsWhole fields l → StopsWhole fields m → l ≡ m
-whole_stop fields l m (inl h) (inl k) = one_stop [] fields l m no_letters h k
+whole_stop fields l m (inl h) (inl k) = one_stop no_letters h k
 whole_stop fields l m (inl h) (inr (g, rest, proper, is, some, count)) = absurd (no_stop [] g rest fields l no_letters proper is h)
 whole_stop fields l m (inr (g, rest, proper, is, some, count)) (inl k) = absurd (no_stop [] g rest fields m no_letters proper is k)
 whole_stop fields l m (inr (f, xs, proper_f, is_f, some_f, count_f)) (inr (g, ys, proper_g, is_g, some_g, count_g)) =
@@ -244,16 +244,16 @@ whole_stop fields l m (inr (f, xs, proper_f, is_f, some_f, count_f)) (inr (g, ys
 
 pub one_meaning : OneMeaning
 one_meaning line f g a b =
-    let fields = same_fields line (spelled a.typed) (spelled b.typed) a.line_is b.line_is in
+    let fields = same_fields a.line_is b.line_is in
     let same = same_typed [] a.typed b.typed [] [] a.proper b.proper (ap (λ l. l ++ []) fields) in
     a.means ∙ (ap meaning same.0 ∙ sym b.means)
 
 pub formula_is_not_refused : FormulaIsNotRefused
-formula_is_not_refused line f number a r = whole_typed a.typed r.fields r.left a.proper (same_fields line r.fields (spelled a.typed) r.line_is a.line_is) r.stops
+formula_is_not_refused line f number a r = whole_typed a.typed r.fields r.left a.proper (same_fields r.line_is a.line_is) r.stops
 
 pub one_refusal : OneRefusal
 one_refusal line m n a b =
-    let fields = same_fields line a.fields b.fields a.line_is b.line_is in
+    let fields = same_fields a.line_is b.line_is in
     let left : a.left ≡ b.left = whole_stop b.fields a.left b.left (subst (λ fs. StopsWhole fs a.left) fields a.stops) b.stops in
     let count : length a.fields ≡ length b.fields = ap length fields in
     let first = a.counted in

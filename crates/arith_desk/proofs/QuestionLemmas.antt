@@ -143,8 +143,8 @@ few_fields (field ∷ next ∷ fields) =
     let size = length-append field (32 ∷ parted (next ∷ fields)) in
     omega arith
 
-pub question_typed : (line : List ℕ) (t : Typed) → length line ≤ 200 → AreFields line (spelled t) → IsProper [] t → IsQuestion (meaning t)
-question_typed line t short are proper =
+pub question_typed : {line : List ℕ} (t : Typed) → length line ≤ 200 → AreFields line (spelled t) → IsProper [] t → IsQuestion (meaning t)
+question_typed {line} t short are proper =
     let size : length line ≡ length (parted (spelled t)) = ap length are.is in
     let fields = few_fields (spelled t) in
     let steps_few = few_steps t in

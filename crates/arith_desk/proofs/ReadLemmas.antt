@@ -70,27 +70,27 @@ read_not scope fields rest more f made front r is = record {
   means = is ∙ ap (λ t. tree.Not t) r.means;
 }
 
-pub read_joined : (connective : Connective) (scope : List Var) (fields rest more : List (List ℕ)) (f : Tree) → fields ≡ word_text (Join connective) ∷ rest
+pub read_joined : {connective : Connective} {scope : List Var} (fields : List (List ℕ)) {rest more : List (List ℕ)} {f : Tree} → fields ≡ word_text (Join connective) ∷ rest
     → IsReadJoined connective scope rest f more → IsRead scope fields f more
-read_joined connective scope fields rest more f front r = record {
+read_joined {connective} fields {more} front r = record {
   typed = Joined connective r.first r.second;
   proper = (r.first_proper, r.second_proper);
   fields_are = front ∙ ap (λ l. word_text (Join connective) ∷ l) (r.fields_are ∙ sym (append_assoc (spelled r.first) (spelled r.second) more));
   means = r.means;
 }
 
-pub read_bound : (quantifier : Quantifier) (scope : List Var) (fields rest more : List (List ℕ)) (f : Tree) → fields ≡ word_text (Bind quantifier) ∷ rest
+pub read_bound : {quantifier : Quantifier} {scope : List Var} (fields : List (List ℕ)) {rest more : List (List ℕ)} {f : Tree} → fields ≡ word_text (Bind quantifier) ∷ rest
     → IsReadBound quantifier scope rest f more → IsRead scope fields f more
-read_bound quantifier scope fields rest more f front r = record {
+read_bound {quantifier} fields front r = record {
   typed = Bound quantifier r.var r.body;
   proper = r.proper;
   fields_are = front ∙ ap (λ l. word_text (Bind quantifier) ∷ l) r.fields_are;
   means = r.means;
 }
 
-pub read_comparison : (rel : Rel) (scope : List Var) (fields rest more : List (List ℕ)) (f : Tree) → fields ≡ word_text (Compare rel) ∷ rest
+pub read_comparison : {rel : Rel} {scope : List Var} (fields : List (List ℕ)) {rest more : List (List ℕ)} {f : Tree} → fields ≡ word_text (Compare rel) ∷ rest
     → IsReadComparison rel scope rest f more → IsRead scope fields f more
-read_comparison rel scope fields rest more f front r = record {
+read_comparison {rel} fields front r = record {
   typed = Compared rel r.terms r.bound;
   proper = (r.atom, r.known);
   fields_are = front ∙ ap (λ l. word_text (Compare rel) ∷ l) r.fields_are;
@@ -119,9 +119,9 @@ bound_reads quantifier scope fields mid rest x f made low fresh front r is = rec
 }
 
 -- one or more, and at most eight, different terms and a bound are an atom
-pub atom_of : (scope : List Var) (due : ℕ) (fields rest : List (List ℕ)) (new : List (ℤ × Var)) (bound : ℤ) → 1 ≤ due → due ≤ 8
+pub atom_of : {scope : List Var} {due : ℕ} {fields rest : List (List ℕ)} {new : List (ℤ × Var)} {bound : ℤ} → 1 ≤ due → due ≤ 8
     → IsReadTerms scope [] due fields new bound rest → IsAtom new bound
-atom_of scope due fields rest new bound low high r =
+atom_of {due} {new} low high r =
     let count : length new ≡ due = ap length r.after ∙ r.count in
     ((omega (arith, count), omega (arith, count), r.distinct tt), subst (All IsCoefficient) (sym r.after) r.coefficients, r.is_bound)
 
@@ -132,7 +132,7 @@ comparison_reads rel scope due fields mid rest new bound made low high front r i
     record {
       terms = new;
       bound = bound;
-      atom = atom_of scope due mid rest new bound low high r;
+      atom = atom_of low high r;
       known = subst (All (λ t. IsOneOf t.1 scope)) (sym r.after) r.known;
       fields_are = front
           ∙ (ap (λ n. signed_decimal (pos n) ∷ mid) (sym count)

@@ -53,12 +53,12 @@ flag_or_none (false ∷ flags) = elim (flag_or_none flags) [
     later none (suc k) h = none k (omega arith)
 
 -- a reduced automaton that does not accept nothing accepts a word
-pub some_word : (a : Automaton) → IsReduced a → IsAutomaton a → (HasNoWord a → ⊥) → HasWord a
-some_word a reduced valid some = elim (flag_or_none a.accept) [
+pub some_word : {a : Automaton} → IsReduced a → IsAutomaton a → (HasNoWord a → ⊥) → HasWord a
+some_word {a} reduced valid some = elim (flag_or_none a.accept) [
   | inl found ↦
       let reached = reduced.reached found.0 found.1 in
       record { word = reached.word; is_word = reached.is_word; accepts = ap (is_final a) reached.leads ∙ found.2 }
-  | inr none ↦ absurd (some (no_word a valid none))
+  | inr none ↦ absurd (some (no_word valid none))
 ]
 
 none_in : (vars : List Var) (x : Var) → vars ≡ [] → IsOneOf x vars → ⊥
@@ -80,11 +80,11 @@ module _ (f : Tree) (a : Automaton) (decides : Decides a f no_sets) (closed : fr
   one_is = subst (λ (t : List Var). IsWord (length t) (0 ∷ [])) (sym closed)
       (record { nonempty = λ e. cc; letters = All-cons (λ l. l < 2 ^ 0) 0 [] (omega arith) (All-nil (λ l. l < 2 ^ 0)) })
 
-  on_tracks : (word : List ℕ) → IsWord (length (free_vars f)) word → IsWord (length a.tracks) word
-  on_tracks word is = subst (λ (t : List Var). IsWord (length t) word) (sym decides.tracks) is
+  on_tracks : {word : List ℕ} → IsWord (length (free_vars f)) word → IsWord (length a.tracks) word
+  on_tracks {word} is = subst (λ (t : List Var). IsWord (length t) word) (sym decides.tracks) is
 
   pub closed_false : HasNoWord a → ¬ IsTrueFormula f
-  closed_false none h = none one (on_tracks one one_is) ((decides.words one one_is).1 (at one h))
+  closed_false none h = none one (on_tracks one_is) ((decides.words one one_is).1 (at one h))
 
   pub closed_true : (HasNoWord a → ⊥) → IsTrueFormula f
   closed_true some = elim (cases_Bool (is_final a (state_of a one))) [
@@ -122,15 +122,15 @@ no_sets_for : (names : List (ℕ × List Var)) (sets : List Automaton) → names
 no_sets_for [] sets e = All-nil (λ m. IsSetFor sets m.0 (length m.1))
 no_sets_for (m ∷ names) sets e = absurd cc
 
-pub compilable : (f : Tree) (sets : List Automaton) → IsQuestion f → IsCompilable f sets
-compilable f sets question = record {
+pub compilable : {f : Tree} (sets : List Automaton) → IsQuestion f → IsCompilable f sets
+compilable {f} sets question = record {
   well_made = question.well_made;
   few_vars = let few = few_vars 16 f (λ x is. letter_in (vars_of f) x question.letters is) in omega arith;
   has_sets = no_sets_for (memberships f) sets question.no_sets;
 }
 
-pub few_steps : (f : Tree) → IsQuestion f → length (steps f) < 2 ^ 31
-few_steps f question = let few = question.few_steps in omega arith
+pub few_steps : {f : Tree} → IsQuestion f → length (steps f) < 2 ^ 31
+few_steps question = let few = question.few_steps in omega arith
 
 below_spare : (g : Tree) → ((x : Var) → IsOneOf x (vars_of g) → x.0 < 16) → (x : Var) → (IsOneOf x (vars_of g) ⊎ IsOneOf x (spare ∷ [])) → x.0 < 17
 below_spare g below x (inl h) = let less = below x h in omega arith
@@ -204,25 +204,25 @@ module _ (x : Var) (g : Tree) (question : IsQuestion (Ex x g)) (free : IsFree x 
     unfolding both
     two_tracks = ap length tracks_are
 
-    word_on : (word : List ℕ) → IsWord (length a.tracks) word → IsWord (length (free_vars (with_zero g))) word
-    word_on word is = subst (λ (t : List Var). IsWord (length t) word) decides.tracks is
+    word_on : {word : List ℕ} → IsWord (length a.tracks) word → IsWord (length (free_vars (with_zero g))) word
+    word_on {word} is = subst (λ (t : List Var). IsWord (length t) word) decides.tracks is
 
-    says : (word : List ℕ) → IsWord (length a.tracks) word → Accepts a word → Holds (with_zero g) no_sets (word_values both word)
-    says word is accepts = subst (λ (t : List Var). Holds (with_zero g) no_sets (word_values t word)) free_is ((decides.words word (word_on word is)).0 accepts)
+    says : {word : List ℕ} → IsWord (length a.tracks) word → Accepts a word → Holds (with_zero g) no_sets (word_values both word)
+    says {word} is accepts = subst (λ (t : List Var). Holds (with_zero g) no_sets (word_values t word)) free_is ((decides.words word (word_on is)).0 accepts)
 
     -- the body holds with the value of the word
-    holds_by : (word : List ℕ) (n : ℤ) → IsWord (length a.tracks) word → Accepts a word → word_values both word x.0 ≡ n → HoldsWith x g n
-    holds_by word n is accepts value = coincide g no_sets (word_values both word) (with_value anyhow x n) (agree word n value) (says word is accepts).0
+    holds_by : {word : List ℕ} (n : ℤ) → IsWord (length a.tracks) word → Accepts a word → word_values both word x.0 ≡ n → HoldsWith x g n
+    holds_by {word} n is accepts value = coincide g no_sets (word_values both word) (with_value anyhow x n) (agree word n value) (says is accepts).0
 
     pub some_holds : HasWord a → (n : ℤ) × HoldsWith x g n
-    some_holds has = (word_values both has.word x.0, holds_by has.word (word_values both has.word x.0) has.is_word has.accepts refl)
+    some_holds has = (word_values both has.word x.0, holds_by (word_values both has.word x.0) has.is_word has.accepts refl)
 
     pub hit_holds : (n : ℤ) → IsAccepted a (n ∷ pos 0 ∷ []) → HoldsWith x g n
     unfolding both
     hit_holds n h =
         let values : values_at both (word_values both h.word) ≡ n ∷ pos 0 ∷ [] = subst (λ (t : List Var). values_at t (word_values t h.word) ≡ n ∷ pos 0 ∷ []) tracks_are h.values in
         let first : word_values both h.word x.0 ≡ n = cc in
-        holds_by h.word n h.is_word h.accepts first
+        holds_by n h.is_word h.accepts first
 
     pub holds_hit : (n : ℤ) → HoldsWith x g n → IsAccepted a (n ∷ pos 0 ∷ [])
     unfolding both
@@ -242,7 +242,7 @@ module _ (x : Var) (g : Tree) (question : IsQuestion (Ex x g)) (free : IsFree x 
           values =
               subst (λ (t : List Var). values_at t (word_values t word) ≡ n ∷ pos 0 ∷ []) (sym tracks_are)
               (ap (λ m. m ∷ word_values both word 16 ∷ []) value ∙ ap (λ m. n ∷ m ∷ []) zero_value);
-          accepts = (decides.words word (word_on word is)).1 (subst (λ (t : List Var). Holds (with_zero g) no_sets (word_values t word)) (sym free_is) there);
+          accepts = (decides.words word (word_on is)).1 (subst (λ (t : List Var). Holds (with_zero g) no_sets (word_values t word)) (sym free_is) there);
         }
 
     pub seek_false : HasNoWord a → ¬ IsTrueFormula (Ex x g)

@@ -10,18 +10,18 @@ use Rattle.arith_desk.specs.Reading.{IsFirstRefused, IsFormulaLine, IsReadWhole}
 use Rattle.arith_desk.specs.Stops.{Fails, Stops, StopsComparison, StopsTerms, StopsWhole, at_word, behind_not, in_first, in_second, at_letter, in_body, in_comparison}
 use Rattle.arith_desk.proofs.QuestionLemmas.{few_fields, question_typed}
 
-pub all_fields : (line : List ℕ) (old new : List (List ℕ)) → old ≡ [] → AddsFields line old new → AreFields line new
-all_fields line old new none adds = subst (AreFields line) (sym (adds.after ∙ ap (λ l. l ++ adds.added) none)) adds.are_fields
+pub all_fields : {line : List ℕ} {old new : List (List ℕ)} → old ≡ [] → AddsFields line old new → AreFields line new
+all_fields {line} none adds = subst (AreFields line) (sym (adds.after ∙ ap (λ l. l ++ adds.added) none)) adds.are_fields
 
-pub whole_question : (line : List ℕ) (fields : List (List ℕ)) (f : Tree) → length line ≤ 200 → AreFields line fields → IsReadWhole fields f → IsQuestion f
-whole_question line fields f short are r = subst IsQuestion (sym r.means) (question_typed line r.typed short (subst (AreFields line) r.fields_are are) r.proper)
+pub whole_question : {line : List ℕ} {fields : List (List ℕ)} {f : Tree} → length line ≤ 200 → AreFields line fields → IsReadWhole fields f → IsQuestion f
+whole_question {line} short are r = subst IsQuestion (sym r.means) (question_typed r.typed short (subst (AreFields line) r.fields_are are) r.proper)
 
-pub whole_line : (line : List ℕ) (fields : List (List ℕ)) (f : Tree) → AreFields line fields → IsReadWhole fields f → IsFormulaLine line f
-whole_line line fields f are r = record { typed = r.typed; line_is = subst (AreFields line) r.fields_are are; proper = r.proper; means = r.means }
+pub whole_line : {line : List ℕ} {fields : List (List ℕ)} {f : Tree} → AreFields line fields → IsReadWhole fields f → IsFormulaLine line f
+whole_line {line} are r = record { typed = r.typed; line_is = subst (AreFields line) r.fields_are are; proper = r.proper; means = r.means }
 
 -- at most 201 fields
-pub short_line : (line : List ℕ) (fields : List (List ℕ)) → length line ≤ 200 → AreFields line fields → length fields ≤ 201
-short_line line fields short are =
+pub short_line : {line : List ℕ} {fields : List (List ℕ)} → length line ≤ 200 → AreFields line fields → length fields ≤ 201
+short_line {line} {fields} short are =
     let count = few_fields fields in
     let size : length line ≡ length (parted fields) = ap length are.is in
     omega arith
@@ -69,8 +69,8 @@ whole_within fields left (inr (f, rest, proper, is, some, count)) =
     let more = length-append (spelled f) rest in
     omega arith
 
-pub first_refused : (line : List ℕ) (fields : List (List ℕ)) (left : ℕ) → AreFields line fields → StopsWhole fields left → IsFirstRefused line (length fields - left + 1)
-first_refused line fields left are stops =
+pub first_refused : {line : List ℕ} {fields : List (List ℕ)} (left : ℕ) → AreFields line fields → StopsWhole fields left → IsFirstRefused line (length fields - left + 1)
+first_refused {fields} left are stops =
     let within = whole_within fields left stops in
     record { fields = fields; line_is = are; left = left; stops = stops; counted = omega arith }
 

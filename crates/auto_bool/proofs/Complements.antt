@@ -50,7 +50,7 @@ module _ (a n : Automaton) (same : HasRowsOf a n) where
   module _ (is : IsAutomaton a) where
     pub Accepts-turned : (word : List ℕ) → Accepts n word ↔ (Accepts a word → ⊥)
     Accepts-turned word =
-        let flag = ap (is_final n) (state_of-same word) ∙ flag-same (state_of a word) (state_within a is word) in
+        let flag = ap (is_final n) (state_of-same word) ∙ flag-same (state_of a word) (state_within is word) in
         let t = turned (is_final a (state_of a word)) in
         (λ h. t.0 (sym flag ∙ h), λ h. flag ∙ t.1 h)
 
@@ -65,7 +65,7 @@ module _ (a n : Automaton) (same : HasRowsOf a n) where
               let known_j : j < length a.accept = omega (arith, size, j_known) in
               let known_k : k < length a.accept = omega (arith, size, k_known) in
               let t = reduced.apart j k known_j known_k other in
-              let flag = λ (s : ℕ) (known : s < length a.accept). ap (is_final n) (run-same t.letters s) ∙ flag-same (run a s t.letters) (run_within a is t.letters s known) in
+              let flag = λ (s : ℕ) (known : s < length a.accept). ap (is_final n) (run-same t.letters s) ∙ flag-same (run a s t.letters) (run_within is t.letters s known) in
               record {
                 letters = t.letters;
                 are_letters = subst (λ tracks. All (λ letter. letter < 2 ^ length tracks) t.letters) (sym same.tracks) t.are_letters;
@@ -74,9 +74,9 @@ module _ (a n : Automaton) (same : HasRowsOf a n) where
         }
 
 -- flags don't matter to rows, as long as there are as many
-pub AreRows-flags : (tracks : List Var) (shapes : List Shape) (first : ℕ) (rows : List ℕ) (old new : List Bool) → length new ≡ length old → AreRows tracks shapes first rows old
+pub AreRows-flags : {tracks : List Var} {shapes : List Shape} {first : ℕ} {rows : List ℕ} {old : List Bool} (new : List Bool) → length new ≡ length old → AreRows tracks shapes first rows old
     → AreRows tracks shapes first rows new
-AreRows-flags tracks shapes first rows old new size are = record {
+AreRows-flags {shapes} {first} {rows} new size are = record {
   ascending = are.ascending;
   few_tracks = are.few_tracks;
   some_state = let s = are.some_state in omega (arith, size, s);

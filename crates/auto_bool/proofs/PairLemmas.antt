@@ -30,8 +30,8 @@ use Rattle.auto_bool.proofs.AbsorbedPairs.{place-pair_of, same-flag}
 pub get_pair : (pairs : List (ℕ × ℕ)) (number : ℕ) (pair : ℕ × ℕ) → slice_get pairs number ≡ Some pair → slice_get (map place_of_pair pairs) number ≡ Some (place_of_pair pair)
 get_pair pairs number pair at = slice_get-map place_of_pair pairs number ∙ ap (option_map place_of_pair) at
 
-pub Extends-pairs : (old new : List (ℕ × ℕ)) → PairsKept old new → Extends (map place_of_pair old) (map place_of_pair new)
-Extends-pairs old new kept = record {
+pub Extends-pairs : {old new : List (ℕ × ℕ)} → PairsKept old new → Extends (map place_of_pair old) (map place_of_pair new)
+Extends-pairs {old} {new} kept = record {
   kept = λ number place at.
       let within : number < length old = let w = slice_get_within (map place_of_pair old) number place at in let l = length-map old place_of_pair in omega (arith, w, l) in
       let was = slice_get-get_or old number (0, 0) within in
@@ -81,13 +81,13 @@ states_at g tracks a b connective pairs number left right a_valid b_valid sinks 
     (subst (λ n. n < length a.accept) (first_of_two _ _ _ _ e) pair.left_known, subst (λ n. n < length b.accept) (second_of_two _ _ _ _ e) pair.right_known)
 
 -- the row of the pairs of two rows
-pub IsRow-paired : (g : Absorbing) (w : Walker) (shapes : List Shape) (old_pairs pairs : List (ℕ × ℕ)) (lead : ℕ → List ℕ) (node : ℕ) (left right left_value right_value : ℕ → ℕ)
+pub IsRow-paired : {g : Absorbing} (w : Walker) (shapes : List Shape) (old_pairs : List (ℕ × ℕ)) {pairs : List (ℕ × ℕ)} (lead : ℕ → List ℕ) (node : ℕ) {left right left_value right_value : ℕ → ℕ}
     → Reads (length w.tracks) left left_value → Reads (length w.tracks) right right_value
     → ((letter : ℕ) → lead letter ≡ place_of_pair (absorbed g (left_value letter) (right_value letter))) → node < length shapes
     → ((letter : ℕ) → slice_get pairs (map_at shapes node letter) ≡ Some (absorbed g (left letter) (right letter)))
     → ArePairs g (length old_pairs) pairs left right → AllPairs (λ p q. p ≢ q) pairs
     → IsRow w shapes (map place_of_pair old_pairs) (map place_of_pair pairs) lead node
-IsRow-paired g w shapes old_pairs pairs lead node left right left_value right_value l r leads_to known maps answers different =
+IsRow-paired {g} w shapes old_pairs {pairs} lead node {left} {right} {left_value} {right_value} l r leads_to known maps answers different =
     let apart = different-places pairs different in
     let at = λ (letter : ℕ). get_pair pairs (map_at shapes node letter) (absorbed g (left letter) (right letter)) (maps letter) in
     let value = λ (letter : ℕ) (below : letter < 2 ^ length w.tracks).
@@ -138,9 +138,9 @@ but_true false q = (λ h. absurd (true≢false (sym h)), λ h. absurd (true≢fa
 
 -- the automaton of a walk over pairs is that of the product
 module _ (g : Absorbing) (a b m : Automaton) (connective : Connective) (sinks : AreSinks a b connective g) (walked : IsWalked (absorbing_walker g (with_vars a.tracks b.tracks) a b connective) m) where
-  accepts-combined : (word : List ℕ) → IsWord (length m.tracks) word
+  accepts-combined : {word : List ℕ} → IsWord (length m.tracks) word
       → Accepts m word ↔ IsTrue (combined connective (is_final a (state_of a (part_of m.tracks a.tracks word))) (is_final b (state_of b (part_of m.tracks b.tracks word))))
-  accepts-combined word is =
+  accepts-combined {word} is =
       let is_all = subst (λ t. IsWord (length t) word) walked.tracks is in
       let all = with_vars a.tracks b.tracks in
       let flag : (absorbing_walker g (with_vars a.tracks b.tracks) a b connective).final (place_of (absorbing_walker g (with_vars a.tracks b.tracks) a b connective) word)
@@ -156,15 +156,15 @@ pub IsProduct-walked : (g : Absorbing) (a b m : Automaton) (connective : Connect
 IsProduct-walked g a b m connective sinks walked = record { tracks = walked.tracks; words = accepts connective sinks walked; reached = walked.reached }
   where
     accepts : (connective : Connective) → AreSinks a b connective g → IsWalked (absorbing_walker g (with_vars a.tracks b.tracks) a b connective) m → AcceptsBy connective a b m
-    accepts And sinks walked = λ word is. let one = accepts-combined g a b m And sinks walked word is in let two = both_true _ _ in (λ h. two.0 (one.0 h), λ h. one.1 (two.1 h))
-    accepts Or sinks walked = λ word is. let one = accepts-combined g a b m Or sinks walked word is in let two = one_true _ _ in (λ h. two.0 (one.0 h), λ h. one.1 (two.1 h))
-    accepts AndNot sinks walked = λ word is. let one = accepts-combined g a b m AndNot sinks walked word is in let two = but_true _ _ in (λ h. two.0 (one.0 h), λ h. one.1 (two.1 h))
+    accepts And sinks walked = λ word is. let one = accepts-combined g a b m And sinks walked is in let two = both_true _ _ in (λ h. two.0 (one.0 h), λ h. one.1 (two.1 h))
+    accepts Or sinks walked = λ word is. let one = accepts-combined g a b m Or sinks walked is in let two = one_true _ _ in (λ h. two.0 (one.0 h), λ h. one.1 (two.1 h))
+    accepts AndNot sinks walked = λ word is. let one = accepts-combined g a b m AndNot sinks walked is in let two = but_true _ _ in (λ h. two.0 (one.0 h), λ h. one.1 (two.1 h))
 
 -- the states of a numbered pair, however the pairs are listed
-pub states_in : (g : Absorbing) (tracks : List Var) (a b : Automaton) (connective : Connective) (pairs listed : List (ℕ × ℕ)) (number : ℕ) → IsAutomaton a → IsAutomaton b
+pub states_in : {g : Absorbing} (tracks : List Var) {a b : Automaton} {connective : Connective} (pairs listed : List (ℕ × ℕ)) (number : ℕ) → IsAutomaton a → IsAutomaton b
     → AreSinks a b connective g → listed ≡ pairs → number < length (map place_of_pair pairs) → AreNumbered (absorbing_walker g tracks a b connective) (map place_of_pair pairs)
     → ((get_or listed number (0, 0)).0 < length a.accept) × ((get_or listed number (0, 0)).1 < length b.accept)
-states_in g tracks a b connective pairs listed number a_valid b_valid sinks same known numbered =
+states_in {g} tracks {a} {b} {connective} pairs listed number a_valid b_valid sinks same known numbered =
     let within : number < length pairs = let l = length-map pairs place_of_pair in omega (arith, l, known) in
     let at = slice_get-get_or pairs number (0, 0) within in
     let found = states_at g tracks a b connective pairs number (get_or pairs number (0, 0)).0 (get_or pairs number (0, 0)).1 a_valid b_valid sinks at numbered in (

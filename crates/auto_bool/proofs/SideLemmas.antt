@@ -23,6 +23,6 @@ module _ (all : List Var) (a : Automaton) (reading : Reading) (side : IsSide all
       let maps = λ (letter : ℕ). ap (map_at a.shapes node) (relabelled-places all a.tracks letter) in
       subst (λ r. Reads (length all) (read_at r shapes node) (λ letter. value (restrict all a.tracks letter))) (sym side.reads)
       (record {
-        narrow = λ x y agree. maps x ∙ ap (map_at a.shapes node) (restrict-same all a.tracks x y side.among agree) ∙ sym (maps y);
+        narrow = λ x y agree. maps x ∙ ap (map_at a.shapes node) (restrict-same x y side.among agree) ∙ sym (maps y);
         reads = λ letter below. maps letter ∙ says (restrict all a.tracks letter) (restrict-below all a.tracks letter);
       })

@@ -56,32 +56,32 @@ module _ (a b : Automaton) (connective : Connective) where
 
 -- words that are alike in reduced automata lead to one pair
 module _ (a b : Automaton) (connective : Connective) (a_valid : IsAutomaton a) (b_valid : IsAutomaton b) (a_reduced : IsReduced a) (b_reduced : IsReduced b) where
-  same_place : (v w : List ℕ) → v ≢ [] → w ≢ [] → AlikeInBoth (with_vars a.tracks b.tracks) a.tracks b.tracks (Accepts a) (Accepts b) v w
+  same_place : {v w : List ℕ} → v ≢ [] → w ≢ [] → AlikeInBoth (with_vars a.tracks b.tracks) a.tracks b.tracks (Accepts a) (Accepts b) v w
       → place_of (both_walker a b connective) v ≡ place_of (both_walker a b connective) w
-  same_place v w v_some w_some alike =
+  same_place {v} {w} v_some w_some alike =
       let all = with_vars a.tracks b.tracks in
       let on_a = restrict (with_vars a.tracks b.tracks) a.tracks in
       let on_b = restrict (with_vars a.tracks b.tracks) b.tracks in
       let l =
-      same_state a a_valid a_reduced _ _ (not_nil-map (restrict (with_vars a.tracks b.tracks) a.tracks) v v_some)
+      same_state a_valid a_reduced (not_nil-map (restrict (with_vars a.tracks b.tracks) a.tracks) v v_some)
       (not_nil-map (restrict (with_vars a.tracks b.tracks) a.tracks) w w_some) alike.left in
       let r =
-      same_state b b_valid b_reduced _ _ (not_nil-map (restrict (with_vars a.tracks b.tracks) b.tracks) v v_some)
+      same_state b_valid b_reduced (not_nil-map (restrict (with_vars a.tracks b.tracks) b.tracks) v v_some)
       (not_nil-map (restrict (with_vars a.tracks b.tracks) b.tracks) w w_some) alike.right in
       let both : state_of a (part_of (with_vars a.tracks b.tracks) a.tracks v) ∷ state_of b (part_of (with_vars a.tracks b.tracks) b.tracks v)
       ∷ [] ≡ state_of a (part_of (with_vars a.tracks b.tracks) a.tracks w) ∷ state_of b (part_of (with_vars a.tracks b.tracks) b.tracks w) ∷ [] =
       λ i. l i ∷ r i ∷ [] in
       place_of-pair (with_vars a.tracks b.tracks) a b connective v v_some ∙ both ∙ sym (place_of-pair (with_vars a.tracks b.tracks) a b connective w w_some)
 
-  pub BothSpreadExceeds-from : (budget : ℕ) → MoreThan (both_walker a b connective) budget → BothSpreadExceeds a.tracks b.tracks (Accepts a) (Accepts b) budget
-  BothSpreadExceeds-from budget more = record {
+  pub BothSpreadExceeds-from : {budget : ℕ} → MoreThan (both_walker a b connective) budget → BothSpreadExceeds a.tracks b.tracks (Accepts a) (Accepts b) budget
+  BothSpreadExceeds-from more = record {
     words = more.words;
     count = more.count;
     are_words = more.are_words;
     apart = λ i j d less within alike.
         let v = (more.are_words i d (omega arith)).nonempty in
         let w = (more.are_words j d within).nonempty in
-        more.apart i j d less within (same_place _ _ v w alike);
+        more.apart i j d less within (same_place v w alike);
   }
 
 -- words that are told apart are at most as many as the numbers that tell them apart
@@ -118,14 +118,14 @@ module _ (a b : Automaton) (a_valid : IsAutomaton a) (b_valid : IsAutomaton b) w
 
   number_of-below : (word : List ℕ) → number_of word < length a.accept * length b.accept
   number_of-below word =
-      let left : left_of word < length a.accept = state_within a a_valid (part_of (with_vars a.tracks b.tracks) a.tracks word) in
-      let right : right_of word < length b.accept = state_within b b_valid (part_of (with_vars a.tracks b.tracks) b.tracks word) in
+      let left : left_of word < length a.accept = state_within a_valid (part_of (with_vars a.tracks b.tracks) a.tracks word) in
+      let right : right_of word < length b.accept = state_within b_valid (part_of (with_vars a.tracks b.tracks) b.tracks word) in
       row_below (left_of word) (right_of word) (length a.accept) (length b.accept) left right
 
   same_pair : (v w : List ℕ) → number_of v ≡ number_of w → (left_of v ≡ left_of w) × (right_of v ≡ right_of w)
   same_pair v w e =
-      let right_v : right_of v < length b.accept = state_within b b_valid (part_of (with_vars a.tracks b.tracks) b.tracks v) in
-      let right_w : right_of w < length b.accept = state_within b b_valid (part_of (with_vars a.tracks b.tracks) b.tracks w) in
+      let right_v : right_of v < length b.accept = state_within b_valid (part_of (with_vars a.tracks b.tracks) b.tracks v) in
+      let right_w : right_of w < length b.accept = state_within b_valid (part_of (with_vars a.tracks b.tracks) b.tracks w) in
       let left =
       sym (div-mul-add (left_of v) (length b.accept) (right_of v) right_v) ∙ ap (λ n. n / length b.accept) e
       ∙ div-mul-add (left_of w) (length b.accept) (right_of w) right_w in
@@ -138,8 +138,8 @@ module _ (a b : Automaton) (a_valid : IsAutomaton a) (b_valid : IsAutomaton b) w
       number_of-below (λ v w v_some w_some same. let pair = same_pair v w same in alike_at a b v w v_some w_some pair.0 pair.1) enough
 
 -- for an automaton with itself the states do
-pub few_twice : (a : Automaton) → IsAutomaton a → (budget : ℕ) → length a.accept ≤ budget → BothSpreadExceeds a.tracks a.tracks (Accepts a) (Accepts a) budget → ⊥
-few_twice a valid budget enough =
+pub few_twice : {a : Automaton} → IsAutomaton a → (budget : ℕ) → length a.accept ≤ budget → BothSpreadExceeds a.tracks a.tracks (Accepts a) (Accepts a) budget → ⊥
+few_twice {a} valid budget enough =
     few_classes (length (with_vars a.tracks a.tracks)) (length a.accept) budget (AlikeInBoth (with_vars a.tracks a.tracks) a.tracks a.tracks (Accepts a) (Accepts a))
-    (λ word. state_of a (part_of (with_vars a.tracks a.tracks) a.tracks word)) (λ word. state_within a valid (part_of (with_vars a.tracks a.tracks) a.tracks word))
+    (λ word. state_of a (part_of (with_vars a.tracks a.tracks) a.tracks word)) (λ word. state_within valid (part_of (with_vars a.tracks a.tracks) a.tracks word))
     (λ v w v_some w_some same. alike_at a a v w v_some w_some same same) enough

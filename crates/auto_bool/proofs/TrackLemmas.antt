@@ -126,8 +126,8 @@ restrict-agree all (v ∷ vs) a b within agree =
     let rest = restrict-agree all vs a b (All-tail (λ track. track < length all) (place all v) (map (place all) vs) within) agree in
     ap (λ n. n + 2 * restrict all vs a) bit ∙ ap (λ n. bit_at b (place all v) + 2 * n) rest
 
-pub restrict-same : (all some : List Var) (a b : ℕ) → AreAmong all some → ((k : ℕ) → k < length all → bit_at a k ≡ bit_at b k) → restrict all some a ≡ restrict all some b
-restrict-same all some a b among agree = restrict-agree all some a b among.within agree
+pub restrict-same : {all some : List Var} (a b : ℕ) → AreAmong all some → ((k : ℕ) → k < length all → bit_at a k ≡ bit_at b k) → restrict all some a ≡ restrict all some b
+restrict-same {all} {some} a b among agree = restrict-agree all some a b among.within agree
 
 -- the places of ascending tracks ascend
 not_below : (bound : ℕ) (ys : List Var) (x : Var) → Rising bound ys → place ys x < length ys → bound ≤ x.0
@@ -154,8 +154,8 @@ place-rises bound (y ∷ ys) x z rising less within = elim (cases_eq y.0 x.0) [
       grind (arith, common_steps, nat_tests, other, beyond, rest)
 ]
 
-pub places-ascend : (all some : List Var) → IsAscending all → IsAscending some → AreAmong all some → IsStrictlyIncreasing (map (place all) some)
-places-ascend all some all_ascend some_ascend among k within =
+pub places-ascend : {all some : List Var} → IsAscending all → IsAscending some → AreAmong all some → IsStrictlyIncreasing (map (place all) some)
+places-ascend {all} {some} all_ascend some_ascend among k within =
     let size = length-map some (place all) in
     let names = length-map some (λ v. v.0) in
     let next : k + 1 < length some = omega (arith, size, within) in
@@ -166,8 +166,8 @@ places-ascend all some all_ascend some_ascend among k within =
     rw (get_or-map (place all) some k d 0 (omega (arith, next)), get_or-map (place all) some (k + 1) d 0 next)
     (place-rises 0 all (get_or some k d) (get_or some (k + 1) d) (rising-ascending 0 all (λ h. omega arith) all_ascend) less inside)
 
-pub places-low : (all some : List Var) → length all ≤ 20 → AreAmong all some → All (λ track. track < 20) (map (place all) some)
-places-low all some few among = λ k d within. let low = among.within k d within in omega (arith, few, low)
+pub places-low : {all some : List Var} → length all ≤ 20 → AreAmong all some → All (λ track. track < 20) (map (place all) some)
+places-low few among = λ k d within. let low = among.within k d within in omega (arith, few, low)
 
 -- tracks that stand among others already add nothing
 with_var-there : (x : Var) (bound : ℕ) (ys : List Var) → Rising bound ys → place ys x < length ys → with_var x ys ≡ ys
@@ -188,8 +188,8 @@ with_vars-there (x ∷ xs) ys rising among =
     ap (with_var x) (with_vars-there xs ys rising (All-tail (λ track. track < length ys) (place ys x) (map (place ys) xs) among))
     ∙ with_var-there x 0 ys rising (All-head (λ track. track < length ys) (place ys x) (map (place ys) xs) among)
 
-pub with_vars-right : (xs ys : List Var) → IsAscending ys → AreAmong ys xs → with_vars xs ys ≡ ys
-with_vars-right xs ys ascending among = with_vars-there xs ys (rising-ascending 0 ys (λ h. omega arith) ascending) among.within
+pub with_vars-right : {xs ys : List Var} → IsAscending ys → AreAmong ys xs → with_vars xs ys ≡ ys
+with_vars-right {xs} {ys} ascending among = with_vars-there xs ys (rising-ascending 0 ys (λ h. omega arith) ascending) among.within
 
 rising-lower : (bound least : ℕ) (ys : List Var) → least ≤ bound → Rising bound ys → Rising least ys
 unfolding Rising
@@ -244,8 +244,8 @@ with_vars-own bound (x ∷ xs) (y ∷ ys) rising up among = elim (cases_order x.
       absurd (omega (arith, least, after))
 ]
 
-pub with_vars-left : (xs ys : List Var) → IsAscending xs → IsAscending ys → AreAmong xs ys → with_vars xs ys ≡ xs
-with_vars-left xs ys ascending up among =
+pub with_vars-left : {xs ys : List Var} → IsAscending xs → IsAscending ys → AreAmong xs ys → with_vars xs ys ≡ xs
+with_vars-left {xs} {ys} ascending up among =
     with_vars-own 0 xs ys (rising-ascending 0 xs (λ h. omega arith) ascending) (rising-ascending 0 ys (λ h. omega arith) up) among.within
 
 pub AreAmong-itself : (tracks : List Var) → AreAmong tracks tracks
@@ -288,8 +288,8 @@ part_of-whole tracks word ascending small = part_of-rising tracks word (rising-a
 pub AreAmong-each : (all some : List Var) → All (λ track. place all track < length all) some → AreAmong all some
 AreAmong-each all some each = record { within = All-map (λ place. place < length all) (place all) some each }
 
-pub each-AreAmong : (all some : List Var) → AreAmong all some → All (λ track. place all track < length all) some
-each-AreAmong all some among = λ k d within.
+pub each-AreAmong : {all some : List Var} → AreAmong all some → All (λ track. place all track < length all) some
+each-AreAmong {all} {some} among = λ k d within.
     let size = length-map some (place all) in
     subst (λ n. n < length all) (get_or-map (place all) some k d 0 within) (among.within k 0 (omega (arith, size, within)))
 
@@ -302,5 +302,5 @@ each-more all some i n e inside is within before k d less = elim (cases_eq k i) 
   | inr other ↦ before k d (omega (arith, less, other))
 ]
 
-pub not_among : (all some : List Var) (i n : ℕ) (e : Var) → i < length some → n ≡ place all (get_or some i e) → length all ≤ n → AreAmong all some → ⊥
-not_among all some i n e inside is past among = let below = each-AreAmong all some among i e inside in omega (arith, below, is, past)
+pub not_among : {all some : List Var} (i n : ℕ) (e : Var) → i < length some → n ≡ place all (get_or some i e) → length all ≤ n → AreAmong all some → ⊥
+not_among i n e inside is past among = let below = each-AreAmong among i e inside in omega (arith, below, is, past)

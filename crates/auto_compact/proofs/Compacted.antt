@@ -36,12 +36,12 @@ AreBrought-carried a shapes (answer ∷ answers) first rows brought is rest =
       rows_are = λ i letter h. (brought.each (suc i) (omega (arith, h))).map letter;
     }))
 
-narrow : (old new : List Shape) (bound node source : ℕ) → ((letter : ℕ) → map_at new node letter ≡ map_at old source letter) → LooksBelow old source bound → LooksBelow new node bound
-narrow old new bound node source is below = record { same = λ x y bits. is x ∙ below.same x y bits ∙ sym (is y) }
+narrow : (old new : List Shape) {bound : ℕ} (node source : ℕ) → ((letter : ℕ) → map_at new node letter ≡ map_at old source letter) → LooksBelow old source bound → LooksBelow new node bound
+narrow old new node source is below = record { same = λ x y bits. is x ∙ below.same x y bits ∙ sym (is y) }
 
-pub AreRows-brought : (a : Automaton) (shapes : List Shape) (first : ℕ) (rows : List ℕ) → IsOverNodes a → AreBrought a shapes first rows
+pub AreRows-brought : {a : Automaton} {shapes : List Shape} {first : ℕ} {rows : List ℕ} → IsOverNodes a → AreBrought a shapes first rows
     → AreRows a.tracks shapes first rows a.accept
-AreRows-brought a shapes first rows over are =
+AreRows-brought {a} {shapes} {first} {rows} over are =
     let old = over.nodes in
     let inside = λ (i : ℕ) (h : i < length rows). (let count = are.count in let k : i < length a.row_nodes = omega (arith, h, count) in k) in
     let at = λ (i d : ℕ) (h : i < length rows). get_or_default rows i 0 d h in
@@ -52,11 +52,11 @@ AreRows-brought a shapes first rows over are =
       few_states = old.few_states;
       rows_size = are.count ∙ old.rows_size;
       first_known = are.first_known;
-      first_narrow = narrow a.shapes shapes (length a.tracks) first a.first_node are.first_is old.first_narrow;
+      first_narrow = narrow a.shapes shapes first a.first_node are.first_is old.first_narrow;
       first_within = λ letter. rw (are.first_is letter) (old.first_within letter);
       rows_known = λ i d h. subst (λ n. n < length shapes) (at i d h) (are.rows_known i (inside i h));
       rows_narrow = λ i d h. subst (λ n. LooksBelow shapes n (length a.tracks)) (at i d h)
-          (narrow a.shapes shapes (length a.tracks) (slice_index rows i) (slice_index a.row_nodes i) (λ letter. are.rows_are i letter (inside i h)) (old.rows_narrow i 0 (inside i h)));
+          (narrow a.shapes shapes (slice_index rows i) (slice_index a.row_nodes i) (λ letter. are.rows_are i letter (inside i h)) (old.rows_narrow i 0 (inside i h)));
       rows_within = λ i d h. subst (λ n. (letter : ℕ) → map_at shapes n letter < length a.accept) (at i d h)
           (λ letter. rw (are.rows_are i letter (inside i h)) (old.rows_within i 0 (inside i h) letter));
     }
@@ -76,10 +76,10 @@ rows_of-same old new width (n ∷ nodes) (s ∷ sources) size are =
     let rest = rows_of-same old new width nodes sources (omega (arith, size)) (λ i letter h. are (suc i) letter (omega (arith, h))) in
     λ i. one i ++ rest i
 
-pub HasSameTables-brought : (a made : Automaton) → IsOverNodes a → AreBrought a made.shapes made.first_node made.row_nodes → made.tracks ≡ a.tracks
+pub HasSameTables-brought : {a : Automaton} (made : Automaton) → IsOverNodes a → AreBrought a made.shapes made.first_node made.row_nodes → made.tracks ≡ a.tracks
     → made.first ≡ row_of made.shapes (2 ^ length a.tracks) made.first_node → made.next ≡ rows_of made.shapes (2 ^ length a.tracks) made.row_nodes
     → made.accept ≡ a.accept → HasSameTables a made
-HasSameTables-brought a made over are tracks first next accept = record {
+HasSameTables-brought {a} made over are tracks first next accept = record {
   tracks = tracks;
   first = first ∙ row_of-same a.shapes made.shapes (2 ^ length a.tracks) made.first_node a.first_node are.first_is ∙ sym over.first;
   next = next ∙ rows_of-same a.shapes made.shapes (2 ^ length a.tracks) made.row_nodes a.row_nodes are.count are.rows_are ∙ sym over.next;

@@ -39,12 +39,12 @@ pub loss-small : (w : ℤ) → negsuc 63 ≤ℤ w → loss w ≤ 64
 loss-small (pos n) h = omega arith
 loss-small (negsuc n) h = omega (arith, ints, h)
 
-pub SFits-near : (z : ℤ) → IsNear 0 z → SFits w32 z
-SFits-near z near = let low = near.low in let high = near.high in omega (arith, ints, low, high)
+pub SFits-near : {z : ℤ} → IsNear 0 z → SFits w32 z
+SFits-near near = let low = near.low in let high = near.high in omega (arith, ints, low, high)
 
-pub AreFlagsOf-push : (rel : Rel) (bound : ℤ) (span : Span) (flags : List Bool) (b : Bool) (state : ℕ) → length flags ≡ state → AreFlagsOf rel bound span flags
+pub AreFlagsOf-push : {rel : Rel} {bound : ℤ} {span : Span} {flags : List Bool} (b : Bool) (state : ℕ) → length flags ≡ state → AreFlagsOf rel bound span flags
     → IsTrue b ↔ Compares rel (span.low +ℤ pos state) bound → AreFlagsOf rel bound span (flags ++ b ∷ [])
-AreFlagsOf-push rel bound span flags b state size are is = record {
+AreFlagsOf-push {flags} b state size are is = record {
   tells = λ i h. elim (cases_lt i (length flags)) [
     | inl below ↦ rw (get_or_append_left flags (b ∷ []) false i below) (are.tells i below)
     | inr past ↦
@@ -54,16 +54,16 @@ AreFlagsOf-push rel bound span flags b state size are is = record {
   ];
 }
 
-pub AreSumRows-grows : (old new : List Shape) (weights : List ℤ) (span : Span) (nodes : List ℕ) → Grows old new → AreSumRows old weights span nodes → AreSumRows new weights span nodes
-AreSumRows-grows old new weights span nodes grows are =
+pub AreSumRows-grows : {old new : List Shape} {weights : List ℤ} {span : Span} {nodes : List ℕ} → Grows old new → AreSumRows old weights span nodes → AreSumRows new weights span nodes
+AreSumRows-grows grows are =
     record {
       rows =
-          λ i h. IsSumRow-grows old new weights span 0 ((span.low +ℤ pos i) +ℤ (span.low +ℤ pos i)) (slice_index nodes i) grows (are.rows i h);
+          λ i h. IsSumRow-grows grows (are.rows i h);
     }
 
-pub AreSumRows-push : (shapes : List Shape) (weights : List ℤ) (span : Span) (nodes : List ℕ) (node state : ℕ) → length nodes ≡ state → AreSumRows shapes weights span nodes
+pub AreSumRows-push : {shapes : List Shape} {weights : List ℤ} {span : Span} {nodes : List ℕ} {node : ℕ} (state : ℕ) → length nodes ≡ state → AreSumRows shapes weights span nodes
     → IsSumRow shapes weights span 0 ((span.low +ℤ pos state) +ℤ (span.low +ℤ pos state)) node → AreSumRows shapes weights span (nodes ++ node ∷ [])
-AreSumRows-push shapes weights span nodes node state size are is = record {
+AreSumRows-push {nodes} {node} state size are is = record {
   rows = λ i h. elim (cases_lt i (length nodes)) [
     | inl below ↦ rw (get_or_append_left nodes (node ∷ []) 0 i below) (are.rows i below)
     | inr past ↦
@@ -74,14 +74,14 @@ AreSumRows-push shapes weights span nodes node state size are is = record {
 }
 
 -- a row that was made for a number that is twice the state's value
-pub IsSumRow-doubled : (shapes : List Shape) (weights : List ℤ) (span : Span) (state : ℕ) (sum : ℤ) (node : ℕ) → IsNear 0 sum
+pub IsSumRow-doubled : {shapes : List Shape} {weights : List ℤ} {span : Span} (state : ℕ) {sum : ℤ} {node : ℕ} → IsNear 0 sum
     → sum ≡ (span.low +ℤ pos state) +ℤ (span.low +ℤ pos state) → IsSumRow shapes weights span 0 (to_z w32 (of_z w32 sum)) node
     → IsSumRow shapes weights span 0 ((span.low +ℤ pos state) +ℤ (span.low +ℤ pos state)) node
-IsSumRow-doubled shapes weights span state sum node near same is = subst (λ s. IsSumRow shapes weights span 0 s node) (to_z-of_z w32 sum (SFits-near sum near) ∙ same) is
+IsSumRow-doubled {shapes} {weights} {span} state {sum} {node} near same is = subst (λ s. IsSumRow shapes weights span 0 s node) (to_z-of_z w32 sum (SFits-near near) ∙ same) is
 
-pub flag-is : (rel : Rel) (bound : ℤ) (span : Span) (state : ℕ) (value : ℤ) (b : Bool) → IsSpan span → (span.low +ℤ pos state) ≤ℤ span.high → value ≡ span.low +ℤ pos state
+pub flag-is : (rel : Rel) (bound : ℤ) {span : Span} (state : ℕ) (value : ℤ) (b : Bool) → IsSpan span → (span.low +ℤ pos state) ≤ℤ span.high → value ≡ span.low +ℤ pos state
     → IsTrue b ↔ Compares rel (to_z w32 (of_z w32 value)) bound → IsTrue b ↔ Compares rel (span.low +ℤ pos state) bound
-flag-is rel bound span state value b is within same tells = subst (λ v. IsTrue b ↔ Compares rel v bound) (roundtrip value span state is within same) tells
+flag-is rel bound {span} state value b is within same tells = subst (λ v. IsTrue b ↔ Compares rel v bound) (roundtrip value span state is within same) tells
   where
     roundtrip : (value : ℤ) (span : Span) (state : ℕ) → IsSpan span → (span.low +ℤ pos state) ≤ℤ span.high
         → value ≡ span.low +ℤ pos state → to_z w32 (of_z w32 value) ≡ span.low +ℤ pos state

@@ -79,21 +79,21 @@ module _ (terms ordered : List (ℤ × Var)) (tracks : List Var) (weights : List
 stands-within : (span : Span) (x : ℤ) (s states : ℕ) → StandsFor span x s → pos states +ℤ span.low ≡ span.high +ℤ pos 1 → s < states
 stands-within span x s states is count = let w = is.within in omega (arith, ints, w, count)
 
-row-narrow : (shapes : List Shape) (weights : List ℤ) (span : Span) (sum : ℤ) (node tracks : ℕ) → IsSpan span → length weights ≡ tracks → IsSumRow shapes weights span 0 sum node
+row-narrow : (shapes : List Shape) (weights : List ℤ) {span : Span} (sum : ℤ) (node tracks : ℕ) → IsSpan span → length weights ≡ tracks → IsSumRow shapes weights span 0 sum node
     → LooksBelow shapes node tracks
-row-narrow shapes weights span sum node tracks is size row = record {
+row-narrow shapes weights {span} sum node tracks is size row = record {
   same = λ a b bits.
       let e = weight-same weights 0 a b (λ k h. bits k (omega (arith, h, size))) in
-      StandsFor-one span (sum +ℤ weight_from 0 weights b) (map_at shapes node a) (map_at shapes node b) is
+      StandsFor-one (sum +ℤ weight_from 0 weights b) (map_at shapes node a) (map_at shapes node b) is
       (subst (λ w. StandsFor span (sum +ℤ w) (map_at shapes node a)) e (row.map a)) (row.map b);
 }
 
 -- the nodes of the rows of sums are rows of an automaton
-pub AreRows-sums : (tracks : List Var) (shapes : List Shape) (weights opposite : List ℤ) (span : Span) (first : ℕ) (rows : List ℕ) (accept : List Bool) → IsSpan span
+pub AreRows-sums : (tracks : List Var) {shapes : List Shape} {weights opposite : List ℤ} {span : Span} {first : ℕ} {rows : List ℕ} (accept : List Bool) → IsSpan span
     → IsAscending tracks → length tracks ≤ 8 → length weights ≡ length tracks → length opposite ≡ length tracks
     → pos (length rows) +ℤ span.low ≡ span.high +ℤ pos 1 → pos (length accept) +ℤ span.low ≡ span.high +ℤ pos 1 → IsSumRow shapes opposite span 0 (pos 0) first
     → AreSumRows shapes weights span rows → AreRows tracks shapes first rows accept
-AreRows-sums tracks shapes weights opposite span first rows accept is up few size size_opposite count_rows count first_row are =
+AreRows-sums tracks {shapes} {weights} {opposite} {span} {first} {rows} accept is up few size size_opposite count_rows count first_row are =
     let some = is.some in
     let low = is.low in
     let high = is.high in
@@ -105,10 +105,10 @@ AreRows-sums tracks shapes weights opposite span first rows accept is up few siz
       few_states = omega (arith, ints, low, high, count);
       rows_size = omega (arith, ints, count_rows, count);
       first_known = first_row.known;
-      first_narrow = row-narrow shapes opposite span (pos 0) first (length tracks) is size_opposite first_row;
+      first_narrow = row-narrow shapes opposite (pos 0) first (length tracks) is size_opposite first_row;
       first_within = λ letter. stands-within span (pos 0 +ℤ weight_from 0 opposite letter) (map_at shapes first letter) (length accept) (first_row.map letter) count;
       rows_known = λ i d h. (at i d h).known;
-      rows_narrow = λ i d h. row-narrow shapes weights span ((span.low +ℤ pos i) +ℤ (span.low +ℤ pos i)) (get_or rows i d) (length tracks) is size (at i d h);
+      rows_narrow = λ i d h. row-narrow shapes weights ((span.low +ℤ pos i) +ℤ (span.low +ℤ pos i)) (get_or rows i d) (length tracks) is size (at i d h);
       rows_within =
           λ i d h letter. stands-within span (((span.low +ℤ pos i) +ℤ (span.low +ℤ pos i)) +ℤ weight_from 0 weights letter)
           (map_at shapes (get_or rows i d) letter) (length accept) ((at i d h).map letter) count;
@@ -130,7 +130,7 @@ module _ (a : Automaton) (shapes : List Shape) (weights opposite : List ℤ) (bo
         let at : next_state a state letter ≡ map_at shapes (slice_index rows state) letter =
         ap (λ l. slice_index l (state * width a + letter)) next_is ∙ get_or-rows_of shapes (width a) rows state letter 0 inside below in
         rw at
-        (StandsFor-more weights bound span x (weight_from 0 weights letter) state (map_at shapes (slice_index rows state) letter) is_span
+        (StandsFor-more x (weight_from 0 weights letter) state (map_at shapes (slice_index rows state) letter) is_span
         (weight-between weights 0 letter) here ((are.rows state inside).map letter));
   }
     where
@@ -139,9 +139,9 @@ module _ (a : Automaton) (shapes : List Shape) (weights opposite : List ℤ) (bo
 
   pub sum_words : (rel : Rel) → IsAutomaton a → AreFlagsOf rel bound span a.accept → AcceptsWhere a.tracks (SumCompares weights rel bound) a
   sum_words rel is flags word word_is =
-      let reads = stands-state_of a (weight_from 0 weights) (StandsFor span) is sum_reads word word_is in
+      let reads = stands-state_of is sum_reads word_is in
       let tells = flags.tells (state_of a word) reads.1 in
-      let compares = Compares-state rel weights bound span (total (weight_from 0 weights) word) (state_of a word) is_span reads.0 in
+      let compares = Compares-state rel is_span reads.0 in
       (λ h. compares.0 (tells.0 h), λ h. tells.1 (compares.1 h))
 
 opposite-small : (weights : List ℤ) → All IsSmall weights → All IsSmall (map neg_ℤ weights)
@@ -149,17 +149,17 @@ opposite-small [] all i d h = absurd (omega (arith, h))
 opposite-small (w ∷ weights) all zero d h = let s = all 0 w (omega arith) in let low = s.0 in let high = s.1 in (omega (arith, ints, low, high), omega (arith, ints, low, high))
 opposite-small (w ∷ weights) all (suc i) d h = opposite-small weights (λ j e k. all (suc j) e (omega (arith, k))) i d (omega (arith, h))
 
-pub AreWeights-opposite : (tracks : List Var) (weights opposite : List ℤ) → AreWeights tracks weights opposite → All IsSmall opposite × (length opposite ≡ length tracks)
-AreWeights-opposite tracks weights opposite are = (rw are.negative (opposite-small weights are.small), ap length are.negative ∙ length-map weights neg_ℤ ∙ are.size)
+pub AreWeights-opposite : {tracks : List Var} {weights opposite : List ℤ} → AreWeights tracks weights opposite → All IsSmall opposite × (length opposite ≡ length tracks)
+AreWeights-opposite {weights} are = (rw are.negative (opposite-small weights are.small), ap length are.negative ∙ length-map weights neg_ℤ ∙ are.size)
 
 each-small : (terms : List (ℤ × Var)) → Each IsCoefficient terms → All IsSmall (map (λ t. t.0) terms)
 each-small [] each i d h = absurd (omega (arith, h))
 each-small (t ∷ terms) each zero d h = (each.0.1, each.0.2)
 each-small (t ∷ terms) each (suc i) d h = each-small terms each.1 i d (omega (arith, h))
 
-pub AreWeights-atom : (terms ordered : List (ℤ × Var)) (tracks : List Var) (weights opposite : List ℤ) (bound : ℤ) → IsAtom terms bound → AreOrdered terms ordered tracks weights
+pub AreWeights-atom : {terms ordered : List (ℤ × Var)} {tracks : List Var} {weights : List ℤ} (opposite : List ℤ) (bound : ℤ) → IsAtom terms bound → AreOrdered terms ordered tracks weights
     → opposite ≡ map neg_ℤ weights → AreWeights tracks weights opposite
-AreWeights-atom terms ordered tracks weights opposite bound atom are negative = record {
+AreWeights-atom {terms} {ordered} {tracks} {weights} opposite bound atom are negative = record {
   ascending = tracks-ascending terms ordered tracks weights bound atom are;
   few = let few = atom.0.1 in let l = tracks-length terms ordered tracks weights bound atom are in omega (arith, few, l);
   size = weights-length terms ordered tracks weights bound atom are ∙ sym (tracks-length terms ordered tracks weights bound atom are);

@@ -21,29 +21,29 @@ val-repeated : RepeatKeepsValues → (k : ℕ) (word : List ℕ) (t : ℕ) → v
 val-repeated keeps zero word t = refl
 val-repeated keeps (suc k) word t = keeps (repeated k word) t ∙ val-repeated keeps k word t
 
-accepts-repeated : (a : Automaton) → DecidesIntegers a → (k : ℕ) (word : List ℕ) → IsWord (length a.tracks) word → Accepts a word ↔ Accepts a (repeated k word)
-accepts-repeated a decides zero word is = (λ h. h, λ h. h)
-accepts-repeated a decides (suc k) word is =
-    let before = accepts-repeated a decides k word is in
-    let more = decides.stable (repeated k word) (IsWord-repeated (length a.tracks) word k is) in
+accepts-repeated : {a : Automaton} → DecidesIntegers a → (k : ℕ) {word : List ℕ} → IsWord (length a.tracks) word → Accepts a word ↔ Accepts a (repeated k word)
+accepts-repeated decides zero is = (λ h. h, λ h. h)
+accepts-repeated decides (suc k) {word} is =
+    let before = accepts-repeated decides k is in
+    let more = decides.stable (repeated k word) (IsWord-repeated k is) in
     (λ h. more.0 (before.0 h), λ h. before.1 (more.1 h))
 
 -- words of equal values, the one not longer than the other, are accepted alike
-alike : (a : Automaton) → DecidesIntegers a → RepeatKeepsValues → EqualValuesEqualWords → (v w : List ℕ) → IsWord (length a.tracks) v → IsWord (length a.tracks) w
+alike : {a : Automaton} → DecidesIntegers a → RepeatKeepsValues → EqualValuesEqualWords → {v w : List ℕ} → IsWord (length a.tracks) v → IsWord (length a.tracks) w
     → length v ≤ length w → ((t : ℕ) → t < length a.tracks → val v t ≡ val w t) → Accepts a v ↔ Accepts a w
-alike a decides keeps equal v w av aw shorter same =
+alike {a} decides keeps equal {v} {w} av aw shorter same =
     let k = length w - length v in
-    let longer = accepts-repeated a decides k v av in
+    let longer = accepts-repeated decides k av in
     let size : length (repeated k v) ≡ length w = (repeated_some v k av.nonempty).0 ∙ omega (arith, shorter) in
-    let one : repeated k v ≡ w = equal (length a.tracks) (repeated k v) w (IsWord-repeated (length a.tracks) v k av) aw size (λ t h. val-repeated keeps k v t ∙ same t h) in
+    let one : repeated k v ≡ w = equal (length a.tracks) (repeated k v) w (IsWord-repeated k av) aw size (λ t h. val-repeated keeps k v t ∙ same t h) in
     subst (λ x. Accepts a v ↔ Accepts a x) one longer
 
 -- however long they are
-pub accepts-alike : (a : Automaton) → DecidesIntegers a → RepeatKeepsValues → EqualValuesEqualWords → (v w : List ℕ) → IsWord (length a.tracks) v → IsWord (length a.tracks) w
+pub accepts-alike : {a : Automaton} → DecidesIntegers a → RepeatKeepsValues → EqualValuesEqualWords → {v w : List ℕ} → IsWord (length a.tracks) v → IsWord (length a.tracks) w
     → ((t : ℕ) → t < length a.tracks → val v t ≡ val w t) → Accepts a v ↔ Accepts a w
-accepts-alike a decides keeps equal v w av aw same = elim (cases_lt (length w) (length v)) [
-  | inl shorter ↦ let back = alike a decides keeps equal w v aw av (omega (arith, shorter)) (λ t h. sym (same t h)) in (back.1, back.0)
-  | inr longer ↦ alike a decides keeps equal v w av aw longer same
+accepts-alike decides keeps equal {v} {w} av aw same = elim (cases_lt (length w) (length v)) [
+  | inl shorter ↦ let back = alike decides keeps equal aw av (omega (arith, shorter)) (λ t h. sym (same t h)) in (back.1, back.0)
+  | inr longer ↦ alike decides keeps equal av aw longer same
 ]
 
 -- the value of the t-th track
@@ -67,7 +67,7 @@ module _ (a : Automaton) (values : List ℤ) (n : ℕ) (is : IsAutomaton a) (cou
   words-alike word of =
       let same = λ (t : ℕ) (h : t < length a.tracks).
       (spell values n fits).values t (omega (arith, h, count)) ∙ ap (λ l. get_or l t (pos 0)) (sym of.values) ∙ value-at a.tracks word t is.ascending h in
-      accepts-alike a decides keeps equal (spelled values n) word spelled-word of.is_word same
+      accepts-alike decides keeps equal spelled-word of.is_word same
 
   -- the word of the bits from a place on tells which tuples are accepted
   pub accepted-spelled : Accepts a (spelled values n) ↔ IsAccepted a values
@@ -93,7 +93,7 @@ pub DecidesIntegers-values : RepeatKeepsValues → (a : Automaton) (tracks : Lis
 DecidesIntegers-values keeps a tracks P same decides = record {
   stable = λ word is.
       let own = decides word (rw (← same) is) in
-      let longer = decides (repeat_first word) (rw (← same) (IsWord-again (length a.tracks) word is)) in
+      let longer = decides (repeat_first word) (rw (← same) (IsWord-again is)) in
       let values : word_values tracks (repeat_first word) ≡ word_values tracks word = λ i x. keeps word (place tracks (record { 0 = x })) i in
       let other = subst (λ v. Accepts a (repeat_first word) ↔ P v) values longer in
       (λ h. other.1 (own.0 h), λ h. own.1 (other.0 h));
@@ -109,8 +109,8 @@ IsLeft-more a values left rest place state next one at is here = record {
   leads = rw (is, at) (subst (λ n. run a state (letters_below values n) ≡ state_of a (word_of values)) one here.leads);
 }
 
-pub IsLeft-end : (a : Automaton) (values : List ℤ) (left state : ℕ) → left ≡ 0 → IsLeft a values left state → state ≡ state_of a (word_of values)
-IsLeft-end a values left state none here = subst (λ n. run a state (letters_below values n) ≡ state_of a (word_of values)) none here.leads
+pub IsLeft-end : {a : Automaton} {values : List ℤ} {left state : ℕ} → left ≡ 0 → IsLeft a values left state → state ≡ state_of a (word_of values)
+IsLeft-end {a} {values} {state} none here = subst (λ n. run a state (letters_below values n) ≡ state_of a (word_of values)) none here.leads
 
 pub fits-cons : (z : ℤ) (values : List ℤ) → SFits w64 z → All (FitsBelow 63) values → All (FitsBelow 63) (z ∷ values)
 fits-cons z values fits all zero d h = FitsBelow-i64 z fits

@@ -39,10 +39,10 @@ at_second : (rows : List ℕ) (a b n : ℕ) → length rows ≡ n → get_or ((r
 at_second rows a b n size = get_or_push (rows ++ a ∷ []) b 0 (n + 1) (let l = length-append rows (a ∷ []) in omega (arith, l, size))
 
 -- a row for one more state
-pub ArePrefixRows-push : (value : ℤ) (left : ℕ) (rows : List ℕ) (a b : ℕ) → length rows ≡ left * 2 → ArePrefixRows value left rows
+pub ArePrefixRows-push : {value : ℤ} {left : ℕ} {rows : List ℕ} {a b : ℕ} → length rows ≡ left * 2 → ArePrefixRows value left rows
     → IsPrefixState value (int_shr value left +ℤ int_shr value left +ℤ pos 0) a → IsPrefixState value (int_shr value left +ℤ int_shr value left +ℤ pos 1) b
     → ArePrefixRows value (left + 1) ((rows ++ a ∷ []) ++ b ∷ [])
-ArePrefixRows-push value left rows a b size are low high = record {
+ArePrefixRows-push {left} {rows} {a} {b} size are low high = record {
   after = λ state letter known bit. elim (cases_lt state left) [
     | inl below ↦ rw (at_pair rows a b (left * 2) (state * 2 + letter) size (omega (arith, below, bit))) (are.after state letter below bit)
     | inr past ↦
@@ -54,8 +54,8 @@ ArePrefixRows-push value left rows a b size are low high = record {
   ];
 }
 
-pub AreAllPrefixRows-push : (value : ℤ) (rows : List ℕ) → length rows ≡ 128 → ArePrefixRows value 64 rows → AreAllPrefixRows value ((rows ++ 64 ∷ []) ++ 64 ∷ [])
-AreAllPrefixRows-push value rows size are = record {
+pub AreAllPrefixRows-push : {value : ℤ} {rows : List ℕ} → length rows ≡ 128 → ArePrefixRows value 64 rows → AreAllPrefixRows value ((rows ++ 64 ∷ []) ++ 64 ∷ [])
+AreAllPrefixRows-push {rows} size are = record {
   size = let l = length-append rows (64 ∷ []) in let m = length-append (rows ++ 64 ∷ []) (64 ∷ []) in omega (arith, l, m, size);
   prefixes = record { after = λ state letter known bit. rw (at_pair rows 64 64 128 (state * 2 + letter) size (omega (arith, known, bit))) (are.after state letter known bit) };
   stays = λ letter bit. elim (bit_cases letter bit) [
@@ -90,8 +90,8 @@ int_shr-none (pos n) = ap pos (div-one n)
 int_shr-none (negsuc n) = ap negsuc (div-one n)
 
 -- what has been read stays no beginning of the value
-pub IsPrefixState-stays : (value x : ℤ) (bit : ℕ) → SFits w64 value → bit < 2 → IsPrefixState value x 64 → IsPrefixState value (x +ℤ x +ℤ pos bit) 64
-IsPrefixState-stays value x bit fits below is = record {
+pub IsPrefixState-stays : {value x : ℤ} (bit : ℕ) → SFits w64 value → bit < 2 → IsPrefixState value x 64 → IsPrefixState value (x +ℤ x +ℤ pos bit) 64
+IsPrefixState-stays {value} {x} bit fits below is = record {
   small = omega arith;
   found = λ h. absurd (omega (arith, h));
   least = λ k known e.
@@ -130,14 +130,14 @@ module _ (a : Automaton) (value : ℤ) (fits : SFits w64 value) (one : width a �
               let there : next_state a state letter ≡ 64 =
               ap (λ k. slice_index a.next k) (place state ∙ (let e : state * 2 + letter ≡ 128 + letter = omega (arith, end) in e))
               ∙ rows.stays letter small in
-              subst (IsPrefixState value (x +ℤ x +ℤ pos letter)) (sym there) (IsPrefixState-stays value x letter fits small (subst (IsPrefixState value x) end here))
+              subst (IsPrefixState value (x +ℤ x +ℤ pos letter)) (sym there) (IsPrefixState-stays letter fits small (subst (IsPrefixState value x) end here))
         ]);
   }
 
   -- it accepts the words that spell the value
   pub prefix_words : IsAutomaton a → (word : List ℕ) → IsWord (length a.tracks) word → Accepts a word ↔ (val word 0 ≡ value)
   prefix_words is word are =
-      let reads = stands-state_of a (bit_weight 0) (IsPrefixState value) is prefix_reads word are in
+      let reads = stands-state_of is prefix_reads are in
       let stands = subst (λ r. IsPrefixState value r (state_of a word)) (total-bits 0 word) reads.0 in
       let inside = rw states at reads.1 in
       elim (cases_lt 0 (state_of a word)) [
@@ -156,8 +156,8 @@ alone var = grind (arith, common_steps)
 pub IsAscending-one : (var : Var) → IsAscending (var ∷ [])
 IsAscending-one var = λ k h. absurd (omega (arith, h))
 
-rows_within : (value : ℤ) (rows : List ℕ) → AreAllPrefixRows value rows → All (λ state. state < 65) rows
-rows_within value rows are i d h =
+rows_within : {value : ℤ} {rows : List ℕ} → AreAllPrefixRows value rows → All (λ state. state < 65) rows
+rows_within {rows} are i d h =
     let whole : i ≡ i / 2 * 2 + i % 2 = omega arith in
     let bit : i % 2 < 2 = omega arith in
     let size = are.size in
@@ -169,10 +169,10 @@ rows_within value rows are i d h =
           rw half (let e : 64 * 2 + i % 2 ≡ 128 + i % 2 = omega arith in rw e (rw stays (omega arith)))
     ]))
 
-pub AreTables-prefix : (var : Var) (value : ℤ) (s t : ℕ) (rows : List ℕ) (flags : List Bool) → IsPrefixState value (pos 0) s → IsPrefixState value (negsuc 0) t
+pub AreTables-prefix : (var : Var) {value : ℤ} {s t : ℕ} {rows : List ℕ} {flags : List Bool} → IsPrefixState value (pos 0) s → IsPrefixState value (negsuc 0) t
     → AreAllPrefixRows value rows → IsFirstFlag flags
     → AreTables (var ∷ []) (s ∷ t ∷ []) rows flags
-AreTables-prefix var value s t rows flags zero_read sign_read are flag =
+AreTables-prefix var {s} {t} {flags} zero_read sign_read are flag =
     let size = flag.size in
     let rows_size = are.size in
     let s_small = zero_read.small in
@@ -185,7 +185,7 @@ AreTables-prefix var value s t rows flags zero_read sign_read are flag =
       first_size = refl;
       next_size = omega (arith, size, rows_size);
       first_within = λ i d h. two s t (length flags) (omega (arith, size, s_small)) (omega (arith, size, t_small)) i d h;
-      next_within = rw size (rows_within value rows are);
+      next_within = rw size (rows_within are);
     }
   where
     two : (s t n : ℕ) → s < n → t < n → (i d : ℕ) → i < 2 → get_or (s ∷ t ∷ []) i d < n
@@ -194,19 +194,19 @@ AreTables-prefix var value s t rows flags zero_read sign_read are flag =
     two s t n hs ht (suc (suc i)) d h = absurd (omega (arith, h))
 
 -- the automaton of these tables decides whether the variable has the value
-pub value_words : (a : Automaton) (var : Var) (value : ℤ) (s t : ℕ) → SFits w64 value → IsAutomaton a
+pub value_words : {a : Automaton} (var : Var) {value : ℤ} (s t : ℕ) → SFits w64 value → IsAutomaton a
     → a.tracks ≡ var ∷ [] → a.first ≡ s ∷ t ∷ [] → AreAllPrefixRows value a.next
     → IsFirstFlag a.accept → IsPrefixState value (pos 0) s → IsPrefixState value (negsuc 0) t → AcceptsWhere (var ∷ []) (ValueHolds var value) a
-value_words a var value s t fits is tracks first rows flag zero_read sign_read word are =
+value_words {a} var {value} s t fits is tracks first rows flag zero_read sign_read word are =
     let one : length a.tracks ≡ 1 = ap length tracks in
     let words = prefix_words a value fits (ap (λ n. 2 ^ n) one) flag.size
     (λ letter below. elim (bit_cases letter below) [ inl z ↦ rw (z, first) zero_read | inr o ↦ rw (o, first) sign_read ]) rows flag.first flag.others is word (rw one are) in
     rw (alone var) words
 
 -- the same, where the tables were made for a number that is the value
-pub value_words-same : (a : Automaton) (var : Var) (value made : ℤ) (s t : ℕ) → made ≡ value → SFits w64 value → IsAutomaton a → a.tracks ≡ var ∷ [] → a.first ≡ s ∷ t ∷ []
+pub value_words-same : {a : Automaton} (var : Var) (value : ℤ) {made : ℤ} {s t : ℕ} → made ≡ value → SFits w64 value → IsAutomaton a → a.tracks ≡ var ∷ [] → a.first ≡ s ∷ t ∷ []
     → AreAllPrefixRows made a.next → IsFirstFlag a.accept → IsPrefixState made (pos 0) s → IsPrefixState made (negsuc 0) t
     → AcceptsWhere (var ∷ []) (ValueHolds var value) a
-value_words-same a var value made s t same fits is tracks first rows flag zero_read sign_read =
-    value_words a var value s t fits is tracks first (subst (λ v. AreAllPrefixRows v a.next) same rows) flag
+value_words-same {a} var value {s} {t} same fits is tracks first rows flag zero_read sign_read =
+    value_words var s t fits is tracks first (subst (λ v. AreAllPrefixRows v a.next) same rows) flag
     (subst (λ v. IsPrefixState v (pos 0) s) same zero_read) (subst (λ v. IsPrefixState v (negsuc 0) t) same sign_read)

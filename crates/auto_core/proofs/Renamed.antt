@@ -57,10 +57,10 @@ narrow a shapes places bound node source below is = record {
   same = λ x y bits. is x ∙ ap (map_at a.shapes source) (relabelled-same places bound x y below bits) ∙ sym (is y);
 }
 
-pub AreRows-renamed : (a : Automaton) (tracks : List Var) (shapes : List Shape) (places : List ℕ) (first : ℕ) (rows : List ℕ) (accept : List Bool) → IsOverNodes a
+pub AreRows-renamed : {a : Automaton} (tracks : List Var) {shapes : List Shape} {places : List ℕ} {first : ℕ} {rows : List ℕ} (accept : List Bool) → IsOverNodes a
     → IsAscending tracks → length tracks ≤ 20 → accept ≡ a.accept
     → All (λ p. p < length tracks) places → AreRenamed a shapes places first rows → AreRows tracks shapes first rows accept
-AreRows-renamed a tracks shapes places first rows accept over up few same below are =
+AreRows-renamed {a} tracks {shapes} {places} {first} {rows} accept over up few same below are =
     let size = ap length same in
     let old = over.nodes in
     let inside = λ (i : ℕ) (h : i < length rows). (let count = are.count in let k : i < length a.row_nodes = omega (arith, h, count) in k) in
@@ -82,8 +82,8 @@ AreRows-renamed a tracks shapes places first rows accept over up few same below 
     }
 
 -- the word of the bits at the places is one of as many tracks
-IsWord-map : (places : List ℕ) (tracks count : ℕ) (word : List ℕ) → length places ≡ count → IsWord tracks word → IsWord count (map (relabelled places) word)
-IsWord-map places tracks count word size is = record { nonempty = some word is.nonempty; letters = letters word }
+IsWord-map : (places : List ℕ) {tracks : ℕ} (count : ℕ) {word : List ℕ} → length places ≡ count → IsWord tracks word → IsWord count (map (relabelled places) word)
+IsWord-map places count {word} size is = record { nonempty = some word is.nonempty; letters = letters word }
   where
     some : (word : List ℕ) → word ≢ [] → map (relabelled places) word ≢ []
     some [] none e = none refl
@@ -186,8 +186,8 @@ module _ (a new : Automaton) (places : List ℕ) (over : IsOverNodes a) (made : 
   DecidesIntegers-renamed decides = record {
     stable = λ word is.
         let one = words-renamed word is in
-        let longer = words-renamed (repeat_first word) (IsWord-again (length new.tracks) word is) in
-        let old = decides.stable (map (relabelled places) word) (IsWord-map places (length new.tracks) (length a.tracks) word count is) in
+        let longer = words-renamed (repeat_first word) (IsWord-again is) in
+        let old = decides.stable (map (relabelled places) word) (IsWord-map places (length a.tracks) count is) in
         let twice = subst (λ w. Accepts a (map (relabelled places) word) ↔ Accepts a w) (repeat-map (relabelled places) word) old in
         (λ h. longer.1 (twice.0 (one.0 h)), λ h. one.1 (twice.1 (longer.0 h)));
   }

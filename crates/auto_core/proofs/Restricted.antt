@@ -24,7 +24,7 @@ restrict-below all (v ∷ vs) letter =
     let double : 2 ^ suc (length vs) ≡ 2 * 2 ^ length vs = omega arith in
     subst (λ n. bit_at letter (place all v) + 2 * restrict all vs letter < n) (sym double) (omega (arith, rest, bit))
 
-pub all_narrow : (a : Automaton) (all : List Var) → IsOverNodes a → All (λ node. LooksBelow a.shapes node (length (map (place all) a.tracks))) (all_nodes a)
-all_narrow a all over =
+pub all_narrow : {a : Automaton} (all : List Var) → IsOverNodes a → All (λ node. LooksBelow a.shapes node (length (map (place all) a.tracks))) (all_nodes a)
+all_narrow {a} all over =
     subst (λ bound. All (λ node. LooksBelow a.shapes node bound) (all_nodes a)) (sym (length-map a.tracks (place all)))
     (All-cons (λ node. LooksBelow a.shapes node (length a.tracks)) a.first_node a.row_nodes over.nodes.first_narrow over.nodes.rows_narrow)

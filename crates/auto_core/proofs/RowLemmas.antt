@@ -59,9 +59,9 @@ module _ (shapes : List Shape) (width : ℕ) where
             (rows_within bound nodes (λ i e inside. all (suc i) e (omega (arith, inside))) (k - width) d (omega (arith, size, whole, h, past)))
       ]
 
-pub IsAutomaton-dense : (tracks : List Var) (shapes : List Shape) (first : ℕ) (rows : List ℕ) (accept : List Bool) → AreRows tracks shapes first rows accept
+pub IsAutomaton-dense : {tracks : List Var} {shapes : List Shape} {first : ℕ} {rows : List ℕ} {accept : List Bool} → AreRows tracks shapes first rows accept
     → IsAutomaton (dense tracks shapes first rows accept)
-IsAutomaton-dense tracks shapes first rows accept are = record {
+IsAutomaton-dense {tracks} {shapes} {first} {rows} {accept} are = record {
   ascending = are.ascending;
   few_tracks = are.few_tracks;
   some_state = are.some_state;
@@ -73,9 +73,9 @@ IsAutomaton-dense tracks shapes first rows accept are = record {
 }
 
 -- where narrow nodes have equal maps at the letters of their tracks, they have equal maps
-pub map_at-narrow : (shapes : List Shape) (a b bound : ℕ) → LooksBelow shapes a bound → LooksBelow shapes b bound
+pub map_at-narrow : {shapes : List Shape} {a b bound : ℕ} → LooksBelow shapes a bound → LooksBelow shapes b bound
     → ((letter : ℕ) → letter < 2 ^ bound → map_at shapes a letter ≡ map_at shapes b letter) → (letter : ℕ) → map_at shapes a letter ≡ map_at shapes b letter
-map_at-narrow shapes a b bound na nb same letter =
+map_at-narrow {bound} na nb same letter =
     let low = λ (k : ℕ) (below : k < bound). low_bits letter bound k below in
     na.same letter (letter % 2 ^ bound) low ∙ same (letter % 2 ^ bound) (mod_below letter (2 ^ bound) (pow_pos bound)) ∙ sym (nb.same letter (letter % 2 ^ bound) low)
 
@@ -93,5 +93,5 @@ module _ (tracks : List Var) (shapes : List Shape) (first : ℕ) (rows : List �
   map_at-same_row a b x y ka kb ix iy same =
       let size = are.rows_size in
       let narrow = λ (n i : ℕ) (k : i < length accept) (is : n ≡ get_or rows i n). subst (λ m. LooksBelow shapes m (length tracks)) (sym is) (are.rows_narrow i n (omega (arith, size, k))) in
-      map_at-narrow shapes x y (length tracks) (narrow x a ka ix) (narrow y b kb iy)
+      map_at-narrow (narrow x a ka ix) (narrow y b kb iy)
       (λ letter within. sym (next_state-dense a letter x ka within ix) ∙ same letter within ∙ next_state-dense b letter y kb within iy)

@@ -16,14 +16,14 @@ entry_within n xs i some all =
       | inr past ↦ rw (get_or_past xs i 0 past) some
     ]
 
-pub run_within : (a : Automaton) → IsAutomaton a → (letters : List ℕ) (state : ℕ) → state < length a.accept → run a state letters < length a.accept
-run_within a is [] state h = h
-run_within a is (letter ∷ letters) state h =
-    run_within a is letters (next_state a state letter) (entry_within (length a.accept) a.next (state * width a + letter) is.some_state is.next_within)
+pub run_within : {a : Automaton} → IsAutomaton a → (letters : List ℕ) (state : ℕ) → state < length a.accept → run a state letters < length a.accept
+run_within is [] state h = h
+run_within {a} is (letter ∷ letters) state h =
+    run_within is letters (next_state a state letter) (entry_within (length a.accept) a.next (state * width a + letter) is.some_state is.next_within)
 
-pub state_within : (a : Automaton) → IsAutomaton a → (word : List ℕ) → state_of a word < length a.accept
-state_within a is [] = is.some_state
-state_within a is (sign ∷ letters) = run_within a is letters _ (entry_within (length a.accept) a.first sign is.some_state is.first_within)
+pub state_within : {a : Automaton} → IsAutomaton a → (word : List ℕ) → state_of a word < length a.accept
+state_within is [] = is.some_state
+state_within {a} is (sign ∷ letters) = run_within is letters _ (entry_within (length a.accept) a.first sign is.some_state is.first_within)
 
 pub state_of-append : (a : Automaton) (word letters : List ℕ) → word ≢ [] → state_of a (word ++ letters) ≡ run a (state_of a word) letters
 state_of-append a [] letters nonempty = absurd (nonempty refl)
@@ -36,12 +36,12 @@ same_flag false true h = h.1 refl
 same_flag false false h = refl
 
 -- in a reduced automaton words with one residual lead to one state
-pub same_state : (a : Automaton) → IsAutomaton a → IsReduced a → (v w : List ℕ) → v ≢ [] → w ≢ [] → SameResidual (length a.tracks) (Accepts a) v w → state_of a v ≡ state_of a w
-same_state a is reduced v w v_some w_some h =
+pub same_state : {a : Automaton} → IsAutomaton a → IsReduced a → {v w : List ℕ} → v ≢ [] → w ≢ [] → SameResidual (length a.tracks) (Accepts a) v w → state_of a v ≡ state_of a w
+same_state {a} is reduced {v} {w} v_some w_some h =
     elim (cases_eq (state_of a v) (state_of a w)) [
       | inl same ↦ same
       | inr other ↦
-          let apart = reduced.apart (state_of a v) (state_of a w) (state_within a is v) (state_within a is w) other in
+          let apart = reduced.apart (state_of a v) (state_of a w) (state_within is v) (state_within is w) other in
           let flags = same_flag _ _ (h.same apart.letters apart.are_letters) in
           absurd (apart.differ (ap (is_final a) (sym (state_of-append a v apart.letters v_some)) ∙ flags ∙ ap (is_final a) (state_of-append a w apart.letters w_some)))
     ]

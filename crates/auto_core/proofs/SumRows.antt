@@ -12,9 +12,9 @@ use Rattle.letter_diagram.specs.Diagram.{map_at, top_track, chosen, Grows}
 use Rattle.auto_core.specs.declared.sums.Span.{Span}
 use Rattle.auto_core.specs.Sums.{weight_from, StandsFor, IsSumRow, RemembersSums, key_eq}
 
-pub IsSumRow-grows : (old new : List Shape) (weights : List ℤ) (span : Span) (track : ℕ) (sum : ℤ) (node : ℕ) → Grows old new → IsSumRow old weights span track sum node
+pub IsSumRow-grows : {old new : List Shape} {weights : List ℤ} {span : Span} {track : ℕ} {sum : ℤ} {node : ℕ} → Grows old new → IsSumRow old weights span track sum node
     → IsSumRow new weights span track sum node
-IsSumRow-grows old new weights span track sum node grows is =
+IsSumRow-grows {node} grows is =
     let known = is.known in
     let longer = grows.longer in
     let top = is.top in
@@ -25,9 +25,9 @@ IsSumRow-grows old new weights span track sum node grows is =
       top = omega arith;
     }
 
-pub RemembersSums-grows : {S : Type 0} (old new : List Shape) (weights : List ℤ) (span : Span) (memo : HashMap (ℕ × ℤ) ℕ S) → Grows old new → RemembersSums old weights span memo
+pub RemembersSums-grows : {S : Type 0} {old new : List Shape} {weights : List ℤ} {span : Span} {memo : HashMap (ℕ × ℤ) ℕ S} → Grows old new → RemembersSums old weights span memo
     → RemembersSums new weights span memo
-RemembersSums-grows old new weights span memo grows all = record { rows = λ track sum node at. IsSumRow-grows old new weights span track sum node grows (all.rows track sum node at) }
+RemembersSums-grows grows all = record { rows = λ track sum node at. IsSumRow-grows grows (all.rows track sum node at) }
 
 key_eq-true : (a c : ℕ) (b d : ℤ) → key_eq (a, b) (c, d) ≡ true → (a ≡ c) × (b ≡ d)
 key_eq-true a c b d h = (Decides-and (nat_eq a c) (int_eq b d) (Decides-eqb a c) (Decides-int_eq b d)).0 h
@@ -35,10 +35,10 @@ key_eq-true a c b d h = (Decides-and (nat_eq a c) (int_eq b d) (Decides-eqb a c)
 some-same : (a b : ℕ) → Some a ≡ Some b → a ≡ b
 some-same a b e = cc
 
-pub RemembersSums-insert : {S : Type 0} (shapes : List Shape) (weights : List ℤ) (span : Span) (memo new : HashMap (ℕ × ℤ) ℕ S) (track : ℕ) (sum : ℤ) (node : ℕ)
+pub RemembersSums-insert : {S : Type 0} {shapes : List Shape} {weights : List ℤ} {span : Span} {memo : HashMap (ℕ × ℤ) ℕ S} (new : HashMap (ℕ × ℤ) ℕ S) {track : ℕ} {sum : ℤ} {node : ℕ}
     → RemembersSums shapes weights span memo → Updates key_eq memo new (track, sum) (Some node)
     → IsSumRow shapes weights span track sum node → RemembersSums shapes weights span new
-RemembersSums-insert shapes weights span memo new track sum node all updates is = record {
+RemembersSums-insert {shapes} {weights} {span} new {track} {sum} {node} all updates is = record {
   rows = λ t s n at. by t s n at (key_eq (track, sum) (t, s)) refl;
 }
   where
@@ -52,10 +52,10 @@ RemembersSums-insert shapes weights span memo new track sum node all updates is 
         subst P same (subst (IsSumRow shapes weights span track sum) one is)
     by t s n at false e = all.rows t s n (sym (updates.2 (t, s) e) ∙ at)
 
-pub IsSumRow-leaf : (shapes : List Shape) (weights : List ℤ) (span : Span) (track : ℕ) (sum : ℤ) (node state : ℕ) → track ≡ length weights → track ≤ 20 → node < length shapes
+pub IsSumRow-leaf : (shapes : List Shape) (weights : List ℤ) {span : Span} (track : ℕ) {sum : ℤ} (node : ℕ) {state : ℕ} → track ≡ length weights → track ≤ 20 → node < length shapes
     → ((letter : ℕ) → map_at shapes node letter ≡ state) → top_track shapes node ≡ 20 → StandsFor span sum state
     → IsSumRow shapes weights span track sum node
-IsSumRow-leaf shapes weights span track sum node state end few known map top stands = record {
+IsSumRow-leaf shapes weights {span} track {sum} node {state} end few known map top stands = record {
   known = known;
   map = λ letter.
       let none : drop track weights ≡ [] = rw end (all-dropped weights) in
@@ -67,11 +67,11 @@ IsSumRow-leaf shapes weights span track sum node state end few known map top sta
     all-dropped [] = refl
     all-dropped (w ∷ weights) = all-dropped weights
 
-pub IsSumRow-test : (shapes : List Shape) (weights : List ℤ) (span : Span) (track : ℕ) (sum weight : ℤ) (low high node : ℕ) → track < length weights
+pub IsSumRow-test : {shapes : List Shape} {weights : List ℤ} {span : Span} (track : ℕ) {sum : ℤ} (weight : ℤ) (low high node : ℕ) → track < length weights
     → weight ≡ get_or weights track (pos 0) → node < length shapes → track ≤ top_track shapes node
     → ((letter : ℕ) → map_at shapes node letter ≡ chosen shapes track low high letter) → IsSumRow shapes weights span (track + 1) sum low
     → IsSumRow shapes weights span (track + 1) (sum +ℤ weight) high → IsSumRow shapes weights span track sum node
-IsSumRow-test shapes weights span track sum weight low high node within is known top map is_low is_high = record {
+IsSumRow-test {shapes} {weights} {span} track {sum} weight low high node within is known top map is_low is_high = record {
   known = known;
   map = λ letter.
       let split : drop track weights ≡ weight ∷ drop (track + 1) weights = drop_more weights track (pos 0) within ∙ ap (λ w. w ∷ drop (track + 1) weights) (sym is) in

@@ -72,8 +72,8 @@ pub record ReadsTotals (a : Automaton) (weight : ℕ → ℤ) (Stands : ℤ → 
   pub first : (letter : ℕ) → letter < width a → Stands (neg_ℤ (weight letter)) (first_state a letter)
   pub next : (x : ℤ) (state letter : ℕ) → state < length a.accept → letter < width a → Stands x state → Stands (step weight x letter) (next_state a state letter)
 
-next_within : (a : Automaton) (state letter : ℕ) → IsAutomaton a → state < length a.accept → letter < width a → next_state a state letter < length a.accept
-next_within a state letter is known below =
+next_within : {a : Automaton} (state letter : ℕ) → IsAutomaton a → state < length a.accept → letter < width a → next_state a state letter < length a.accept
+next_within {a} state letter is known below =
     is.next_within (state * width a + letter) 0
     (let size = is.next_size in place_within state (length a.accept) (width a) letter (length a.next) known below size)
   where
@@ -83,20 +83,20 @@ next_within a state letter is known below =
         mul-below : (state states width : ℕ) → state < states → state * width + width ≤ states * width
         mul-below state states width h = grind (arith, h)
 
-stands-run : (a : Automaton) (weight : ℕ → ℤ) (Stands : ℤ → ℕ → Type 0) → IsAutomaton a → ReadsTotals a weight Stands
+stands-run : {a : Automaton} {weight : ℕ → ℤ} {Stands : ℤ → ℕ → Type 0} → IsAutomaton a → ReadsTotals a weight Stands
     → (letters : List ℕ) (x : ℤ) (state : ℕ) → state < length a.accept
     → All (λ letter. letter < width a) letters → Stands x state → Stands (fold (step weight) x letters) (run a state letters) × (run a state letters < length a.accept)
-stands-run a weight Stands is reads [] x state known all here = (here, known)
-stands-run a weight Stands is reads (letter ∷ letters) x state known all here =
+stands-run {Stands = Stands} is reads [] x state known all here = (here, known)
+stands-run {a} {weight} {Stands = Stands} is reads (letter ∷ letters) x state known all here =
     let below = all 0 0 (omega arith) in
-    stands-run a weight Stands is reads letters (step weight x letter) (next_state a state letter) (next_within a state letter is known below)
+    stands-run is reads letters (step weight x letter) (next_state a state letter) (next_within state letter is known below)
     (λ i d h. all (suc i) d (omega arith)) (reads.next x state letter known below here)
 
-pub stands-state_of : (a : Automaton) (weight : ℕ → ℤ) (Stands : ℤ → ℕ → Type 0) → IsAutomaton a → ReadsTotals a weight Stands → (word : List ℕ) → IsWord (length a.tracks) word
+pub stands-state_of : {a : Automaton} {weight : ℕ → ℤ} {Stands : ℤ → ℕ → Type 0} → IsAutomaton a → ReadsTotals a weight Stands → {word : List ℕ} → IsWord (length a.tracks) word
     → Stands (total weight word) (state_of a word) × (state_of a word < length a.accept)
-stands-state_of a weight Stands is reads [] word = absurd (word.nonempty refl)
-stands-state_of a weight Stands is reads (sign ∷ letters) word =
+stands-state_of {Stands = Stands} is reads {word = []} word = absurd (word.nonempty refl)
+stands-state_of {a} {weight} {Stands = Stands} is reads {word = sign ∷ letters} word =
     let below = word.letters 0 0 (omega arith) in
     let size = is.first_size in
-    stands-run a weight Stands is reads letters (neg_ℤ (weight sign)) (first_state a sign) (is.first_within sign 0 (omega (arith, size, below)))
+    stands-run is reads letters (neg_ℤ (weight sign)) (first_state a sign) (is.first_within sign 0 (omega (arith, size, below)))
     (λ i d h. word.letters (suc i) d (omega arith)) (reads.first sign below)

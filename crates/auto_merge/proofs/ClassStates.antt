@@ -33,10 +33,10 @@ module _ {a : Automaton} {table owners : List ℕ} (over : IsOverNodes a) (valid
 
   module _ {picked : List ℕ} (is_picked : ArePicked a.row_nodes owners picked) where
     pub nodes_known : All (λ node. node < length a.shapes) picked
-    nodes_known = All-picked (λ node. node < length a.shapes) a.row_nodes owners picked is_picked owners_rows over.nodes.rows_known
+    nodes_known = All-picked (λ node. node < length a.shapes) picked is_picked owners_rows over.nodes.rows_known
 
     pub nodes_in_table : All (λ node. (letter : ℕ) → map_at a.shapes node letter < length table) picked
-    nodes_in_table = rw cl.size (All-picked (λ node. (letter : ℕ) → map_at a.shapes node letter < length a.accept) a.row_nodes owners picked is_picked owners_rows over.nodes.rows_within)
+    nodes_in_table = rw cl.size (All-picked (λ node. (letter : ℕ) → map_at a.shapes node letter < length a.accept) picked is_picked owners_rows over.nodes.rows_within)
 
     module _ {shapes : List Shape} {led : Led} (is_led : AreLed a.shapes shapes table a.first_node picked led) {flags : List Bool} (are_flags : AreFlags a owners flags) where
       row_led : (k : ℕ) → k < length owners → IsLedFrom a.shapes shapes table (get_or a.row_nodes (get_or owners k 0) 0) (get_or led.rows.items k 0)
@@ -45,8 +45,8 @@ module _ {a : Automaton} {table owners : List ℕ} (over : IsOverNodes a) (valid
       row_count : length led.rows.items ≡ length owners
       row_count = is_led.rows_led.size ∙ is_picked.size
 
-      led_narrow : (node made : ℕ) → LooksBelow a.shapes node (length a.tracks) → IsLedFrom a.shapes shapes table node made → LooksBelow shapes made (length a.tracks)
-      led_narrow node made narrow l = record { same = λ x y agree. l.map x ∙ ap (λ v. get_or table v 0) (narrow.same x y agree) ∙ sym (l.map y) }
+      led_narrow : {node : ℕ} (made : ℕ) → LooksBelow a.shapes node (length a.tracks) → IsLedFrom a.shapes shapes table node made → LooksBelow shapes made (length a.tracks)
+      led_narrow made narrow l = record { same = λ x y agree. l.map x ∙ ap (λ v. get_or table v 0) (narrow.same x y agree) ∙ sym (l.map y) }
 
       led_within : (node made : ℕ) → ((letter : ℕ) → map_at a.shapes node letter < length a.accept) → IsLedFrom a.shapes shapes table node made
           → (letter : ℕ) → map_at shapes made letter < length flags
@@ -73,13 +73,13 @@ module _ {a : Automaton} {table owners : List ℕ} (over : IsOverNodes a) (valid
             few_states = omega (arith, few, states, valid.few_states);
             rows_size = row_count ∙ sym states;
             first_known = is_led.first_led.known;
-            first_narrow = led_narrow a.first_node led.first over.nodes.first_narrow is_led.first_led;
+            first_narrow = led_narrow led.first over.nodes.first_narrow is_led.first_led;
             first_within = led_within a.first_node led.first over.nodes.first_within is_led.first_led;
             rows_known = All-from_get_or (λ node. node < length shapes) led.rows.items 0 (λ k h. (row_led k (omega (arith, row_count, h))).known);
             rows_narrow =
                 All-from_get_or (λ node. LooksBelow shapes node (length a.tracks)) led.rows.items 0
                 (λ k h. let w : k < length owners = omega (arith, row_count, h) in
-                led_narrow (get_or a.row_nodes (get_or owners k 0) 0) (get_or led.rows.items k 0) (row_narrow k w) (row_led k w));
+                led_narrow (get_or led.rows.items k 0) (row_narrow k w) (row_led k w));
             rows_within =
                 All-from_get_or (λ node. (letter : ℕ) → map_at shapes node letter < length flags) led.rows.items 0
                 (λ k h. let w : k < length owners = omega (arith, row_count, h) in
@@ -90,7 +90,7 @@ module _ {a : Automaton} {table owners : List ℕ} (over : IsOverNodes a) (valid
       IsMergedBy-classes = record {
         source = valid;
         over = over;
-        valid = IsAutomaton-dense a.tracks shapes led.first led.rows.items flags AreRows-classes;
+        valid = IsAutomaton-dense AreRows-classes;
         classes = cl;
         all = all;
         tracks = refl;
@@ -109,7 +109,7 @@ module _ (a : Automaton) (table owners : List ℕ) (m : Automaton) (q : IsMerged
   step state letter h below =
       let c = q.classes.classed state h (q.all state h) in
       let owner = get_or owners (get_or table state 0) 0 in
-      let rows = AreRowNodes-own a q.over in
+      let rows = AreRowNodes-own q.over in
       q.next (get_or table state 0) letter c.known below ∙ (elim c.rows [
         | inl same ↦ ap (λ s. get_or table (next_state a s letter) 0) same
         | inr settled ↦
@@ -122,19 +122,19 @@ module _ (a : Automaton) (table owners : List ℕ) (m : Automaton) (q : IsMerged
   runs (letter ∷ letters) state h letters_below =
       let below = All-head (λ l. l < width a) letter letters letters_below in
       let later = All-tail (λ l. l < width a) letter letters letters_below in
-      ap (λ s. run m s letters) (step state letter h below) ∙ runs letters (next_state a state letter) (next_within a q.source state letter) later
+      ap (λ s. run m s letters) (step state letter h below) ∙ runs letters (next_state a state letter) (next_within q.source state letter) later
 
-  pub words_lead : (word : List ℕ) → IsWord (length a.tracks) word → state_of m word ≡ get_or table (state_of a word) 0
-  words_lead [] w = absurd (w.nonempty refl)
-  words_lead (sign ∷ letters) w =
+  pub words_lead : {word : List ℕ} → IsWord (length a.tracks) word → state_of m word ≡ get_or table (state_of a word) 0
+  words_lead {word = []} w = absurd (w.nonempty refl)
+  words_lead {word = sign ∷ letters} w =
       ap (λ s. run m s letters) (q.first sign (All-head (λ l. l < width a) sign letters w.letters))
-      ∙ runs letters (first_state a sign) (first_within a q.source sign) (All-tail (λ l. l < width a) sign letters w.letters)
+      ∙ runs letters (first_state a sign) (first_within q.source sign) (All-tail (λ l. l < width a) sign letters w.letters)
 
   pub words_are : HasSameWords a m
   words_are word w =
-      let h = state_within a q.source word in
+      let h = state_within q.source word in
       let c = q.classes.classed (state_of a word) h (q.all (state_of a word) h) in
-      let flag : is_final m (state_of m word) ≡ is_final a (state_of a word) = ap (is_final m) (words_lead word w) ∙ q.final (get_or table (state_of a word) 0) c.known ∙ c.flag in
+      let flag : is_final m (state_of m word) ≡ is_final a (state_of a word) = ap (is_final m) (words_lead w) ∙ q.final (get_or table (state_of a word) 0) c.known ∙ c.flag in
       (λ p. sym flag ∙ p, λ p. flag ∙ p)
 
   pub reached : AllReached a → AllReached m
@@ -144,11 +144,11 @@ module _ (a : Automaton) (table owners : List ℕ) (m : Automaton) (q : IsMerged
       record {
         word = r.word;
         is_word = subst (λ ts. IsWord (length ts) r.word) (sym q.tracks) r.is_word;
-        leads = words_lead r.word r.is_word ∙ ap (λ s. get_or table s 0) r.leads ∙ q.classes.own class known;
+        leads = words_lead r.is_word ∙ ap (λ s. get_or table s 0) r.leads ∙ q.classes.own class known;
       }
 
-pub merged_words : (a m : Automaton) → IsMerged a m → HasSameWords a m
-merged_words a m q word w = words_are a q.table q.owners m q.merged word w
+pub merged_words : {a m : Automaton} → IsMerged a m → HasSameWords a m
+merged_words {a} {m} q word w = words_are a q.table q.owners m q.merged word w
 
-pub merged_reached : (a m : Automaton) → IsMerged a m → AllReached a → AllReached m
-merged_reached a m q = reached a q.table q.owners m q.merged
+pub merged_reached : {a m : Automaton} → IsMerged a m → AllReached a → AllReached m
+merged_reached {a} {m} q = reached a q.table q.owners m q.merged

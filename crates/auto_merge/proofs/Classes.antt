@@ -34,8 +34,8 @@ module _ {old new : List ℕ} {state class : ℕ} (given : IsClassGiven old new 
   pub some_kept : (other : ℕ) → get_or old other 0 ≢ NO_CLASS → get_or new other 0 ≢ NO_CLASS
   some_kept other some e = some (sym (class_kept other some) ∙ e)
 
-  pub RemembersGiven-give : (from shapes : List Shape) (memo : List (Option ℕ)) → RemembersGiven from shapes old memo → RemembersGiven from shapes new memo
-  RemembersGiven-give from shapes memo all = record {
+  pub RemembersGiven-give : {from shapes : List Shape} {memo : List (Option ℕ)} → RemembersGiven from shapes old memo → RemembersGiven from shapes new memo
+  RemembersGiven-give {from} all = record {
     given = λ a r at.
         let is = all.given a r at in
         record {
@@ -50,8 +50,8 @@ module _ {old new : List ℕ} {state class : ℕ} (given : IsClassGiven old new 
   }
 
   module _ (a : Automaton) where
-    IsSettled-give : (s t : ℕ) → IsSettled a old s t → IsSettled a new s t
-    IsSettled-give s t is = record {
+    IsSettled-give : {s t : ℕ} → IsSettled a old s t → IsSettled a new s t
+    IsSettled-give {s} {t} is = record {
       same = λ letter.
           let some = is.given letter in
           let other : class_at a old t letter ≢ NO_CLASS = λ e. some (is.same letter ∙ e) in
@@ -63,8 +63,8 @@ module _ {old new : List ℕ} {state class : ℕ} (given : IsClassGiven old new 
     At : List ℕ → List ℕ → ℕ → ℕ → Type 0
     At table owners s c = (c < length owners) × (is_final a (get_or owners c 0) ≡ is_final a s) × ((get_or owners c 0 ≡ s) ⊎ IsSettled a table s (get_or owners c 0))
 
-    pub IsClassed-give : (owners more : List ℕ) → Longer owners more → (s : ℕ) → get_or old s 0 ≢ NO_CLASS → IsClassed a old owners s → IsClassed a new more s
-    IsClassed-give owners more longer s some is =
+    pub IsClassed-give : {owners more : List ℕ} → Longer owners more → (s : ℕ) → get_or old s 0 ≢ NO_CLASS → IsClassed a old owners s → IsClassed a new more s
+    IsClassed-give {more} longer s some is =
         let c = get_or old s 0 in
         let known = is.known in
         let l = longer.longer in
@@ -73,7 +73,7 @@ module _ {old new : List ℕ} {state class : ℕ} (given : IsClassGiven old new 
         let P : ℕ → Type 0 = λ d. (get_or more d 0 ≡ s) ⊎ IsSettled a new s (get_or more d 0) in
         let rows : P (get_or old s 0) = elim is.rows [
           | inl same ↦ inl (own ∙ same)
-          | inr settled ↦ inr (subst (IsSettled a new s) (sym own) (IsSettled-give s _ settled))
+          | inr settled ↦ inr (subst (IsSettled a new s) (sym own) (IsSettled-give settled))
         ] in
         record {
           known = omega (arith, e, known, l);
@@ -81,9 +81,9 @@ module _ {old new : List ℕ} {state class : ℕ} (given : IsClassGiven old new 
           rows = subst P (sym e) rows;
         }
 
-    pub IsKeyed-give : (owners more : List ℕ) → Longer owners more → (shapes : List Shape) (flag : Bool) (node class' : ℕ)
+    pub IsKeyed-give : {owners more : List ℕ} → Longer owners more → {shapes : List Shape} {flag : Bool} {node class' : ℕ}
         → IsKeyed a old owners shapes flag node class' → IsKeyed a new more shapes flag node class'
-    IsKeyed-give owners more longer shapes flag node class' is =
+    IsKeyed-give {owners} longer {shapes} {node} {class'} is =
         let class_known = is.class_known in
         let l = longer.longer in
         let own = longer.kept class' is.class_known in
@@ -106,15 +106,15 @@ module _ {old new : List ℕ} {state class : ℕ} (given : IsClassGiven old new 
       kept = class_kept;
     }
 
-    pub AreKeyed-give : {S : Type 0} (owners more : List ℕ) → Longer owners more → (shapes : List Shape) (keyed : HashMap (Bool × ℕ) ℕ S)
+    pub AreKeyed-give : {S : Type 0} {owners more : List ℕ} → Longer owners more → {shapes : List Shape} {keyed : HashMap (Bool × ℕ) ℕ S}
         → AreKeyed a old owners shapes keyed → AreKeyed a new more shapes keyed
-    AreKeyed-give owners more longer shapes keyed all = record {
-      at = λ flag node class' at. IsKeyed-give owners more longer shapes flag node class' (all.at flag node class' at);
+    AreKeyed-give longer all = record {
+      at = λ flag node class' at. IsKeyed-give longer (all.at flag node class' at);
     }
 
     -- the state gets a class of its own
-    pub AreClasses-own : (owners : List ℕ) → IsAutomaton a → AreClasses a old owners → state < length a.accept → class ≡ length owners → AreClasses a new (owners ++ state ∷ [])
-    AreClasses-own owners valid all within is =
+    pub AreClasses-own : {owners : List ℕ} → IsAutomaton a → AreClasses a old owners → state < length a.accept → class ≡ length owners → AreClasses a new (owners ++ state ∷ [])
+    AreClasses-own {owners} valid all within is =
         let few = all.few in
         let states = valid.few_states in
         let fewer = given.fewer in
@@ -129,7 +129,7 @@ module _ {old new : List ℕ} {state class : ℕ} (given : IsClassGiven old new 
             | inl e ↦ subst (IsClassed a new (owners ++ state ∷ [])) e (record { known = omega (arith, here, size); flag = ap (is_final a) own_last; rows = inl own_last })
             | inr ne ↦
                 let was = given.others s (λ e. ne (sym e)) in
-                IsClassed-give owners (owners ++ state ∷ []) longer s (λ e. some (was ∙ e)) (all.classed s w (λ e. some (was ∙ e)))
+                IsClassed-give longer s (λ e. some (was ∙ e)) (all.classed s w (λ e. some (was ∙ e)))
           ];
           within = λ c h. elim (cases_lt c (length owners)) [
             | inl before ↦ subst (λ s. s < length a.accept) (sym (longer.kept c before)) (all.within c before)
@@ -147,9 +147,9 @@ module _ {old new : List ℕ} {state class : ℕ} (given : IsClassGiven old new 
         }
 
     -- the state gets the class of another, whose row leads to the same classes
-    pub AreClasses-shared : (owners : List ℕ) → IsAutomaton a → AreClasses a old owners → class < length owners
+    pub AreClasses-shared : {owners : List ℕ} → IsAutomaton a → AreClasses a old owners → class < length owners
         → is_final a (get_or owners class 0) ≡ is_final a state → IsSettled a new state (get_or owners class 0) → AreClasses a new owners
-    AreClasses-shared owners valid all known flag settled =
+    AreClasses-shared {owners} valid all known flag settled =
         let few = all.few in
         let states = valid.few_states in
         let fewer = given.fewer in
@@ -164,7 +164,7 @@ module _ {old new : List ℕ} {state class : ℕ} (given : IsClassGiven old new 
             })
             | inr ne ↦
                 let was = given.others s (λ e. ne (sym e)) in
-                IsClassed-give owners owners (Longer-same owners) s (λ e. some (was ∙ e)) (all.classed s w (λ e. some (was ∙ e)))
+                IsClassed-give (Longer-same owners) s (λ e. some (was ∙ e)) (all.classed s w (λ e. some (was ∙ e)))
           ];
           within = all.within;
           own = λ c h. let o = all.own c h in class_kept (get_or owners c 0) (λ e. absurd (omega (arith, o, e, h, few, states))) ∙ o;
@@ -172,9 +172,9 @@ module _ {old new : List ℕ} {state class : ℕ} (given : IsClassGiven old new 
         }
 
     -- a state with the key of a class leads to the same classes as its owner
-    pub IsSettled-key : (owners : List ℕ) (shapes : List Shape) (flag : Bool) (node : ℕ) → IsAutomaton a → AreClasses a old owners
+    pub IsSettled-key : {owners : List ℕ} {shapes : List Shape} {flag : Bool} {node : ℕ} → IsAutomaton a → AreClasses a old owners
         → IsKeyed a old owners shapes flag node class → IsKeyOf a old shapes state node → IsSettled a new state (get_or owners class 0)
-    IsSettled-key owners shapes flag node valid all keyed key =
+    IsSettled-key {owners} valid all keyed key =
         let few = all.few in
         let states = valid.few_states in
         let known = keyed.class_known in
@@ -198,8 +198,8 @@ module _ {old new : List ℕ} {state class : ℕ} (given : IsClassGiven old new 
         ] in
         record { same = λ letter. (at letter).0; given = λ letter. (at letter).1 }
 
-    pub IsSettled-join : (owners : List ℕ) → CanJoin a old owners state class → class ≢ NO_CLASS → IsSettled a new state (get_or owners class 0)
-    IsSettled-join owners can some =
+    pub IsSettled-join : {owners : List ℕ} → CanJoin a old owners state class → class ≢ NO_CLASS → IsSettled a new state (get_or owners class 0)
+    IsSettled-join {owners} can some =
         let owner = get_or owners class 0 in
         let here = given.here in
         let at : (letter : ℕ) → class_at a new state letter ≡ class_at a new (get_or owners class 0) letter = λ letter. elim (can.rows letter) [
@@ -209,9 +209,9 @@ module _ {old new : List ℕ} {state class : ℕ} (given : IsClassGiven old new 
         record { same = at; given = λ letter e. some_kept _ (can.given letter) (sym (at letter) ∙ e) }
 
     -- the key of a state that gets a class of its own
-    IsKeyed-own : (owners : List ℕ) (shapes : List Shape) (flag : Bool) (node : ℕ) → class ≡ length owners → is_final a state ≡ flag
+    IsKeyed-own : (owners : List ℕ) {shapes : List Shape} (flag : Bool) {node : ℕ} → class ≡ length owners → is_final a state ≡ flag
         → IsKeyOf a old shapes state node → IsKeyed a new (owners ++ state ∷ []) shapes flag node class
-    IsKeyed-own owners shapes flag node is flag_is key =
+    IsKeyed-own owners {shapes} flag {node} is flag_is key =
         let size = length_push owners state in
         let last : get_or (owners ++ state ∷ []) class 0 ≡ state = ap (λ k. get_or (owners ++ state ∷ []) k 0) is ∙ get_or_push owners state 0 (length owners) refl in
         record {
@@ -227,10 +227,10 @@ module _ {old new : List ℕ} {state class : ℕ} (given : IsClassGiven old new 
               subst P (sym last) at;
         }
 
-    pub AreKeyed-own : {S : Type 0} (owners : List ℕ) (shapes : List Shape) (flag : Bool) (node : ℕ) (keyed more : HashMap (Bool × ℕ) ℕ S)
+    pub AreKeyed-own : {S : Type 0} {owners : List ℕ} {shapes : List Shape} (flag : Bool) {node : ℕ} {keyed : HashMap (Bool × ℕ) ℕ S} (more : HashMap (Bool × ℕ) ℕ S)
         → class ≡ length owners → is_final a state ≡ flag → IsKeyOf a old shapes state node
         → Updates key_eq keyed more (flag, node) (Some class) → AreKeyed a old owners shapes keyed → AreKeyed a new (owners ++ state ∷ []) shapes more
-    AreKeyed-own owners shapes flag node keyed more is flag_is key updates all = record {
+    AreKeyed-own {owners} {shapes} flag {node} more is flag_is key updates all = record {
       at = λ f n c at. by f n c (key_eq (flag, node) (f, n)) refl at;
     }
       where
@@ -239,8 +239,8 @@ module _ {old new : List ℕ} {state class : ℕ} (given : IsClassGiven old new 
             let same = key_eq-true (flag, node) (f, n) e in
             let here : c ≡ class = grind (arith, common_steps, updates.1, at, same) in
             let P : Bool × ℕ → Type 0 = λ p. IsKeyed a new (owners ++ state ∷ []) shapes p.0 p.1 c in
-            subst P same (subst (IsKeyed a new (owners ++ state ∷ []) shapes flag node) (sym here) (IsKeyed-own owners shapes flag node is flag_is key))
-        by f n c false e at = IsKeyed-give owners (owners ++ state ∷ []) (Longer-push owners state) shapes f n c (all.at f n c (sym (updates.2 (f, n) e) ∙ at))
+            subst P same (subst (IsKeyed a new (owners ++ state ∷ []) shapes flag node) (sym here) (IsKeyed-own owners flag is flag_is key))
+        by f n c false e at = IsKeyed-give (Longer-push owners state) (all.at f n c (sym (updates.2 (f, n) e) ∙ at))
 
 -- a key that is there, of a state with its flag
 pub IsKeyed-at : {S : Type 0} {a : Automaton} {table owners : List ℕ} {shapes : List Shape} {keyed : HashMap (Bool × ℕ) ℕ S} {flag own : Bool} {node class : ℕ}
@@ -264,9 +264,9 @@ IsKeyOf-key a table shapes state key none is = record {
   ];
 }
 
-pub AreKeyed-grows : {S : Type 0} (a : Automaton) (table owners : List ℕ) (shapes after : List Shape) (keyed : HashMap (Bool × ℕ) ℕ S)
+pub AreKeyed-grows : {S : Type 0} {a : Automaton} {table owners : List ℕ} {shapes after : List Shape} {keyed : HashMap (Bool × ℕ) ℕ S}
     → Grows shapes after → AreKeyed a table owners shapes keyed → AreKeyed a table owners after keyed
-AreKeyed-grows a table owners shapes after keyed grows all = record {
+AreKeyed-grows grows all = record {
   at = λ flag node class at.
       let is = all.at flag node class at in
       let known = is.known in

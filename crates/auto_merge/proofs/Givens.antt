@@ -16,18 +16,18 @@ use Rattle.auto_merge.specs.declared.keys.NoKey.{NoKey}
 use Rattle.auto_merge.specs.declared.keys.NoKey.TheVariants.{Unclassed, Memory}
 use Rattle.auto_merge.specs.Keys.{IsKey, IsNoKey, IsGiven, IsOwn, Adds, RemembersGiven, RemembersOwn}
 
-pub IsLedFrom-grows : (from old new : List Shape) (table : List ℕ) (a r : ℕ) → Grows old new → IsLedFrom from old table a r → IsLedFrom from new table a r
-IsLedFrom-grows from old new table a r grows led = IsCarried-grows from from old new (λ letter. letter) (λ value. get_or table value 0) a r (Grows-refl from) grows led
+pub IsLedFrom-grows : (from : List Shape) {old new : List Shape} (table : List ℕ) (a r : ℕ) → Grows old new → IsLedFrom from old table a r → IsLedFrom from new table a r
+IsLedFrom-grows from table a r grows led = IsCarried-grows (Grows-refl from) grows led
 
 pub RemembersGiven-grows : {from old new : List Shape} {table : List ℕ} {memo : List (Option ℕ)} → Grows old new → RemembersGiven from old table memo → RemembersGiven from new table memo
 RemembersGiven-grows {from} {old} {new} {table} grows all = record {
-  given = λ a r at. let is = all.given a r at in record { led = IsLedFrom-grows from old new table a r grows is.led; whole = is.whole };
+  given = λ a r at. let is = all.given a r at in record { led = IsLedFrom-grows from table a r grows is.led; whole = is.whole };
 }
 
 pub RemembersOwn-grows : {from old new : List Shape} {table : List ℕ} {own : ℕ} {memo : List (Option ℕ)}
     → Grows old new → RemembersOwn from old table own memo → RemembersOwn from new table own memo
 RemembersOwn-grows {from} {old} {new} {table} grows all = record {
-  own_at = λ a r at. let is = all.own_at a r at in record { led = IsLedFrom-grows from old new table a r grows is.led; own_only = is.own_only };
+  own_at = λ a r at. let is = all.own_at a r at in record { led = IsLedFrom-grows from table a r grows is.led; own_only = is.own_only };
 }
 
 pub RemembersCarried-given : {from shapes : List Shape} {table : List ℕ} {memo : List (Option ℕ)} → RemembersGiven from shapes table memo
@@ -98,7 +98,7 @@ pub IsKey-test : {from old mid shapes : List Shape} {table : List ℕ} {own a tr
 IsKey-test {from} {old} {mid} {shapes} {table} {own} {a} {track} {low} {high} {r} {l} {h} at fits lk grows hk more is known map top whole = record {
   led = subst (IsLedFrom from shapes table a) (sym is)
       (Carries-test (by_table from table) mid mid shapes a r track low high l.node h.node at fits (Grows-refl mid) more
-      (IsLedFrom-grows from old mid table low l.node grows lk.led) hk.led known map (λ _. top));
+      (IsLedFrom-grows from table low l.node grows lk.led) hk.led known map (λ _. top));
   own_only = λ letter.
       let P : ℕ → Type 0 = λ v. (get_or table v 0 ≢ NO_CLASS) ⊎ (v ≡ own) in
       subst P (sym (at.map letter)) (either P (nat_eq (bit_at letter track) 0) (map_at from low letter) (map_at from high letter) (lk.own_only letter) (hk.own_only letter));

@@ -26,18 +26,18 @@ pub no-row : (rows : List ℕ) (from : ℕ) → length rows ≤ from → slice_g
 no-row rows from h = slice_get_past rows from h
 
 -- nothing is given where there is no row
-pub IsGuarded-none : (shapes : List Shape) (sets : List (List ℕ)) (rows : List ℕ) (from node guarded : ℕ) → IsNothing shapes sets guarded → slice_get rows from ≡ None
+pub IsGuarded-none : {shapes : List Shape} {sets : List (List ℕ)} (rows : List ℕ) (from node : ℕ) {guarded : ℕ} → IsNothing shapes sets guarded → slice_get rows from ≡ None
     → IsGuarded shapes sets rows from node guarded
-IsGuarded-none shapes sets rows from node guarded nothing none = record {
+IsGuarded-none rows from node nothing none = record {
   is = nothing.is;
   has = λ row letter state at c d. cc;
   only = λ letter state c. absurd (nothing.none letter state c);
 }
 
 -- what joining a state's row gives
-pub IsGuarded-joined : (shapes : List Shape) (sets : List (List ℕ)) (rows : List ℕ) (from row node guarded : ℕ) → slice_get rows from ≡ Some row
+pub IsGuarded-joined : {shapes : List Shape} {sets : List (List ℕ)} (rows : List ℕ) {from row node guarded : ℕ} → slice_get rows from ≡ Some row
     → IsJoined shapes sets from node row guarded → IsGuarded shapes sets rows from node guarded
-IsGuarded-joined shapes sets rows from row node guarded at joined = record {
+IsGuarded-joined {shapes} {sets} rows {row} at joined = record {
   is = record { known = joined.known; numbered = λ letter. (joined.joins letter).known };
   has = λ other letter state at' there c.
       let same : other ≡ row = same_Some _ _ (sym at' ∙ at) in
@@ -72,10 +72,10 @@ pub record IsSweeping (shapes : List Shape) (sets : List (List ℕ)) (a : Automa
       → Contains (set_of shapes sets node letter) (slice_index states i) → Contains (set_of shapes sets row letter) state
       → HasOne shapes sets nodes letter state
 
-pub IsSweeping-first : (shapes : List Shape) (sets : List (List ℕ)) (a : Automaton) (some : List Var) (rows states : List ℕ) (node : ℕ) (nodes : List ℕ)
+pub IsSweeping-first : {shapes : List Shape} {sets : List (List ℕ)} {a : Automaton} {some : List Var} {rows : List ℕ} (states : List ℕ) {node : ℕ} (nodes : List ℕ)
     → AreSetRows shapes sets a some rows → IsLedRow shapes sets a some node
     → ((letter state : ℕ) → Contains (set_of shapes sets node letter) state → Contains states state) → nodes ≡ node ∷ [] → IsSweeping shapes sets a some rows states node nodes 0
-IsSweeping-first shapes sets a some rows states node nodes are led all e = subst (λ l. IsSweeping shapes sets a some rows states node l 0) (sym e) (record {
+IsSweeping-first {shapes} {sets} {a} {some} {rows} states {node} nodes are led all e = subst (λ l. IsSweeping shapes sets a some rows states node l 0) (sym e) (record {
   are_rows = are;
   led = led;
   all = all;
@@ -95,27 +95,27 @@ module _ (shapes more : List Shape) (sets sets' : List (List ℕ)) (a : Automato
   sets-of one c = All-contains (HasSets shapes sets) nodes one so_far.have_sets c
 
   rows_now : AreSetRows more sets' a some rows
-  rows_now = AreSetRows-kept shapes more sets sets' grows kept a some rows so_far.are_rows
+  rows_now = AreSetRows-kept shapes more sets sets' grows kept so_far.are_rows
 
   led_now : IsLedRow more sets' a some node
-  led_now = IsLedRow-kept shapes more sets sets' grows kept a some node so_far.led
+  led_now = IsLedRow-kept shapes more sets sets' grows kept so_far.led
 
   nodes-kept : (one : ℕ) → Contains nodes one → HasSets more sets' one
-  nodes-kept one c = HasSets-grows shapes more sets sets' one grows kept (sets-of one c)
+  nodes-kept one c = HasSets-grows grows kept (sets-of one c)
 
   all_now : (letter state : ℕ) → Contains (set_of more sets' node letter) state → Contains states state
-  all_now letter state c = so_far.all letter state (had shapes more sets sets' grows kept node letter state so_far.led.is c)
+  all_now letter state c = so_far.all letter state (had shapes more sets sets' grows kept letter state so_far.led.is c)
 
   from_now : (one letter state : ℕ) → Contains nodes one → Contains (set_of more sets' one letter) state
       → Contains (set_of more sets' node letter) state ⊎ Gives more sets' rows node letter state
-  from_now one letter state c d = elim (so_far.from one letter state c (had shapes more sets sets' grows kept one letter state (sets-of one c) d)) [
-    | inl e ↦ inl (has-kept shapes more sets sets' grows kept node letter state so_far.led.is e)
+  from_now one letter state c d = elim (so_far.from one letter state c (had shapes more sets sets' grows kept letter state (sets-of one c) d)) [
+    | inl e ↦ inl (has-kept shapes more sets sets' grows kept letter state so_far.led.is e)
     | inr g ↦ inr (record {
       from = g.from;
       row = g.row;
       is = g.is;
-      there = has-kept shapes more sets sets' grows kept node letter g.from so_far.led.is g.there;
-      given = has-kept shapes more sets sets' grows kept g.row letter state (so_far.are_rows.each g.from g.row g.is).is g.given;
+      there = has-kept shapes more sets sets' grows kept letter g.from so_far.led.is g.there;
+      given = has-kept shapes more sets sets' grows kept letter state (so_far.are_rows.each g.from g.row g.is).is g.given;
     })
   ]
 
@@ -123,13 +123,13 @@ module _ (shapes more : List Shape) (sets sets' : List (List ℕ)) (a : Automato
       → Contains (set_of more sets' node letter) (slice_index states i) → Contains (set_of more sets' row letter) state → HasOne more sets' nodes letter state
   done_now i row letter state h within at c d =
       let h' =
-      so_far.done i row letter state h within at (had shapes more sets sets' grows kept node letter (slice_index states i) so_far.led.is c)
-      (had shapes more sets sets' grows kept row letter state (so_far.are_rows.each (slice_index states i) row at).is d) in
-      record { one = h'.one; among = h'.among; has = has-kept shapes more sets sets' grows kept h'.one letter state (sets-of h'.one h'.among) h'.has }
+      so_far.done i row letter state h within at (had shapes more sets sets' grows kept letter (slice_index states i) so_far.led.is c)
+      (had shapes more sets sets' grows kept letter state (so_far.are_rows.each (slice_index states i) row at).is d) in
+      record { one = h'.one; among = h'.among; has = has-kept shapes more sets sets' grows kept letter state (sets-of h'.one h'.among) h'.has }
 
   -- one more guarded row
-  pub IsSweeping-step : (guarded : ℕ) → IsGuarded more sets' rows (slice_index states count) node guarded → IsSweeping more sets' a some rows states node (nodes ++ guarded ∷ []) (count + 1)
-  IsSweeping-step guarded step = record {
+  pub IsSweeping-step : {guarded : ℕ} → IsGuarded more sets' rows (slice_index states count) node guarded → IsSweeping more sets' a some rows states node (nodes ++ guarded ∷ []) (count + 1)
+  IsSweeping-step {guarded} step = record {
     are_rows = rows_now;
     led = led_now;
     all = all_now;
@@ -191,7 +191,7 @@ module _ (shapes more : List Shape) (sets sets' : List (List ℕ)) (a : Automato
       };
       led = λ letter state below c. elim (either letter state c) [
         | inl l ↦ led_now.led letter state below l
-        | inr g ↦ LiftLeads-follows a some letter g.from state (led_now.led letter g.from below g.there) (((rows_now.each g.from g.row g.is).members letter state below).0 g.given)
+        | inr g ↦ LiftLeads-follows a some (led_now.led letter g.from below g.there) (((rows_now.each g.from g.row g.is).members letter state below).0 g.given)
       ];
     }
 
@@ -215,13 +215,13 @@ pub record IsClosing (shapes : List Shape) (sets : List (List ℕ)) (a : Automat
 set-ascends : (sets : List (List ℕ)) (number : ℕ) → number < length sets → All IsStrictlyIncreasing sets → IsStrictlyIncreasing (set_at sets number)
 set-ascends sets number h all = All-get_or IsStrictlyIncreasing sets number [] h all
 
-pub IsClosing-first : (shapes : List Shape) (sets : List (List ℕ)) (a : Automaton) (some : List Var) (rows : List ℕ) (node : ℕ)
+pub IsClosing-first : {shapes : List Shape} {sets : List (List ℕ)} {a : Automaton} {some : List Var} {rows : List ℕ} {node : ℕ}
     → AreSetRows shapes sets a some rows → All IsStrictlyIncreasing sets
     → IsSetRow shapes sets (length some) node (Begins a some) → IsClosing shapes sets a some rows node 0
-IsClosing-first shapes sets a some rows node are ascend first = record {
+IsClosing-first {a} {some} are ascend first = record {
   are_rows = are;
   ascend = ascend;
-  led = record { is = first.is; narrow = first.narrow; led = λ letter state below c. LiftLeads-begins a some letter state ((first.members letter state below).0 c) };
+  led = record { is = first.is; narrow = first.narrow; led = λ letter state below c. LiftLeads-begins a some ((first.members letter state below).0 c) };
   begins = λ letter state below b. (first.members letter state below).1 b;
   progress = λ letter below. inr (omega arith);
 }
@@ -234,27 +234,27 @@ module _ (shapes more : List Shape) (sets sets' : List (List ℕ)) (a : Automato
       → (state : ℕ) → LiftLeads a some (letter ∷ []) state → Contains (set_of more sets' node letter) state
   closed-at letter below back =
       LiftLeads-in a some letter (set_of more sets' node letter)
-      (λ state b. has-kept shapes more sets sets' grows kept node letter state so_far.led.is (so_far.begins letter state below b))
+      (λ state b. has-kept shapes more sets sets' grows kept letter state so_far.led.is (so_far.begins letter state below b))
       (λ from state c f.
       let inside = led_within from c in
       let size = so_far.are_rows.size in
       let at = slice_get-get_or rows from 0 (omega (arith, size, inside)) in
-      let row = (AreSetRows-kept shapes more sets sets' grows kept a some rows so_far.are_rows).each from (get_or rows from 0) at in
+      let row = (AreSetRows-kept shapes more sets sets' grows kept so_far.are_rows).each from (get_or rows from 0) at in
       back state (swept.has from (get_or rows from 0) letter state at c ((row.members letter state below).1 f)))
     where
       led_within : (from : ℕ) → Contains (set_of more sets' node letter) from → from < length a.accept
       led_within from c =
-          let l = so_far.led.led letter from below (had shapes more sets sets' grows kept node letter from so_far.led.is c) in
-          subst (λ n. n < length a.accept) l.leads (state_within a valid l.lift)
+          let l = so_far.led.led letter from below (had shapes more sets sets' grows kept letter from so_far.led.is c) in
+          subst (λ n. n < length a.accept) l.leads (state_within valid l.lift)
 
   pub IsClosing-step : IsClosing more sets' a some rows next (round + 1)
   IsClosing-step = record {
-    are_rows = AreSetRows-kept shapes more sets sets' grows kept a some rows so_far.are_rows;
+    are_rows = AreSetRows-kept shapes more sets sets' grows kept so_far.are_rows;
     ascend = ascend;
     led = led;
-    begins = λ letter state below b. swept.wider letter state (has-kept shapes more sets sets' grows kept node letter state so_far.led.is (so_far.begins letter state below b));
+    begins = λ letter state below b. swept.wider letter state (has-kept shapes more sets sets' grows kept letter state so_far.led.is (so_far.begins letter state below b));
     progress = λ letter below. elim (so_far.progress letter below) [
-      | inl done ↦ inl (λ state l. swept.wider letter state (has-kept shapes more sets sets' grows kept node letter state so_far.led.is (done state l)))
+      | inl done ↦ inl (λ state l. swept.wider letter state (has-kept shapes more sets sets' grows kept letter state so_far.led.is (done state l)))
       | inr many ↦ elim (all_in_or_one_not (set_of more sets' next letter) (set_of more sets' node letter)) [
         | inl back ↦ inl (λ state l. swept.wider letter state (closed-at letter below back state l))
         | inr new ↦ inr (
@@ -262,7 +262,7 @@ module _ (shapes more : List Shape) (sets sets' : List (List ℕ)) (a : Automato
             let longer =
             length-wider (set_of more sets' node letter) (set_of more sets' next letter) new.0
             (set-ascends sets' (map_at more node letter) numbered ascend) (λ s c. swept.wider letter s c) new.1 new.2 in
-            let same = ap length (stays shapes more sets sets' grows kept node letter so_far.led.is) in
+            let same = ap length (stays shapes more sets sets' grows kept letter so_far.led.is) in
             omega (arith, many, longer, same))
       ]
     ];
@@ -271,7 +271,7 @@ module _ (shapes more : List Shape) (sets sets' : List (List ℕ)) (a : Automato
   -- where sweeping changes nothing, each set is closed
   pub IsSetRow-same : next ≡ node → IsSetRow more sets' (length some) node (λ letter state. LiftLeads a some (letter ∷ []) state)
   IsSetRow-same e =
-      let now = IsLedRow-kept shapes more sets sets' grows kept a some node so_far.led in
+      let now = IsLedRow-kept shapes more sets sets' grows kept so_far.led in
       record {
         is = now.is;
         narrow = now.narrow;
@@ -279,10 +279,10 @@ module _ (shapes more : List Shape) (sets sets' : List (List ℕ)) (a : Automato
       }
 
 -- after as many rounds as states each set is closed, since none has more states
-pub IsSetRow-last : (shapes : List Shape) (sets : List (List ℕ)) (a : Automaton) (some : List Var) (rows : List ℕ) (node round : ℕ) → IsAutomaton a → length rows ≤ round
+pub IsSetRow-last : {shapes : List Shape} {sets : List (List ℕ)} {a : Automaton} {some : List Var} {rows : List ℕ} {node : ℕ} (round : ℕ) → IsAutomaton a → length rows ≤ round
     → IsClosing shapes sets a some rows node round
     → IsSetRow shapes sets (length some) node (λ letter state. LiftLeads a some (letter ∷ []) state)
-IsSetRow-last shapes sets a some rows node round valid enough so_far = record {
+IsSetRow-last {shapes} {sets} {a} {node} round valid enough so_far = record {
   is = so_far.led.is;
   narrow = so_far.led.narrow;
   members = λ letter state below. (
@@ -294,10 +294,10 @@ IsSetRow-last shapes sets a some rows node round valid enough so_far = record {
         | inr new ↦
             let size = so_far.are_rows.size in
             let numbered = so_far.led.is.numbered letter in
-            let within = subst (λ n. n < length a.accept) l.leads (state_within a valid l.lift) in
+            let within = subst (λ n. n < length a.accept) l.leads (state_within valid l.lift) in
             let fewer = length-wider (set_of shapes sets node letter) (range_with_len 0 (length a.accept)) state (set-ascends sets (map_at shapes node letter) numbered so_far.ascend)
             (λ t c. Contains-range (length a.accept) t
-            (let k = so_far.led.led letter t below c in subst (λ n. n < length a.accept) k.leads (state_within a valid k.lift)))
+            (let k = so_far.led.led letter t below c in subst (λ n. n < length a.accept) k.leads (state_within valid k.lift)))
             (Contains-range (length a.accept) state within) new in
             let count = length-range_with_len 0 (length a.accept) in
             absurd (omega (arith, many, fewer, size, enough, count))

@@ -27,16 +27,16 @@ pub record AreSingletonsSoFar (sets : List (List ℕ)) (count : ℕ) : Type 0 wh
 same_single : (m n : ℕ) → m ∷ [] ≡ n ∷ [] → m ≡ n
 same_single m n e = cc
 
-pub AreSingletonsSoFar-push : (old new : List (List ℕ)) (count number : ℕ) → NumbersSet old new (count ∷ []) → slice_get new number ≡ Some (count ∷ [])
+pub AreSingletonsSoFar-push : {old : List (List ℕ)} (new : List (List ℕ)) {count : ℕ} (number : ℕ) → NumbersSet old new (count ∷ []) → slice_get new number ≡ Some (count ∷ [])
     → AreSingletonsSoFar old count → AreSingletonsSoFar new (count + 1)
-AreSingletonsSoFar-push old new count number (inl e) at are =
+AreSingletonsSoFar-push {old} new {count} number (inl e) at are =
     let at' : slice_get old number ≡ Some (count ∷ []) = ap (λ l. slice_get l number) (sym e) ∙ at in
     let within = slice_get_within old number (count ∷ []) at' in
     let size = are.size in
     let single = are.single number (omega (arith, within, size)) in
     let same = same_single number count (same_Some _ _ (sym single ∙ at')) in
     absurd (omega (arith, within, size, same))
-AreSingletonsSoFar-push old new count number (inr (e, absent)) at are = record {
+AreSingletonsSoFar-push {old} new {count} number (inr (e, absent)) at are = record {
   size = let l = ap length e ∙ length_push old (count ∷ []) in let s = are.size in omega (arith, l, s);
   single = λ k h. elim (cases_lt k count) [
     | inl less ↦ (SetsKept-numbers old new (count ∷ []) (inr (e, absent))).at k (k ∷ []) (are.single k less)
@@ -48,8 +48,8 @@ AreSingletonsSoFar-push old new count number (inr (e, absent)) at are = record {
   ];
 }
 
-pub AreSingletons-all : (sets : List (List ℕ)) (count : ℕ) → AreSingletonsSoFar sets count → AreSingletons sets count
-AreSingletons-all sets count are = record { enough = let s = are.size in omega (arith, s); single = are.single }
+pub AreSingletons-all : {sets : List (List ℕ)} {count : ℕ} → AreSingletonsSoFar sets count → AreSingletons sets count
+AreSingletons-all are = record { enough = let s = are.size in omega (arith, s); single = are.single }
 
 pub AreSingletonsSoFar-none : (sets : List (List ℕ)) → sets ≡ [] → AreSingletonsSoFar sets 0
 AreSingletonsSoFar-none sets e = record { size = ap length e; single = λ number h. absurd (omega arith) }
@@ -59,17 +59,17 @@ pub record AreJoinedSoFar (sets : List (List ℕ)) (only : ℕ) (pairs : List (�
   pub size : length table ≡ count
   pub each : (i a b : ℕ) → i < count → slice_get pairs i ≡ Some (a, b) → IsJoinedSet sets only a b (slice_index table i)
 
-pub AreJoinedSoFar-push : (sets sets' : List (List ℕ)) (only : ℕ) (pairs : List (ℕ × ℕ)) (table : List ℕ) (count number : ℕ) (pair : ℕ × ℕ) → SetsKept sets sets'
+pub AreJoinedSoFar-push : {sets sets' : List (List ℕ)} {only : ℕ} {pairs : List (ℕ × ℕ)} {table : List ℕ} {count number : ℕ} (pair : ℕ × ℕ) → SetsKept sets sets'
     → slice_get pairs count ≡ Some pair → AreJoinedSoFar sets only pairs table count
     → IsJoinedSet sets' only pair.0 pair.1 number → AreJoinedSoFar sets' only pairs (table ++ number ∷ []) (count + 1)
-AreJoinedSoFar-push sets sets' only pairs table count number pair kept at so_far here = record {
+AreJoinedSoFar-push {sets'} {only} {pairs} {table} {count} {number} pair kept at so_far here = record {
   size = let l = length_push table number in let s = so_far.size in omega (arith, l, s);
   each = λ i a b h at'.
       let s = so_far.size in
       elim (cases_lt i count) [
         | inl less ↦
             let e = get_or_append_left table (number ∷ []) 0 i (omega (arith, s, less)) in
-            subst (IsJoinedSet sets' only a b) (sym e) (IsJoinedSet-kept sets sets' only a b (slice_index table i) kept (so_far.each i a b less at'))
+            subst (IsJoinedSet sets' only a b) (sym e) (IsJoinedSet-kept kept (so_far.each i a b less at'))
         | inr more ↦
             let same : i ≡ count = omega arith in
             let e = get_or_push table number 0 i (s ∙ sym same) in
@@ -78,17 +78,17 @@ AreJoinedSoFar-push sets sets' only pairs table count number pair kept at so_far
       ];
 }
 
-pub AreJoinedSets-all : (sets : List (List ℕ)) (only : ℕ) (pairs : List (ℕ × ℕ)) (table : List ℕ) (count : ℕ) → count ≡ length pairs → AreJoinedSoFar sets only pairs table count
+pub AreJoinedSets-all : {sets : List (List ℕ)} {only : ℕ} {pairs : List (ℕ × ℕ)} {table : List ℕ} {count : ℕ} → count ≡ length pairs → AreJoinedSoFar sets only pairs table count
     → AreJoinedSets sets only pairs table
-AreJoinedSets-all sets only pairs table count all so_far = record {
+AreJoinedSets-all {pairs} all so_far = record {
   size = so_far.size ∙ all;
   each = λ i a b at. so_far.each i a b (let h = slice_get_within pairs i (a, b) at in omega (arith, h, all)) at;
 }
 
 -- the pairs of values of two nodes are pairs of known numbers
-pub pairs-known : (shapes : List Shape) (sets : List (List ℕ)) (pairs : List (ℕ × ℕ)) (a b from : ℕ) → from ≡ 0 → HasSets shapes sets a → HasSets shapes sets b
+pub pairs-known : {shapes : List Shape} {sets : List (List ℕ)} {pairs : List (ℕ × ℕ)} {a b from : ℕ} → from ≡ 0 → HasSets shapes sets a → HasSets shapes sets b
     → AreAnswers shapes from pairs a b → All (λ (pair : ℕ × ℕ). (pair.0 < length sets) × (pair.1 < length sets)) pairs
-pairs-known shapes sets pairs a b from none a_sets b_sets answers = All-from_get_or (λ (pair : ℕ × ℕ). (pair.0 < length sets) × (pair.1 < length sets)) pairs (0, 0) (λ i h.
+pairs-known {shapes} {sets} {pairs} {a} {b} none a_sets b_sets answers = All-from_get_or (λ (pair : ℕ × ℕ). (pair.0 < length sets) × (pair.1 < length sets)) pairs (0, 0) (λ i h.
     let one = answers.answer i (omega (arith, none)) h in
     let e : (map_at shapes a one.0, map_at shapes b one.0) ≡ get_or pairs i (0, 0) = same_Some _ _ (sym one.1 ∙ slice_get-get_or pairs i (0, 0) h) in
     subst (λ (pair : ℕ × ℕ). (pair.0 < length sets) × (pair.1 < length sets)) e (a_sets.numbered one.0, b_sets.numbered one.0))
@@ -126,36 +126,36 @@ IsNothing-made shapes sets empty node at known constant =
     }
 
 -- the union of two unions
-pub IsUnionOf-both : (s1 s2 s3 : List Shape) (t1 t2 t3 : List (List ℕ)) (s0 : List Shape) (t0 : List (List ℕ)) (nodes front back : List ℕ) (a b node : ℕ) → nodes ≡ front ++ back
+pub IsUnionOf-both : {s1 s2 s3 : List Shape} {t1 t2 t3 : List (List ℕ)} (s0 : List Shape) (t0 : List (List ℕ)) (nodes : List ℕ) {front back : List ℕ} {a b node : ℕ} → nodes ≡ front ++ back
     → All (HasSets s0 t0) front → All (HasSets s0 t0) back
     → Grows s0 s1 → SetsKept t0 t1 → Grows s1 s2 → SetsKept t1 t2 → Grows s2 s3 → SetsKept t2 t3 → IsUnionOf s1 t1 front a → IsUnionOf s2 t2 back b → IsUnited s3 t3 a b node
     → IsUnionOf s3 t3 nodes node
-IsUnionOf-both s1 s2 s3 t1 t2 t3 s0 t0 nodes front back a b node same front_sets back_sets g1 k1 g2 k2 g3 k3 of_front of_back both =
+IsUnionOf-both {s1} {s2} {s3} {t1} {t2} {t3} s0 t0 nodes {front} {back} {node} same front_sets back_sets g1 k1 g2 k2 g3 k3 of_front of_back both =
     subst (λ l. IsUnionOf s3 t3 l node) (sym same) (record {
       is = record { known = both.known; numbered = λ letter. (both.map letter).known };
       members = λ letter state. (to letter state, from letter state);
     })
   where
     front_at : (one : ℕ) → Contains front one → HasSets s1 t1 one
-    front_at one c = HasSets-grows s0 s1 t0 t1 one g1 k1 (All-contains (HasSets s0 t0) front one front_sets c)
+    front_at one c = HasSets-grows g1 k1 (All-contains (HasSets s0 t0) front one front_sets c)
 
     back_at : (one : ℕ) → Contains back one → HasSets s2 t2 one
-    back_at one c = HasSets-grows s1 s2 t1 t2 one g2 k2 (HasSets-grows s0 s1 t0 t1 one g1 k1 (All-contains (HasSets s0 t0) back one back_sets c))
+    back_at one c = HasSets-grows g2 k2 (HasSets-grows g1 k1 (All-contains (HasSets s0 t0) back one back_sets c))
 
     far : Grows s1 s3
-    far = Grows-trans s1 s2 s3 g2 g3
+    far = Grows-trans g2 g3
 
     far_kept : SetsKept t1 t3
-    far_kept = SetsKept-trans t1 t2 t3 k2 k3
+    far_kept = SetsKept-trans k2 k3
 
     to : (letter state : ℕ) → Contains (set_of s3 t3 node letter) state → (one : ℕ) × Contains (front ++ back) one × Contains (set_of s3 t3 one letter) state
     to letter state c = elim (((both.map letter).members state).0 c) [
       | inl l ↦
-          let o = (of_front.members letter state).0 (had s1 s3 t1 t3 far far_kept a letter state of_front.is l) in
-          (o.0, Contains-append_left front back o.0 o.1, has-kept s1 s3 t1 t3 far far_kept o.0 letter state (front_at o.0 o.1) o.2)
+          let o = (of_front.members letter state).0 (had s1 s3 t1 t3 far far_kept letter state of_front.is l) in
+          (o.0, Contains-append_left front back o.0 o.1, has-kept s1 s3 t1 t3 far far_kept letter state (front_at o.0 o.1) o.2)
       | inr r ↦
-          let o = (of_back.members letter state).0 (had s2 s3 t2 t3 g3 k3 b letter state of_back.is r) in
-          (o.0, Contains-append_right front back o.0 o.1, has-kept s2 s3 t2 t3 g3 k3 o.0 letter state (back_at o.0 o.1) o.2)
+          let o = (of_back.members letter state).0 (had s2 s3 t2 t3 g3 k3 letter state of_back.is r) in
+          (o.0, Contains-append_right front back o.0 o.1, has-kept s2 s3 t2 t3 g3 k3 letter state (back_at o.0 o.1) o.2)
     ]
 
     from : (letter state : ℕ) → ((one : ℕ) × Contains (front ++ back) one × Contains (set_of s3 t3 one letter) state) → Contains (set_of s3 t3 node letter) state
@@ -163,13 +163,13 @@ IsUnionOf-both s1 s2 s3 t1 t2 t3 s0 t0 nodes front back a b node same front_sets
       | inl l ↦
           ((both.map letter).members state).1
           (inl
-          (has-kept s1 s3 t1 t3 far far_kept a letter state of_front.is
-          ((of_front.members letter state).1 (one, l, had s1 s3 t1 t3 far far_kept one letter state (front_at one l) d))))
+          (has-kept s1 s3 t1 t3 far far_kept letter state of_front.is
+          ((of_front.members letter state).1 (one, l, had s1 s3 t1 t3 far far_kept letter state (front_at one l) d))))
       | inr r ↦
           ((both.map letter).members state).1
           (inr
-          (has-kept s2 s3 t2 t3 g3 k3 b letter state of_back.is
-          ((of_back.members letter state).1 (one, r, had s2 s3 t2 t3 g3 k3 one letter state (back_at one r) d))))
+          (has-kept s2 s3 t2 t3 g3 k3 letter state of_back.is
+          ((of_back.members letter state).1 (one, r, had s2 s3 t2 t3 g3 k3 letter state (back_at one r) d))))
     ]
 
 -- a part of nodes with sets
@@ -201,9 +201,9 @@ map-contains f (y ∷ ys) x c = elim (Contains-cases y ys x c) [
   | inr later ↦ Contains-cons (f y) (map f ys) (f x) (map-contains f ys x later)
 ]
 
-pub IsUnionRow-from : (shapes : List Shape) (sets : List (List ℕ)) (rows set nodes : List ℕ) (node : ℕ) → nodes ≡ map (slice_index rows) set → IsUnionOf shapes sets nodes node
+pub IsUnionRow-from : {shapes : List Shape} {sets : List (List ℕ)} (rows set : List ℕ) {nodes : List ℕ} {node : ℕ} → nodes ≡ map (slice_index rows) set → IsUnionOf shapes sets nodes node
     → IsUnionRow shapes sets rows set node
-IsUnionRow-from shapes sets rows set nodes node same union = record {
+IsUnionRow-from {shapes} {sets} rows set same union = record {
   is = union.is;
   members = λ letter state. (
     λ c.
@@ -226,6 +226,6 @@ picked-sets shapes sets rows set nodes same within all =
     subst (HasSets shapes sets) p.2 (all p.0 0 (All-contains (λ state. state < length rows) set p.0 within p.1)))
 
 -- each leaf is the number of a set
-pub leaves-known : (shapes : List Shape) (sets : List (List ℕ)) (node : ℕ) (leaves : List ℕ) → HasSets shapes sets node
+pub leaves-known : {shapes : List Shape} {sets : List (List ℕ)} {node : ℕ} {leaves : List ℕ} → HasSets shapes sets node
     → AreLeaves shapes node leaves → All (λ leaf. leaf < length sets) leaves
-leaves-known shapes sets node leaves is are = All-from_get_or (λ leaf. leaf < length sets) leaves 0 (λ i h. let one = are.given i h in subst (λ n. n < length sets) one.1 (is.numbered one.0))
+leaves-known {sets} {leaves} is are = All-from_get_or (λ leaf. leaf < length sets) leaves 0 (λ i h. let one = are.given i h in subst (λ n. n < length sets) one.1 (is.numbered one.0))

@@ -120,9 +120,9 @@ module _ (all : List Var) (x : Var) (up : IsAscending all) where
       ∙ ap (bit_at bit) (let e : length (without_var x all) - length (without_var x all) ≡ 0 = omega arith in e) ∙ bit_at_lowest bit ∙ (let e : bit % 2 ≡ bit = omega arith in e)
 
   -- a letter with a bit on the lost track is read as the longer letter
-  pub lengthened-with : (letter bit longer : ℕ) → letter < 2 ^ length (without_var x all) → bit < 2 → IsWithBit longer letter (length (without_var x all)) bit
+  pub lengthened-with : {letter : ℕ} (bit : ℕ) {longer : ℕ} → letter < 2 ^ length (without_var x all) → bit < 2 → IsWithBit longer letter (length (without_var x all)) bit
       → restrict (without_var x all) all longer ≡ lengthened all (without_var x all) bit letter
-  lengthened-with letter bit longer h small is =
+  lengthened-with {letter} bit {longer} h small is =
       restrict-agree (without_var x all) all (length (without_var x all) + 1) longer (letter + bit * 2 ^ length (without_var x all)) places-left
       (λ k below. elim (cases_eq k (length (without_var x all))) [
         | inl e ↦ ap (bit_at longer) e ∙ is.at ∙ sym (lost_bit letter bit h small) ∙ ap (bit_at (letter + bit * 2 ^ length (without_var x all))) (sym e)
@@ -157,8 +157,8 @@ module _ (all : List Var) (x : Var) (up : IsAscending all) where
   }
 
   -- a letter that reads as the letter is it with some bit
-  reads-lengthened : (letter longer : ℕ) → ReadsAs all (without_var x all) letter longer → longer ≡ lengthened all (without_var x all) (bit_at longer (place all x)) letter
-  reads-lengthened letter longer is =
+  reads-lengthened : {letter longer : ℕ} → ReadsAs all (without_var x all) letter longer → longer ≡ lengthened all (without_var x all) (bit_at longer (place all x)) letter
+  reads-lengthened {letter} {longer} is =
       let bit = bit_at longer (place all x) in
       let small = subst (λ n. n < 2 ^ length (without_var x all)) is.reads (restrict-below all (without_var x all) longer) in
       same_from_bits_below (length all) longer _ is.below (restrict-below (without_var x all) all (letter + bit_at longer (place all x) * 2 ^ length (without_var x all))) (λ j below.
@@ -181,15 +181,15 @@ module _ (all : List Var) (x : Var) (up : IsAscending all) where
             ∙ ap (bit_at longer) (place-same all (get_or (without_var x all) (place (without_var x all) (get_or all j x)) x) (get_or all j x) name ∙ own))
       ])
 
-  pub lengthened-or : (letter longer : ℕ) → ReadsAs all (without_var x all) letter longer
+  pub lengthened-or : {letter longer : ℕ} → ReadsAs all (without_var x all) letter longer
       → (longer ≡ lengthened all (without_var x all) 0 letter) ⊎ (longer ≡ lengthened all (without_var x all) 1 letter)
-  lengthened-or letter longer is = elim (bit_cases longer (place all x)) [
-    | inl z ↦ inl (reads-lengthened letter longer is ∙ ap (λ b. lengthened all (without_var x all) b letter) z)
-    | inr o ↦ inr (reads-lengthened letter longer is ∙ ap (λ b. lengthened all (without_var x all) b letter) o)
+  lengthened-or {letter} {longer} is = elim (bit_cases longer (place all x)) [
+    | inl z ↦ inl (reads-lengthened is ∙ ap (λ b. lengthened all (without_var x all) b letter) z)
+    | inr o ↦ inr (reads-lengthened is ∙ ap (λ b. lengthened all (without_var x all) b letter) o)
   ]
 
   -- where no track is lost there is one such letter
-  pub lengthened-only : length (without_var x all) ≡ length all → (letter longer : ℕ) → ReadsAs all (without_var x all) letter longer → longer ≡ lengthened all (without_var x all) 0 letter
-  lengthened-only same letter longer is =
+  pub lengthened-only : length (without_var x all) ≡ length all → {letter longer : ℕ} → ReadsAs all (without_var x all) letter longer → longer ≡ lengthened all (without_var x all) 0 letter
+  lengthened-only same {letter} {longer} is =
       let none = place-none all x (λ i d h e. let l = lost-fewer i d h e in omega (arith, l, same)) in
-      reads-lengthened letter longer is ∙ ap (λ b. lengthened all (without_var x all) b letter) (ap (bit_at longer) none ∙ bit_at_above longer (length all) (length all) is.below (omega arith))
+      reads-lengthened is ∙ ap (λ b. lengthened all (without_var x all) b letter) (ap (bit_at longer) none ∙ bit_at_above longer (length all) (length all) is.below (omega arith))

@@ -92,8 +92,8 @@ module _ (all some : List Var) where
     times : ℕ
     zips : AllZip (ReadsAs all some) (replicate (suc times) sign ++ letters) lift
 
-  lift-zips : (sign : ℕ) (letters lift : List ℕ) → IsLift some all (sign ∷ letters) lift → LiftZips sign letters lift
-  lift-zips sign letters lift is = record {
+  lift-zips : (sign : ℕ) (letters : List ℕ) {lift : List ℕ} → IsLift some all (sign ∷ letters) lift → LiftZips sign letters lift
+  lift-zips sign letters {lift} is = record {
     times = is.times;
     zips = subst (λ l. AllZip (ReadsAs all some) l lift) (is.repeats ∙ repeated-is is.times sign letters ∙ sym (replicate-shift is.times sign letters)) (to_zip lift is.is_word.letters);
   }
@@ -115,13 +115,13 @@ module _ (a : Automaton) (some : List Var) where
   state_of-append x xs (l ∷ ls) right h = fold-append (next_state a) (first_state a l) ls right
 
   -- a sign letter is a lift of itself
-  pub LiftLeads-begins : (letter state : ℕ) → Begins a some letter state → LiftLeads a some (letter ∷ []) state
-  LiftLeads-begins letter state b = record { lift = b.longer ∷ []; is = zips-lift a.tracks some letter 0 [] (b.longer ∷ []) (b.is, tt); leads = b.leads }
+  pub LiftLeads-begins : {letter state : ℕ} → Begins a some letter state → LiftLeads a some (letter ∷ []) state
+  LiftLeads-begins {letter} b = record { lift = b.longer ∷ []; is = zips-lift a.tracks some letter 0 [] (b.longer ∷ []) (b.is, tt); leads = b.leads }
 
   -- one more letter makes a lift of a letter longer
-  pub LiftLeads-follows : (letter from state : ℕ) → LiftLeads a some (letter ∷ []) from → Follows a some from letter state → LiftLeads a some (letter ∷ []) state
-  LiftLeads-follows letter from state l f =
-      let z = lift-zips a.tracks some letter [] l.lift l.is in
+  pub LiftLeads-follows : {letter from state : ℕ} → LiftLeads a some (letter ∷ []) from → Follows a some from letter state → LiftLeads a some (letter ∷ []) state
+  LiftLeads-follows {letter} l f =
+      let z = lift-zips a.tracks some letter [] l.is in
       let longer = zip-append a.tracks some (replicate (suc z.times) letter ++ []) (letter ∷ []) l.lift (f.longer ∷ []) z.zips (f.is, tt) in
       record {
         lift = l.lift ++ f.longer ∷ [];
@@ -147,7 +147,7 @@ module _ (a : Automaton) (some : List Var) where
     lift-in n (l ∷ ls) z = run-in n ls (first_state a l) (begins (first_state a l) (record { longer = l; is = z.0; leads = refl })) z.1
 
     pub LiftLeads-in : (state : ℕ) → LiftLeads a some (letter ∷ []) state → Contains set state
-    LiftLeads-in state l = let z = lift-zips a.tracks some letter [] l.lift l.is in subst (Contains set) l.leads (lift-in z.times l.lift z.zips)
+    LiftLeads-in state l = let z = lift-zips a.tracks some letter [] l.is in subst (Contains set) l.leads (lift-in z.times l.lift z.zips)
 
   module _ (step : List ℕ → ℕ → List ℕ)
       (steps : (set : List ℕ) (letter t : ℕ) → letter < 2 ^ length some → Contains (step set letter) t ↔ ((s : ℕ) × Contains set s × Follows a some s letter t)) where
@@ -186,7 +186,7 @@ module _ (a : Automaton) (some : List Var) where
     lift_from sign letters first t firsts small h =
         let l = fold_leads letters first t small h in
         let s = firsts l.from l.member in
-        let z = lift-zips a.tracks some sign [] s.lift s.is in
+        let z = lift-zips a.tracks some sign [] s.is in
         let both = zip-append a.tracks some (replicate (suc z.times) sign ++ []) letters s.lift l.longer z.zips l.zips in
         record {
           lift = s.lift ++ l.longer;
@@ -201,7 +201,7 @@ module _ (a : Automaton) (some : List Var) where
     pub lift_to : (sign : ℕ) (letters first : List ℕ) (t : ℕ) → ((s : ℕ) → LiftLeads a some (sign ∷ []) s → Contains first s) → LiftLeads a some (sign ∷ letters) t
         → Contains (fold step first letters) t
     lift_to sign letters first t firsts l =
-        let z = lift-zips a.tracks some sign letters l.lift l.is in
+        let z = lift-zips a.tracks some sign letters l.is in
         let parts = cut a.tracks some (replicate (suc z.times) sign) letters l.lift z.zips in
         let zips = subst (λ w. AllZip (ReadsAs a.tracks some) w parts.left) (nothing (replicate (suc z.times) sign)) parts.left_zip in
         let at = firsts (state_of a parts.left) (record { lift = parts.left; is = zips-lift a.tracks some sign z.times [] parts.left zips; leads = refl }) in
@@ -223,8 +223,8 @@ module _ (a : Automaton) (x : Var) (valid : IsAutomaton a) where
   next-within : (state letter : ℕ) → next_state a state letter < length a.accept
   next-within state letter = entry_within (length a.accept) a.next _ valid.some_state valid.next_within
 
-  pub follows-within : (from letter state : ℕ) → Follows a (without_var x a.tracks) from letter state → state < length a.accept
-  follows-within from letter state f = subst (λ n. n < length a.accept) f.leads (next-within from f.longer)
+  pub follows-within : {from letter state : ℕ} → Follows a (without_var x a.tracks) from letter state → state < length a.accept
+  follows-within {from} f = subst (λ n. n < length a.accept) f.leads (next-within from f.longer)
 
   -- a set is followed by the states that follow on its states
   pub steps-next : (set : List ℕ) (letter t : ℕ) → letter < 2 ^ length (without_var x a.tracks)
@@ -249,12 +249,12 @@ module _ (a : Automaton) (x : Var) (valid : IsAutomaton a) where
 
       from : ((s : ℕ) × Contains set s × Follows a (without_var x a.tracks) s letter t) → Contains (next_set a (without_var x a.tracks) set letter) t
       from (s, member, f) =
-          Contains-filter (leads_to a (without_var x a.tracks) set letter) _ t (Contains-range (length a.accept) t (follows-within s letter t f))
+          Contains-filter (leads_to a (without_var x a.tracks) set letter) _ t (Contains-range (length a.accept) t (follows-within f))
           (any-to
           (λ s. nat_eq (next_state a s (lengthened a.tracks (without_var x a.tracks) 0 letter)) t || nat_eq
           (next_state a s (lengthened a.tracks (without_var x a.tracks) 1 letter)) t)
           set s member
-          (elim (lengthened-or a.tracks x valid.ascending letter f.longer f.is) [
+          (elim (lengthened-or a.tracks x valid.ascending f.is) [
             | inl e ↦ or_left _ _ ((Decides-eqb (next_state a s (lengthened a.tracks (without_var x a.tracks) 0 letter)) t).1 (ap (next_state a s) (sym e) ∙ f.leads))
             | inr e ↦ or_right _ _ ((Decides-eqb (next_state a s (lengthened a.tracks (without_var x a.tracks) 1 letter)) t).1 (ap (next_state a s) (sym e) ∙ f.leads))
           ]))

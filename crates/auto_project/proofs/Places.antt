@@ -33,9 +33,9 @@ use Rattle.std.proofs.lemmas.Bool.{or_left}
 use Rattle.auto_project.proofs.Lifts.{any-from, any-to, steps-next, increasing-next, LiftLeads-begins}
 use Rattle.auto_project.proofs.SetMapLemmas.{stays, had, AreSetRows-kept}
 
-set-ascends : (shapes : List Shape) (sets : List (List ℕ)) (node letter : ℕ) → HasSets shapes sets node
+set-ascends : {shapes : List Shape} {sets : List (List ℕ)} {node : ℕ} (letter : ℕ) → HasSets shapes sets node
     → All IsStrictlyIncreasing sets → IsStrictlyIncreasing (set_of shapes sets node letter)
-set-ascends shapes sets node letter is all = All-get_or IsStrictlyIncreasing sets (map_at shapes node letter) [] (is.numbered letter) all
+set-ascends {shapes} {sets} {node} letter is all = All-get_or IsStrictlyIncreasing sets (map_at shapes node letter) [] (is.numbered letter) all
 
 no-element : (set : List ℕ) (element : ℕ) → set ≡ [] → Contains set element → ⊥
 no-element set element none c = let there = subst (λ l. Contains l element) none c in let h = there.1 in omega arith
@@ -45,9 +45,9 @@ some-element [] some = absurd (some refl)
 some-element (element ∷ set) some = (element, Contains-head element set)
 
 -- the rows of the walk are those that follow on the states
-pub HasPlaceRows-from : (shapes : List Shape) (sets : List (List ℕ)) (a : Automaton) (x : Var) (first : ℕ) (rows : List ℕ)
+pub HasPlaceRows-from : {shapes : List Shape} {sets : List (List ℕ)} {a : Automaton} (x : Var) {first : ℕ} {rows : List ℕ}
     → HasClosedRows shapes sets a (without_var x a.tracks) first rows → HasPlaceRows shapes sets a (without_var x a.tracks) first rows
-HasPlaceRows-from shapes sets a x first rows closed = record {
+HasPlaceRows-from {shapes} {sets} {a} x {first} {rows} closed = record {
   valid = closed.valid;
   first_is = closed.first_row.is;
   first_some = λ letter below none.
@@ -56,15 +56,15 @@ HasPlaceRows-from shapes sets a x first rows closed = record {
       record { longer = longer; is = ReadsAs-lengthened a.tracks x closed.valid.ascending letter 0 below; leads = refl } in
       no-element (set_of shapes sets first letter) (first_state a longer) none
       ((closed.first_row.members letter (first_state a longer) below).1
-      (LiftLeads-begins a (without_var x a.tracks) letter (first_state a longer) begins));
-  first_within = λ letter state below c. let l = (closed.first_row.members letter state below).0 c in subst (λ n. n < length a.accept) l.leads (state_within a closed.valid l.lift);
+      (LiftLeads-begins a (without_var x a.tracks) begins));
+  first_within = λ letter state below c. let l = (closed.first_row.members letter state below).0 c in subst (λ n. n < length a.accept) l.leads (state_within closed.valid l.lift);
   first_narrow = λ m n agree. alike first closed.first_row.is (λ p q state same c. closed.first_row.narrow.same p q state same c) m n agree;
   size = closed.state_rows.size;
   is = λ state h. (row state h).is;
   narrow = λ state m n h agree. alike (slice_index rows state) (row state h).is (λ p q t same c. (row state h).narrow.same p q t same c) m n agree;
   leads =
       λ state letter h below. same_sets (set_of shapes sets (slice_index rows state) letter) (next_set a (without_var x a.tracks) (state ∷ []) letter)
-      (set-ascends shapes sets (slice_index rows state) letter (row state h).is closed.ascend)
+      (set-ascends letter (row state h).is closed.ascend)
       (increasing-next a x closed.valid (state ∷ []) letter)
       (λ t c. (steps-next a x closed.valid (state ∷ []) letter t below).1 (state, Contains-head state [], ((row state h).members letter t below).0 c))
       (λ t c. ((row state h).members letter t below).1 (only state letter t ((steps-next a x closed.valid (state ∷ []) letter t below).0 c)));
@@ -84,23 +84,23 @@ HasPlaceRows-from shapes sets a x first rows closed = record {
         → Contains (set_of shapes sets node p) state → Contains (set_of shapes sets node q) state)
         → (m n : ℕ) → ((k : ℕ) → k < length (without_var x a.tracks) → bit_at m k ≡ bit_at n k) → set_of shapes sets node m ≡ set_of shapes sets node n
     alike node is same m n agree =
-        same_sets (set_of shapes sets node m) (set_of shapes sets node n) (set-ascends shapes sets node m is closed.ascend) (set-ascends shapes sets node n is closed.ascend)
+        same_sets (set_of shapes sets node m) (set_of shapes sets node n) (set-ascends m is closed.ascend) (set-ascends n is closed.ascend)
         (λ t c. same m n t agree c) (λ t c. same n m t (λ k h. sym (agree k h)) c)
 
 module _ (shapes more : List Shape) (sets sets' : List (List ℕ)) (a : Automaton) (some : List Var) (first : ℕ) (rows : List ℕ) (grows : Grows shapes more) (kept : SetsKept sets sets') where
   pub HasPlaceRows-kept : HasPlaceRows shapes sets a some first rows → HasPlaceRows more sets' a some first rows
   HasPlaceRows-kept r = record {
     valid = r.valid;
-    first_is = HasSets-grows shapes more sets sets' first grows kept r.first_is;
-    first_some = λ letter below none. r.first_some letter below (sym (stays shapes more sets sets' grows kept first letter r.first_is) ∙ none);
-    first_within = λ letter state below c. r.first_within letter state below (had shapes more sets sets' grows kept first letter state r.first_is c);
-    first_narrow = λ x y agree. stays shapes more sets sets' grows kept first x r.first_is ∙ r.first_narrow x y agree ∙ sym (stays shapes more sets sets' grows kept first y r.first_is);
+    first_is = HasSets-grows grows kept r.first_is;
+    first_some = λ letter below none. r.first_some letter below (sym (stays shapes more sets sets' grows kept letter r.first_is) ∙ none);
+    first_within = λ letter state below c. r.first_within letter state below (had shapes more sets sets' grows kept letter state r.first_is c);
+    first_narrow = λ x y agree. stays shapes more sets sets' grows kept x r.first_is ∙ r.first_narrow x y agree ∙ sym (stays shapes more sets sets' grows kept y r.first_is);
     size = r.size;
-    is = λ state h. HasSets-grows shapes more sets sets' (slice_index rows state) grows kept (r.is state h);
+    is = λ state h. HasSets-grows grows kept (r.is state h);
     narrow =
-        λ state x y h agree. stays shapes more sets sets' grows kept (slice_index rows state) x (r.is state h) ∙ r.narrow state x y h agree
-        ∙ sym (stays shapes more sets sets' grows kept (slice_index rows state) y (r.is state h));
-    leads = λ state letter h below. stays shapes more sets sets' grows kept (slice_index rows state) letter (r.is state h) ∙ r.leads state letter h below;
+        λ state x y h agree. stays shapes more sets sets' grows kept x (r.is state h) ∙ r.narrow state x y h agree
+        ∙ sym (stays shapes more sets sets' grows kept y (r.is state h));
+    leads = λ state letter h below. stays shapes more sets sets' grows kept letter (r.is state h) ∙ r.leads state letter h below;
   }
 
 module _ (shapes : List Shape) (sets : List (List ℕ)) (a : Automaton) (some : List Var) (first : ℕ) (rows : List ℕ) (r : HasPlaceRows shapes sets a some first rows) where
@@ -114,24 +114,24 @@ module _ (shapes : List Shape) (sets : List (List ℕ)) (a : Automaton) (some : 
   fold-within [] set t within c = within t c
   fold-within (letter ∷ letters) set t within c = fold-within letters (next_set a some set letter) t (λ s d. next-within set letter s d) c
 
-  place-within : (word : List ℕ) (t : ℕ) → IsWord (length some) word → Contains (place_of (set_walker a some shapes sets first) word) t → t < length a.accept
-  place-within [] t is c = absurd (is.nonempty refl)
-  place-within (sign ∷ letters) t is c = fold-within letters (set_of shapes sets first sign) t (λ s d. r.first_within sign s (All-head (λ l. l < 2 ^ length some) sign letters is.letters) d) c
+  place-within : {word : List ℕ} (t : ℕ) → IsWord (length some) word → Contains (place_of (set_walker a some shapes sets first) word) t → t < length a.accept
+  place-within {word = []} t is c = absurd (is.nonempty refl)
+  place-within {word = sign ∷ letters} t is c = fold-within letters (set_of shapes sets first sign) t (λ s d. r.first_within sign s (All-head (λ l. l < 2 ^ length some) sign letters is.letters) d) c
 
   -- the states of a numbered place are states of the automaton
-  pub states-within : (places : List (List ℕ)) (number : ℕ) (set : List ℕ) → slice_get places number ≡ Some set → AreNumbered (set_walker a some shapes sets first) places
+  pub states-within : {places : List (List ℕ)} (number : ℕ) (set : List ℕ) → slice_get places number ≡ Some set → AreNumbered (set_walker a some shapes sets first) places
       → All (λ state. state < length a.accept) set
-  states-within places number set at numbered =
+  states-within {places} number set at numbered =
       let reached = All-at (IsReached (set_walker a some shapes sets first)) places number set at numbered.reached in
       All-from_get_or (λ state. state < length a.accept) set 0
-      (λ i h. place-within reached.word (get_or set i 0) reached.is_word
+      (λ i h. place-within (get_or set i 0) reached.is_word
       (subst (λ l. Contains l (get_or set i 0)) (sym reached.leads) (Contains-get_or set i 0 h)))
 
   -- some state follows on a set with some state
   next-some : (set : List ℕ) (letter s : ℕ) → Contains set s → s < length a.accept → (t : ℕ) × Contains (next_set a some set letter) t
   next-some set letter s c h =
       let t = next_state a s (lengthened a.tracks some 0 letter) in
-      let within : t < length a.accept = run_within a r.valid (lengthened a.tracks some 0 letter ∷ []) s h in (
+      let within : t < length a.accept = run_within r.valid (lengthened a.tracks some 0 letter ∷ []) s h in (
         t,
         Contains-filter (leads_to a some set letter) (range_with_len 0 (length a.accept)) t (Contains-range (length a.accept) t within)
             (any-to
@@ -144,18 +144,18 @@ module _ (shapes : List Shape) (sets : List (List ℕ)) (a : Automaton) (some : 
   fold-some [] set s c h = (s, c)
   fold-some (letter ∷ letters) set s c h = let one = next-some set letter s c h in fold-some letters (next_set a some set letter) one.0 one.1 (next-within set letter one.0 one.1)
 
-  place-some : (word : List ℕ) → IsWord (length some) word → (t : ℕ) × Contains (place_of (set_walker a some shapes sets first) word) t
-  place-some [] is = absurd (is.nonempty refl)
-  place-some (sign ∷ letters) is =
+  place-some : {word : List ℕ} → IsWord (length some) word → (t : ℕ) × Contains (place_of (set_walker a some shapes sets first) word) t
+  place-some {word = []} is = absurd (is.nonempty refl)
+  place-some {word = sign ∷ letters} is =
       let below = All-head (λ l. l < 2 ^ length some) sign letters is.letters in
       let one = some-element (set_of shapes sets first sign) (r.first_some sign below) in
       fold-some letters (set_of shapes sets first sign) one.0 one.1 (r.first_within sign one.0 below one.1)
 
   -- a numbered place has some state
-  pub states-some : (places : List (List ℕ)) (number : ℕ) (set : List ℕ) → slice_get places number ≡ Some set → AreNumbered (set_walker a some shapes sets first) places → set ≢ []
-  states-some places number set at numbered none =
+  pub states-some : {places : List (List ℕ)} (number : ℕ) (set : List ℕ) → slice_get places number ≡ Some set → AreNumbered (set_walker a some shapes sets first) places → set ≢ []
+  states-some {places} number set at numbered none =
       let reached = All-at (IsReached (set_walker a some shapes sets first)) places number set at numbered.reached in
-      let one = place-some reached.word reached.is_word in
+      let one = place-some reached.is_word in
       no-element _ one.0 (reached.leads ∙ none) one.1
 
   module _ (set : List ℕ) (node : ℕ) (within : All (λ state. state < length rows) set) (union : IsUnionRow shapes sets rows set node) (ascend : All IsStrictlyIncreasing sets) where
@@ -164,7 +164,7 @@ module _ (shapes : List Shape) (sets : List (List ℕ)) (a : Automaton) (some : 
 
     pub union-narrow : (x y : ℕ) → ((k : ℕ) → k < length some → bit_at x k ≡ bit_at y k) → set_of shapes sets node x ≡ set_of shapes sets node y
     union-narrow x y agree =
-        same_sets (set_of shapes sets node x) (set_of shapes sets node y) (set-ascends shapes sets node x union.is ascend) (set-ascends shapes sets node y union.is ascend)
+        same_sets (set_of shapes sets node x) (set_of shapes sets node y) (set-ascends x union.is ascend) (set-ascends y union.is ascend)
         (λ t c. let one = (union.members x t).0 c in (union.members y t).1 (one.0, one.1, subst (λ l. Contains l t) (r.narrow one.0 x y (inside one.0 one.1) agree) one.2))
         (λ t c. let one = (union.members y t).0 c in (union.members x t).1 (one.0, one.1, subst (λ l. Contains l t) (sym (r.narrow one.0 x y (inside one.0 one.1) agree)) one.2))
 
@@ -198,16 +198,16 @@ module _ (shapes : List Shape) (sets : List (List ℕ)) (a : Automaton) (some : 
 
     pub union-next : (letter : ℕ) → letter < 2 ^ length some → IsStrictlyIncreasing (next_set a some set letter) → set_of shapes sets node letter ≡ next_set a some set letter
     union-next letter below up =
-        same_sets (set_of shapes sets node letter) (next_set a some set letter) (set-ascends shapes sets node letter union.is ascend) up
+        same_sets (set_of shapes sets node letter) (next_set a some set letter) (set-ascends letter union.is ascend) up
         (λ t c. let one = (union.members letter t).0 c in passes one.0 letter t one.1 (subst (λ l. Contains l t) (r.leads one.0 letter (inside one.0 one.1) below) one.2))
         (λ t c. let one = comes-from letter t c in (union.members letter t).1 (one.0, one.1, subst (λ l. Contains l t) (sym (r.leads one.0 letter (inside one.0 one.1) below)) one.2))
 
 -- a row of places
-pub IsRow-placed : (w : Walker) (shapes : List Shape) (sets : List (List ℕ)) (more : List Shape) (before places : List (List ℕ)) (node row : ℕ) (lead : ℕ → List ℕ)
+pub IsRow-placed : (w : Walker) {shapes : List Shape} {sets : List (List ℕ)} {more : List Shape} {before places : List (List ℕ)} {node row : ℕ} (lead : ℕ → List ℕ)
     → IsPlaced shapes sets more places node row → AddsSetsOf shapes sets before places node
     → ((x y : ℕ) → ((k : ℕ) → k < length w.tracks → bit_at x k ≡ bit_at y k) → set_of shapes sets node x ≡ set_of shapes sets node y)
     → ((letter : ℕ) → letter < 2 ^ length w.tracks → set_of shapes sets node letter ≡ lead letter) → AllPairs (λ p q. p ≢ q) places → IsRow w more before places lead row
-IsRow-placed w shapes sets more before places node row lead is adds narrow value apart = record {
+IsRow-placed w {places} lead is adds narrow value apart = record {
   known = is.known;
   narrow = record { same = λ x y agree. one_place places apart _ _ _ (is.leads x) (is.leads y ∙ ap Some (sym (narrow x y agree))) };
   leads = λ letter below. is.leads letter ∙ ap Some (value letter below);
@@ -230,17 +230,17 @@ HasClosedRows-made {old} {shapes} {before} {sets} {a} {some} {listed} {begun} {f
   valid = made.valid;
   ascend = ascend;
   first_row = closed;
-  state_rows = AreSetRows-kept old shapes before sets grows kept a some rows (subst (λ tracks. AreSetRows old before a tracks rows) same made.state_rows);
+  state_rows = AreSetRows-kept old shapes before sets grows kept (subst (λ tracks. AreSetRows old before a tracks rows) same made.state_rows);
 }
 
-pub HasPlaceRows-made : (shapes : List Shape) (sets : List (List ℕ)) (a : Automaton) (x : Var) (some : List Var) (first : ℕ) (rows : List ℕ) → some ≡ without_var x a.tracks
+pub HasPlaceRows-made : {shapes : List Shape} {sets : List (List ℕ)} {a : Automaton} (x : Var) {some : List Var} {first : ℕ} {rows : List ℕ} → some ≡ without_var x a.tracks
     → HasClosedRows shapes sets a some first rows → HasPlaceRows shapes sets a some first rows
-HasPlaceRows-made shapes sets a x some first rows same closed =
+HasPlaceRows-made {shapes} {sets} {a} x {first} {rows} same closed =
     subst (λ tracks. HasPlaceRows shapes sets a tracks first rows) (sym same)
-    (HasPlaceRows-from shapes sets a x first rows (subst (λ tracks. HasClosedRows shapes sets a tracks first rows) same closed))
+    (HasPlaceRows-from x (subst (λ tracks. HasClosedRows shapes sets a tracks first rows) same closed))
 
-pub AreTracks-left : (a : Automaton) (x : Var) (some : List Var) → IsAutomaton a → some ≡ without_var x a.tracks → AreTracks some
-AreTracks-left a x some valid same =
+pub AreTracks-left : {a : Automaton} (x : Var) (some : List Var) → IsAutomaton a → some ≡ without_var x a.tracks → AreTracks some
+AreTracks-left {a} x some valid same =
     subst AreTracks (sym same)
     (record {
       ascending = ascending-without a.tracks x valid.ascending;
@@ -253,23 +253,23 @@ pub increasing-set : (a : Automaton) (some : List Var) (set : List ℕ) (letter 
 increasing-set a some set letter = IsStrictlyIncreasing-filter (leads_to a some set letter) (range_with_len 0 (length a.accept)) (increasing-range (length a.accept))
 
 -- the row of the first sets
-pub IsRow-first : (a : Automaton) (some : List Var) (shapes : List Shape) (sets : List (List ℕ)) (more : List Shape) (before places : List (List ℕ)) (first : ℕ) (rows : List ℕ) (row : ℕ)
+pub IsRow-first : {a : Automaton} {some : List Var} {shapes : List Shape} {sets : List (List ℕ)} {more : List Shape} {before places : List (List ℕ)} {first : ℕ} {rows : List ℕ} {row : ℕ}
     → HasPlaceRows shapes sets a some first rows → IsPlaced shapes sets more places first row
     → AddsSetsOf shapes sets before places first → AllPairs (λ p q. p ≢ q) places → IsRow (set_walker a some shapes sets first) more before places (set_of shapes sets first) row
-IsRow-first a some shapes sets more before places first rows row r is adds apart =
-    IsRow-placed (set_walker a some shapes sets first) shapes sets more before places first row (set_of shapes sets first) is adds r.first_narrow
+IsRow-first {a} {some} {shapes} {sets} {first} r is adds apart =
+    IsRow-placed (set_walker a some shapes sets first) (set_of shapes sets first) is adds r.first_narrow
     (λ letter below. refl) apart
 
 -- the row of the sets that follow on a set
-pub IsRow-union : (a : Automaton) (some : List Var) (shapes mid : List Shape) (sets sets' : List (List ℕ)) (more : List Shape)
-    (before places : List (List ℕ)) (first : ℕ) (rows set : List ℕ) (union row : ℕ)
+pub IsRow-union : {a : Automaton} {some : List Var} {shapes mid : List Shape} {sets sets' : List (List ℕ)} {more : List Shape}
+    {before places : List (List ℕ)} {first : ℕ} {rows set : List ℕ} {union row : ℕ}
     → HasPlaceRows shapes sets a some first rows → Grows shapes mid → SetsKept sets sets'
     → All (λ state. state < length rows) set → IsUnionRow mid sets' rows set union → All IsStrictlyIncreasing sets' → IsPlaced mid sets' more places union row
     → AddsSetsOf mid sets' before places union → AllPairs (λ p q. p ≢ q) places
     → IsRow (set_walker a some shapes sets first) more before places (next_set a some set) row
-IsRow-union a some shapes mid sets sets' more before places first rows set union row r grows kept within is ascend placed adds apart =
+IsRow-union {a} {some} {shapes} {mid} {sets} {sets'} {first} {rows} {set} {union} r grows kept within is ascend placed adds apart =
     let now = HasPlaceRows-kept shapes mid sets sets' a some first rows grows kept r in
-    IsRow-placed (set_walker a some shapes sets first) mid sets' more before places union row (next_set a some set) placed adds
+    IsRow-placed (set_walker a some shapes sets first) (next_set a some set) placed adds
     (union-narrow mid sets' a some first rows now set union within is ascend)
     (λ letter below. union-next mid sets' a some first rows now set union within is ascend letter below (increasing-set a some set letter)) apart
 
@@ -278,4 +278,4 @@ pub rows-within : {set : List ℕ} {a : Automaton} {some : List Var} {shapes : L
     → HasPlaceRows shapes sets a some first rows → slice_get places number ≡ Some set → AreNumbered (set_walker a some shapes sets first) places
     → All (λ state. state < length rows) set
 rows-within {set} number r at numbered =
-    subst (λ n. All (λ state. state < n) set) (sym r.size) (states-within _ _ _ _ _ _ r _ number _ at numbered)
+    subst (λ n. All (λ state. state < n) set) (sym r.size) (states-within _ _ _ _ _ _ r number _ at numbered)

@@ -33,17 +33,17 @@ pub RemembersPlaced-grows : {shapes : List Shape} {sets : List (List ℕ)} {rows
 RemembersPlaced-grows grows kept all = record { placed = λ node row at. IsPlaced-grows grows kept (all.placed node row at) }
 
 -- and where the nodes and the sets grow
-pub RemembersPlaced-over : (shapes more : List Shape) (sets sets' : List (List ℕ)) (rows : List Shape) (places : List (List ℕ)) (memo : List (Option ℕ)) → Grows shapes more
+pub RemembersPlaced-over : {shapes more : List Shape} {sets sets' : List (List ℕ)} {rows : List Shape} {places : List (List ℕ)} {memo : List (Option ℕ)} → Grows shapes more
     → SetsKept sets sets' → RemembersPlaced shapes sets rows places memo → RemembersPlaced more sets' rows places memo
-RemembersPlaced-over shapes more sets sets' rows places memo grows kept all = record {
+RemembersPlaced-over {shapes} {more} {sets} {sets'} grows kept all = record {
   placed = λ node row at.
       let is = all.placed node row at in
       let top = is.top in
       let top_node = grows.top node is.source.known in
       record {
-        source = HasSets-grows shapes more sets sets' node grows kept is.source;
+        source = HasSets-grows grows kept is.source;
         known = is.known;
-        leads = λ letter. is.leads letter ∙ ap Some (sym (stays shapes more sets sets' grows kept node letter is.source));
+        leads = λ letter. is.leads letter ∙ ap Some (sym (stays shapes more sets sets' grows kept letter is.source));
         top = omega (arith, top, top_node);
       };
 }
@@ -56,22 +56,22 @@ pub RemembersPlaced-same : {shapes : List Shape} {sets : List (List ℕ)} {rows 
     → ((node : ℕ) → answer_of new node ≡ answer_of memo node) → RemembersPlaced shapes sets rows places memo → RemembersPlaced shapes sets rows places new
 RemembersPlaced-same same all = record { placed = λ node row at. all.placed node row (sym (same node) ∙ at) }
 
-pub RemembersPlaced-insert : (shapes : List Shape) (sets : List (List ℕ)) (rows : List Shape) (places : List (List ℕ)) (memo new : List (Option ℕ)) (node row : ℕ)
+pub RemembersPlaced-insert : {shapes : List Shape} {sets : List (List ℕ)} {rows : List Shape} {places : List (List ℕ)} {memo new : List (Option ℕ)} {node row : ℕ}
     → RemembersPlaced shapes sets rows places memo → Remembers memo new node row → IsPlaced shapes sets rows places node row
     → RemembersPlaced shapes sets rows places new
-RemembersPlaced-insert shapes sets rows places memo new node row all remembers is = record { placed = node_answers-insert (IsPlaced shapes sets rows places) memo new node row all.placed remembers is }
+RemembersPlaced-insert {shapes} {sets} {rows} {places} all remembers is = record { placed = node_answers-insert (IsPlaced shapes sets rows places) all.placed remembers is }
 
 -- the sets of the two sides of a test
-pub HasSets-side : (shapes : List Shape) (sets : List (List ℕ)) (node side : ℕ) → side < node → HasSets shapes sets node
+pub HasSets-side : {shapes : List Shape} {sets : List (List ℕ)} {node : ℕ} (side : ℕ) → side < node → HasSets shapes sets node
     → ((letter : ℕ) → (l : ℕ) × (map_at shapes node l ≡ map_at shapes side letter)) → HasSets shapes sets side
-HasSets-side shapes sets node side before has child =
+HasSets-side {sets} side before has child =
     let known = has.known in
     record { known = omega (arith, before, known); numbered = λ letter. let l = child letter in subst (λ n. n < length sets) l.1 (has.numbered l.0) }
 
-pub IsPlaced-leaf : (shapes : List Shape) (sets : List (List ℕ)) (rows : List Shape) (places : List (List ℕ)) (node row number : ℕ) → IsAt shapes node (Leaf number)
+pub IsPlaced-leaf : {shapes : List Shape} {sets : List (List ℕ)} (rows : List Shape) (places : List (List ℕ)) {node : ℕ} (row number : ℕ) → IsAt shapes node (Leaf number)
     → HasSets shapes sets node → row < length rows → ((letter : ℕ) → slice_get places (map_at rows row letter) ≡ Some (set_at sets number))
     → top_track rows row ≡ 20 → IsPlaced shapes sets rows places node row
-IsPlaced-leaf shapes sets rows places node row number at has known leads top = record {
+IsPlaced-leaf {sets} rows places row number at has known leads top = record {
   source = has;
   known = known;
   leads = λ letter. leads letter ∙ ap (λ n. Some (set_at sets n)) (sym (at.map letter));
@@ -83,10 +83,10 @@ either-side : (sets places : List (List ℕ)) (b : Bool) (v w v' w' : ℕ) → s
 either-side sets places true v w v' w' low high = low
 either-side sets places false v w v' w' low high = high
 
-pub IsPlaced-test : (shapes : List Shape) (sets : List (List ℕ)) (mid rows : List Shape) (places : List (List ℕ)) (node row track low high low' high' : ℕ)
+pub IsPlaced-test : {shapes : List Shape} {sets : List (List ℕ)} {mid : List Shape} (rows : List Shape) {places : List (List ℕ)} {node : ℕ} (row track : ℕ) {low high low' high' : ℕ}
     → IsAt shapes node (Test track low high) → HasSets shapes sets node → IsPlaced shapes sets mid places low low' → IsPlaced shapes sets mid places high high'
     → row < length rows → ((letter : ℕ) → map_at rows row letter ≡ chosen mid track low' high' letter) → track ≤ top_track rows row → IsPlaced shapes sets rows places node row
-IsPlaced-test shapes sets mid rows places node row track low high low' high' at has l h known map top = record {
+IsPlaced-test {shapes} {sets} {mid} rows {places} row track {low} {high} {low'} {high'} at has l h known map top = record {
   source = has;
   known = known;
   leads = λ letter.
@@ -97,13 +97,13 @@ IsPlaced-test shapes sets mid rows places node row track low high low' high' at 
   top = subst (λ t. t ≤ top_track rows row) (sym at.top) top;
 }
 
-pub AddsSetsOf-leaf : (shapes : List Shape) (sets before places : List (List ℕ)) (node number : ℕ) → IsAt shapes node (Leaf number)
+pub AddsSetsOf-leaf : {shapes : List Shape} (sets before places : List (List ℕ)) {node : ℕ} (number : ℕ) → IsAt shapes node (Leaf number)
     → ((place : ℕ) → length before ≤ place → place < length places → slice_get places place ≡ Some (set_at sets number)) → AddsSetsOf shapes sets before places node
-AddsSetsOf-leaf shapes sets before places node number at added = record { led = λ place from within. (0, added place from within ∙ ap (λ n. Some (set_at sets n)) (sym (at.map 0))) }
+AddsSetsOf-leaf sets before places number at added = record { led = λ place from within. (0, added place from within ∙ ap (λ n. Some (set_at sets n)) (sym (at.map 0))) }
 
-pub AddsSetsOf-test : (shapes : List Shape) (sets before mid places : List (List ℕ)) (node track low high : ℕ) → HasChildren shapes node (Test track low high) → SetsKept mid places
+pub AddsSetsOf-test : {shapes : List Shape} {sets before mid places : List (List ℕ)} (node track : ℕ) {low high : ℕ} → HasChildren shapes node (Test track low high) → SetsKept mid places
     → AddsSetsOf shapes sets before mid low → AddsSetsOf shapes sets mid places high → AddsSetsOf shapes sets before places node
-AddsSetsOf-test shapes sets before mid places node track low high children kept l h = record {
+AddsSetsOf-test {shapes} {sets} {mid} node track {low} children kept l h = record {
   led = λ place from within. elim (cases_lt place (length mid)) [
     | inl old ↦
         let one = l.led place from old in

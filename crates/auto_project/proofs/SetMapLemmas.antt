@@ -17,49 +17,49 @@ use Rattle.auto_project.specs.SetMaps.{set_of, IsNarrow, IsSetRow, AreSetRows, I
 use Rattle.auto_project.proofs.Walks.{set_of-kept}
 
 module _ (shapes more : List Shape) (sets sets' : List (List ℕ)) (grows : Grows shapes more) (kept : SetsKept sets sets') where
-  pub stays : (node letter : ℕ) → HasSets shapes sets node → set_of more sets' node letter ≡ set_of shapes sets node letter
-  stays node letter is = set_of-kept shapes more sets sets' node letter grows kept is.known (is.numbered letter)
+  pub stays : {node : ℕ} (letter : ℕ) → HasSets shapes sets node → set_of more sets' node letter ≡ set_of shapes sets node letter
+  stays {node} letter is = set_of-kept node letter grows kept is.known (is.numbered letter)
 
-  pub has-kept : (node letter state : ℕ) → HasSets shapes sets node → Contains (set_of shapes sets node letter) state → Contains (set_of more sets' node letter) state
-  has-kept node letter state is c = subst (λ set. Contains set state) (sym (stays node letter is)) c
+  pub has-kept : {node : ℕ} (letter state : ℕ) → HasSets shapes sets node → Contains (set_of shapes sets node letter) state → Contains (set_of more sets' node letter) state
+  has-kept letter state is c = subst (λ set. Contains set state) (sym (stays letter is)) c
 
-  pub had : (node letter state : ℕ) → HasSets shapes sets node → Contains (set_of more sets' node letter) state → Contains (set_of shapes sets node letter) state
-  had node letter state is c = subst (λ set. Contains set state) (stays node letter is) c
+  pub had : {node : ℕ} (letter state : ℕ) → HasSets shapes sets node → Contains (set_of more sets' node letter) state → Contains (set_of shapes sets node letter) state
+  had letter state is c = subst (λ set. Contains set state) (stays letter is) c
 
-  pub IsNarrow-kept : (tracks node : ℕ) → HasSets shapes sets node → IsNarrow shapes sets tracks node → IsNarrow more sets' tracks node
-  IsNarrow-kept tracks node is narrow = record { same = λ x y state agree c. has-kept node y state is (narrow.same x y state agree (had node x state is c)) }
+  pub IsNarrow-kept : {tracks node : ℕ} → HasSets shapes sets node → IsNarrow shapes sets tracks node → IsNarrow more sets' tracks node
+  IsNarrow-kept is narrow = record { same = λ x y state agree c. has-kept y state is (narrow.same x y state agree (had x state is c)) }
 
-  pub IsSetRow-kept : (tracks node : ℕ) (Holds : ℕ → ℕ → Type 0) → IsSetRow shapes sets tracks node Holds → IsSetRow more sets' tracks node Holds
-  IsSetRow-kept tracks node Holds row = record {
-    is = HasSets-grows shapes more sets sets' node grows kept row.is;
-    narrow = IsNarrow-kept tracks node row.is row.narrow;
-    members = λ letter state below. (λ c. (row.members letter state below).0 (had node letter state row.is c), λ h. has-kept node letter state row.is ((row.members letter state below).1 h));
+  pub IsSetRow-kept : {tracks node : ℕ} {Holds : ℕ → ℕ → Type 0} → IsSetRow shapes sets tracks node Holds → IsSetRow more sets' tracks node Holds
+  IsSetRow-kept {Holds = Holds} row = record {
+    is = HasSets-grows grows kept row.is;
+    narrow = IsNarrow-kept row.is row.narrow;
+    members = λ letter state below. (λ c. (row.members letter state below).0 (had letter state row.is c), λ h. has-kept letter state row.is ((row.members letter state below).1 h));
   }
 
-  pub AreSetRows-kept : (a : Automaton) (some : List Var) (rows : List ℕ) → AreSetRows shapes sets a some rows → AreSetRows more sets' a some rows
-  AreSetRows-kept a some rows are = record { size = are.size; each = λ state node at. IsSetRow-kept (length some) node (Follows a some state) (are.each state node at) }
+  pub AreSetRows-kept : {a : Automaton} {some : List Var} {rows : List ℕ} → AreSetRows shapes sets a some rows → AreSetRows more sets' a some rows
+  AreSetRows-kept are = record { size = are.size; each = λ state node at. IsSetRow-kept (are.each state node at) }
 
-  pub IsLedRow-kept : (a : Automaton) (some : List Var) (node : ℕ) → IsLedRow shapes sets a some node → IsLedRow more sets' a some node
-  IsLedRow-kept a some node row = record {
-    is = HasSets-grows shapes more sets sets' node grows kept row.is;
-    narrow = IsNarrow-kept (length some) node row.is row.narrow;
-    led = λ letter state below c. row.led letter state below (had node letter state row.is c);
+  pub IsLedRow-kept : {a : Automaton} {some : List Var} {node : ℕ} → IsLedRow shapes sets a some node → IsLedRow more sets' a some node
+  IsLedRow-kept row = record {
+    is = HasSets-grows grows kept row.is;
+    narrow = IsNarrow-kept row.is row.narrow;
+    led = λ letter state below c. row.led letter state below (had letter state row.is c);
   }
 
 -- the nodes of rows
-pub rows-sets : (shapes : List Shape) (sets : List (List ℕ)) (a : Automaton) (some : List Var) (rows : List ℕ) → AreSetRows shapes sets a some rows → All (HasSets shapes sets) rows
-rows-sets shapes sets a some rows are = All-from_get_or (HasSets shapes sets) rows 0 (λ i h. (are.each i (get_or rows i 0) (slice_get-get_or rows i 0 h)).is)
+pub rows-sets : {shapes : List Shape} {sets : List (List ℕ)} {a : Automaton} {some : List Var} {rows : List ℕ} → AreSetRows shapes sets a some rows → All (HasSets shapes sets) rows
+rows-sets {shapes} {sets} {rows} are = All-from_get_or (HasSets shapes sets) rows 0 (λ i h. (are.each i (get_or rows i 0) (slice_get-get_or rows i 0 h)).is)
 
 -- joined sets of numbers, as more sets are known
-pub IsJoinedSet-kept : (sets sets' : List (List ℕ)) (only a b number : ℕ) → SetsKept sets sets' → IsJoinedSet sets only a b number → IsJoinedSet sets' only a b number
-IsJoinedSet-kept sets sets' only a b number kept is =
+pub IsJoinedSet-kept : {sets sets' : List (List ℕ)} {only a b number : ℕ} → SetsKept sets sets' → IsJoinedSet sets only a b number → IsJoinedSet sets' only a b number
+IsJoinedSet-kept {sets} {sets'} {only} {a} {b} {number} kept is =
     let longer = kept.longer in
     let a_known = is.a_known in
     let b_known = is.b_known in
     let known = is.known in
-    let ea = set_at-kept sets sets' a kept is.a_known in
-    let eb = set_at-kept sets sets' b kept is.b_known in
-    let en = set_at-kept sets sets' number kept is.known in
+    let ea = set_at-kept a kept is.a_known in
+    let eb = set_at-kept b kept is.b_known in
+    let en = set_at-kept number kept is.known in
     record {
       a_known = omega arith;
       b_known = omega arith;
@@ -75,9 +75,9 @@ IsJoinedSet-kept sets sets' only a b number kept is =
 pub IsJoinedSet-second : (sets : List (List ℕ)) (only a b : ℕ) → a < length sets → b < length sets → Contains (set_at sets a) only → IsJoinedSet sets only a b b
 IsJoinedSet-second sets only a b a_known b_known there = record { a_known = a_known; b_known = b_known; known = b_known; members = λ state. (λ c. (there, c), λ e. e.1) }
 
-pub IsJoinedSet-nothing : (sets sets' : List (List ℕ)) (only a b number : ℕ) → SetsKept sets sets' → a < length sets → b < length sets → (Contains (set_at sets a) only → ⊥)
+pub IsJoinedSet-nothing : {sets sets' : List (List ℕ)} (only a b number : ℕ) → SetsKept sets sets' → a < length sets → b < length sets → (Contains (set_at sets a) only → ⊥)
     → slice_get sets' number ≡ Some [] → IsJoinedSet sets' only a b number
-IsJoinedSet-nothing sets sets' only a b number kept a_known b_known absent at =
+IsJoinedSet-nothing {sets'} only a b number kept a_known b_known absent at =
     let longer = kept.longer in
     record {
       a_known = omega arith;
@@ -85,11 +85,11 @@ IsJoinedSet-nothing sets sets' only a b number kept a_known b_known absent at =
       known = slice_get_within sets' number [] at;
       members = λ state. (
         λ c. let d = subst (λ set. Contains set state) (get_or_from_slice_get sets' number [] [] at) c in let h = d.1 in absurd (omega arith),
-        λ e. absurd (absent (subst (λ set. Contains set only) (set_at-kept sets sets' a kept a_known) e.0)),
+        λ e. absurd (absent (subst (λ set. Contains set only) (set_at-kept a kept a_known) e.0)),
       );
     }
 
 -- merged rows, as more nodes and sets are known
-pub EachMerged-kept : (shapes more : List Shape) (sets sets' : List (List ℕ)) (track : ℕ) (nodes answers : List ℕ) → Grows shapes more → SetsKept sets sets'
+pub EachMerged-kept : {shapes more : List Shape} {sets sets' : List (List ℕ)} (track : ℕ) {nodes answers : List ℕ} → Grows shapes more → SetsKept sets sets'
     → EachAnswers (IsMerged shapes sets track) nodes answers → EachAnswers (IsMerged more sets' track) nodes answers
-EachMerged-kept shapes more sets sets' track nodes answers grows kept each = record { size = each.size; each = λ i h. IsMerged-grows shapes more sets sets' track _ _ grows kept (each.each i h) }
+EachMerged-kept track grows kept each = record { size = each.size; each = λ i h. IsMerged-grows grows kept (each.each i h) }

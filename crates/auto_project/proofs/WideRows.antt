@@ -40,8 +40,8 @@ module _ (a : Automaton) (valid : IsAutomaton a) (over : IsOverNodes a) (some : 
         reads = λ letter. reads letter ∙ says (restrict some a.tracks letter) (restrict-below some a.tracks letter);
       }
 
-  pub HasWideRows-renamed : (shapes : List Shape) (first : ℕ) (rows : List ℕ) → AreRenamed a shapes (map (place some) a.tracks) first rows → HasWideRows shapes a some first rows
-  HasWideRows-renamed shapes first rows are = record {
+  pub HasWideRows-renamed : {shapes : List Shape} {first : ℕ} {rows : List ℕ} → AreRenamed a shapes (map (place some) a.tracks) first rows → HasWideRows shapes a some first rows
+  HasWideRows-renamed {shapes} {first} {rows} are = record {
     valid = valid;
     first_row = IsWideRow-made shapes a.first_node first (first_state a) are.first_known over.nodes.first_within (first-map a over) are.first_is;
     state_rows = record {
@@ -62,13 +62,13 @@ module _ (a : Automaton) (x : Var) (valid : IsAutomaton a) where
   only-single : (m n : ℕ) → Contains (m ∷ []) n → m ≡ n
   only-single m n c = elim (Contains-cases m [] n c) [ inl e ↦ e | inr none ↦ let h = none.1 in absurd (omega arith) ]
 
-  single-at : (sets : List (List ℕ)) (number : ℕ) → AreSingletons sets (length a.accept) → number < length a.accept → set_at sets number ≡ number ∷ []
-  single-at sets number singles h = get_or_from_slice_get sets number (number ∷ []) [] (singles.single number h)
+  single-at : {sets : List (List ℕ)} (number : ℕ) → AreSingletons sets (length a.accept) → number < length a.accept → set_at sets number ≡ number ∷ []
+  single-at {sets} number singles h = get_or_from_slice_get sets number (number ∷ []) [] (singles.single number h)
 
   -- the numbers of a wide row are numbers of sets
-  pub wide-sets : (shapes : List Shape) (sets : List (List ℕ)) (node : ℕ) (value : ℕ → ℕ) → AreSingletons sets (length a.accept)
+  pub wide-sets : {shapes : List Shape} {sets : List (List ℕ)} {node : ℕ} {value : ℕ → ℕ} → AreSingletons sets (length a.accept)
       → IsWideRow shapes a (without_var x a.tracks) node value → HasSets shapes sets node
-  wide-sets shapes sets node value singles row = record {
+  wide-sets singles row = record {
     known = row.known;
     numbered = λ letter. let w = row.within letter in let e = singles.enough in omega (arith, w, e);
   }
@@ -93,9 +93,9 @@ module _ (a : Automaton) (x : Var) (valid : IsAutomaton a) where
   ]
 
   -- two letters with one bit that agree below agree up to the track
-  agree-with : (m n p q track bit : ℕ) → IsWithBit p m track bit → IsWithBit q n track bit → ((k : ℕ) → k < track → bit_at m k ≡ bit_at n k)
+  agree-with : {m n p q track bit : ℕ} → IsWithBit p m track bit → IsWithBit q n track bit → ((k : ℕ) → k < track → bit_at m k ≡ bit_at n k)
       → (k : ℕ) → k < track + 1 → bit_at p k ≡ bit_at q k
-  agree-with m n p q track bit is_p is_q agree k h = elim (cases_eq k track) [
+  agree-with {p} {q} {track} is_p is_q agree k h = elim (cases_eq k track) [
     | inl e ↦ ap (bit_at p) e ∙ is_p.at ∙ sym (is_q.at) ∙ ap (bit_at q) (sym e)
     | inr ne ↦ is_p.same k ne ∙ agree k (below k ne h) ∙ sym (is_q.same k ne)
   ]
@@ -120,10 +120,10 @@ module _ (a : Automaton) (x : Var) (valid : IsAutomaton a) where
         ∙ ap (λ n. n ∷ []) (row.reads letter)
 
     -- the states at both bits
-    both-bits : (letter off on state : ℕ) → IsWithBit off letter (length (without_var x a.tracks)) 0 → IsWithBit on letter (length (without_var x a.tracks)) 1
+    both-bits : {letter off on : ℕ} (state : ℕ) → IsWithBit off letter (length (without_var x a.tracks)) 0 → IsWithBit on letter (length (without_var x a.tracks)) 1
         → Contains (set_of shapes sets merged letter) state
         ↔ ((value (restrict (without_var x a.tracks) a.tracks off) ≡ state) ⊎ (value (restrict (without_var x a.tracks) a.tracks on) ≡ state))
-    both-bits letter off on state is_off is_on =
+    both-bits {letter} {off} {on} state is_off is_on =
         let union = (is.map letter off on is_off is_on).members state in (
           λ c. elim (union.0 c) [
             | inl l ↦ inl (only-single _ state (subst (λ set. Contains set state) (single-now off) l))
@@ -146,11 +146,11 @@ module _ (a : Automaton) (x : Var) (valid : IsAutomaton a) where
           let off =
           restrict-agree (without_var x a.tracks) a.tracks (length (without_var x a.tracks) + 1) m_off.0 n_off.0
           (places-left a.tracks x valid.ascending)
-          (agree-with m n m_off.0 n_off.0 (length (without_var x a.tracks)) 0 m_off.1 n_off.1 agree) in
+          (agree-with m_off.1 n_off.1 agree) in
           let on =
           restrict-agree (without_var x a.tracks) a.tracks (length (without_var x a.tracks) + 1) m_on.0 n_on.0
-          (places-left a.tracks x valid.ascending) (agree-with m n m_on.0 n_on.0 (length (without_var x a.tracks)) 1 m_on.1 n_on.1 agree) in
-          (both-bits n n_off.0 n_on.0 state n_off.1 n_on.1).1 (elim ((both-bits m m_off.0 m_on.0 state m_off.1 m_on.1).0 c) [
+          (places-left a.tracks x valid.ascending) (agree-with m_on.1 n_on.1 agree) in
+          (both-bits state n_off.1 n_on.1).1 (elim ((both-bits state m_off.1 m_on.1).0 c) [
             | inl l ↦ inl (ap value (sym off) ∙ l)
             | inr r ↦ inr (ap value (sym on) ∙ r)
           ]);
@@ -160,26 +160,26 @@ module _ (a : Automaton) (x : Var) (valid : IsAutomaton a) where
     reads-either letter state below c =
         let off = with-off letter (length (without_var x a.tracks)) in
         let on = with-on letter (length (without_var x a.tracks)) in
-        elim ((both-bits letter off.0 on.0 state off.1 on.1).0 c) [
+        elim ((both-bits state off.1 on.1).0 c) [
           | inl l ↦ record {
             longer = lengthened a.tracks (without_var x a.tracks) 0 letter;
             is = ReadsAs-lengthened a.tracks x valid.ascending letter 0 below;
-            leads = ap value (sym (lengthened-with a.tracks x valid.ascending letter 0 off.0 below (omega arith) off.1)) ∙ l;
+            leads = ap value (sym (lengthened-with a.tracks x valid.ascending 0 below (omega arith) off.1)) ∙ l;
           }
           | inr r ↦ record {
             longer = lengthened a.tracks (without_var x a.tracks) 1 letter;
             is = ReadsAs-lengthened a.tracks x valid.ascending letter 1 below;
-            leads = ap value (sym (lengthened-with a.tracks x valid.ascending letter 1 on.0 below (omega arith) on.1)) ∙ r;
+            leads = ap value (sym (lengthened-with a.tracks x valid.ascending 1 below (omega arith) on.1)) ∙ r;
           }
         ]
 
-    either-reads : (letter state : ℕ) → letter < 2 ^ length (without_var x a.tracks) → Reads letter state value → Contains (set_of shapes sets merged letter) state
-    either-reads letter state below r =
+    either-reads : {letter state : ℕ} → letter < 2 ^ length (without_var x a.tracks) → Reads letter state value → Contains (set_of shapes sets merged letter) state
+    either-reads {letter} {state} below r =
         let off = with-off letter (length (without_var x a.tracks)) in
         let on = with-on letter (length (without_var x a.tracks)) in
-        (both-bits letter off.0 on.0 state off.1 on.1).1 (elim (lengthened-or a.tracks x valid.ascending letter r.longer r.is) [
-          | inl e ↦ inl (ap value (lengthened-with a.tracks x valid.ascending letter 0 off.0 below (omega arith) off.1 ∙ sym e) ∙ r.leads)
-          | inr e ↦ inr (ap value (lengthened-with a.tracks x valid.ascending letter 1 on.0 below (omega arith) on.1 ∙ sym e) ∙ r.leads)
+        (both-bits state off.1 on.1).1 (elim (lengthened-or a.tracks x valid.ascending r.is) [
+          | inl e ↦ inl (ap value (lengthened-with a.tracks x valid.ascending 0 below (omega arith) off.1 ∙ sym e) ∙ r.leads)
+          | inr e ↦ inr (ap value (lengthened-with a.tracks x valid.ascending 1 below (omega arith) on.1 ∙ sym e) ∙ r.leads)
         ])
 
     IsSetRow-merged : (Holds : ℕ → ℕ → Type 0) → ((letter state : ℕ) → Reads letter state value → Holds letter state)
@@ -192,14 +192,14 @@ module _ (a : Automaton) (x : Var) (valid : IsAutomaton a) where
                 let on = with-on letter (length (without_var x a.tracks)) in (is.map letter off.0 on.0 off.1 on.1).known;
           };
       narrow = merged-narrow;
-      members = λ letter state below. (λ c. to letter state (reads-either letter state below c), λ h. either-reads letter state below (from letter state h));
+      members = λ letter state below. (λ c. to letter state (reads-either letter state below c), λ h. either-reads below (from letter state h));
     }
 
   -- the sets of a wide row where no track is lost
   module _ (shapes : List Shape) (sets : List (List ℕ)) (node : ℕ) (value : ℕ → ℕ) (singles : AreSingletons sets (length a.accept))
       (row : IsWideRow shapes a (without_var x a.tracks) node value) (same : length (without_var x a.tracks) ≡ length a.tracks) where
     single-of : (letter : ℕ) → set_of shapes sets node letter ≡ value (restrict (without_var x a.tracks) a.tracks letter) ∷ []
-    single-of letter = single-at sets (map_at shapes node letter) singles (row.within letter) ∙ ap (λ n. n ∷ []) (row.reads letter)
+    single-of letter = single-at (map_at shapes node letter) singles (row.within letter) ∙ ap (λ n. n ∷ []) (row.reads letter)
 
     shorter : (letter : ℕ) → restrict (without_var x a.tracks) a.tracks letter ≡ lengthened a.tracks (without_var x a.tracks) 0 letter
     shorter letter = ap (restrict (without_var x a.tracks) a.tracks) (let e : letter ≡ letter + 0 * 2 ^ length (without_var x a.tracks) = omega arith in e)
@@ -207,7 +207,7 @@ module _ (a : Automaton) (x : Var) (valid : IsAutomaton a) where
     IsSetRow-wide : (Holds : ℕ → ℕ → Type 0) → ((letter state : ℕ) → Reads letter state value → Holds letter state)
         → ((letter state : ℕ) → Holds letter state → Reads letter state value) → IsSetRow shapes sets (length (without_var x a.tracks)) node Holds
     IsSetRow-wide Holds to from = record {
-      is = wide-sets shapes sets node value singles row;
+      is = wide-sets singles row;
       narrow = record {
         same = λ m n state agree c.
             let alike = restrict-agree (without_var x a.tracks) a.tracks (length (without_var x a.tracks)) m n (places-only a.tracks x valid.ascending same) agree in
@@ -221,7 +221,7 @@ module _ (a : Automaton) (x : Var) (valid : IsAutomaton a) where
         }),
         λ h.
             let r = from letter state h in
-            let e = lengthened-only a.tracks x valid.ascending same letter r.longer r.is in
+            let e = lengthened-only a.tracks x valid.ascending same r.is in
             let here : value (restrict (without_var x a.tracks) a.tracks letter) ≡ state = ap value (shorter letter ∙ sym e) ∙ r.leads in
             subst (λ set. Contains set state) (sym (single-of letter ∙ ap (λ n. n ∷ []) here)) (Contains-head state []),
       );
@@ -239,10 +239,10 @@ module _ (a : Automaton) (x : Var) (valid : IsAutomaton a) where
   follows-to : (from letter state : ℕ) → Follows a (without_var x a.tracks) from letter state → Reads letter state (next_state a from)
   follows-to from letter state r = record { longer = r.longer; is = r.is; leads = r.leads }
 
-  pub HasSetRows-wide : (shapes : List Shape) (sets : List (List ℕ)) (first : ℕ) (rows : List ℕ) → AreSingletons sets (length a.accept)
+  pub HasSetRows-wide : {shapes : List Shape} {sets : List (List ℕ)} {first : ℕ} {rows : List ℕ} → AreSingletons sets (length a.accept)
       → HasWideRows shapes a (without_var x a.tracks) first rows → length (without_var x a.tracks) ≡ length a.tracks
       → HasSetRows shapes sets a (without_var x a.tracks) first rows
-  HasSetRows-wide shapes sets first rows singles wide same = record {
+  HasSetRows-wide {shapes} {sets} {first} singles wide same = record {
     valid = valid;
     first_row = IsSetRow-wide shapes sets first (first_state a) singles wide.first_row same (Begins a (without_var x a.tracks)) begins-from begins-to;
     state_rows = record {
@@ -253,11 +253,11 @@ module _ (a : Automaton) (x : Var) (valid : IsAutomaton a) where
     };
   }
 
-  pub HasSetRows-merged : (old shapes : List Shape) (before sets : List (List ℕ)) (first merged_first : ℕ) (rows merged : List ℕ) → AreSingletons before (length a.accept)
+  pub HasSetRows-merged : {old shapes : List Shape} {before sets : List (List ℕ)} {first merged_first : ℕ} {rows merged : List ℕ} → AreSingletons before (length a.accept)
       → HasWideRows old a (without_var x a.tracks) first rows → Grows old shapes → SetsKept before sets
       → IsMerged shapes sets (length (without_var x a.tracks)) first merged_first → EachAnswers (IsMerged shapes sets (length (without_var x a.tracks))) rows merged
       → HasSetRows shapes sets a (without_var x a.tracks) merged_first merged
-  HasSetRows-merged old shapes before sets first merged_first rows merged singles wide grows kept first_is each = record {
+  HasSetRows-merged {old} {shapes} {before} {sets} {first} {merged_first} {rows} {merged} singles wide grows kept first_is each = record {
     valid = valid;
     first_row = IsSetRow-merged old shapes before sets first merged_first (first_state a) singles wide.first_row grows kept first_is (Begins a (without_var x a.tracks)) begins-from begins-to;
     state_rows = record {
@@ -274,8 +274,8 @@ module _ (a : Automaton) (x : Var) (valid : IsAutomaton a) where
     };
   }
 
-  pub wide-rows-sets : (shapes : List Shape) (sets : List (List ℕ)) (rows : List ℕ) → AreSingletons sets (length a.accept) → AreWideRows shapes a (without_var x a.tracks) rows
+  pub wide-rows-sets : {shapes : List Shape} {sets : List (List ℕ)} {rows : List ℕ} → AreSingletons sets (length a.accept) → AreWideRows shapes a (without_var x a.tracks) rows
       → All (HasSets shapes sets) rows
-  wide-rows-sets shapes sets rows singles wide =
+  wide-rows-sets {shapes} {sets} {rows} singles wide =
       All-from_get_or (HasSets shapes sets) rows 0
-      (λ i h. wide-sets shapes sets (get_or rows i 0) (next_state a i) singles (wide.each i (get_or rows i 0) (slice_get-get_or rows i 0 h)))
+      (λ i h. wide-sets singles (wide.each i (get_or rows i 0) (slice_get-get_or rows i 0 h)))

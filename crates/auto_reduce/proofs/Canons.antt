@@ -36,6 +36,6 @@ module _ (a : Automaton) (is : IsAutomaton a) (classes : List ℕ) (count : ℕ)
     size = size ∙ states;
     within = All-from_get_or (λ s. s < length a.accept) canon 0 (λ i h. canon_within i (omega (arith, h, size, states)));
     flags = λ j jw. coarse.respects.flags (get_or canon j 0) j (canon_within j jw) jw (class_kept j jw);
-    steps = λ j x jw below. same_canon _ _ (next_within a is _ x) (next_within a is j x) (coarse.respects.rows (get_or canon j 0) j x (canon_within j jw) jw below (class_kept j jw));
+    steps = λ j x jw below. same_canon _ _ (next_within is _ x) (next_within is j x) (coarse.respects.rows (get_or canon j 0) j x (canon_within j jw) jw below (class_kept j jw));
     apart = λ j k jw kw other. coarse.apart j k jw kw (λ e. other (same_canon j k jw kw e));
   }

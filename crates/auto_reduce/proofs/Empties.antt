@@ -10,5 +10,5 @@ some_word a reached state within flag none =
     let r = reached state within in
     none r.word r.is_word (ap (is_final a) r.leads ∙ flag)
 
-pub no_word : (a : Automaton) → IsAutomaton a → ((state : ℕ) → state < length a.accept → is_final a state ≡ false) → AcceptsNoWord a
-no_word a is none word is_word accepts = true≢false (sym accepts ∙ none (state_of a word) (state_within a is word))
+pub no_word : {a : Automaton} → IsAutomaton a → ((state : ℕ) → state < length a.accept → is_final a state ≡ false) → AcceptsNoWord a
+no_word {a} is none word is_word accepts = true≢false (sym accepts ∙ none (state_of a word) (state_within is word))

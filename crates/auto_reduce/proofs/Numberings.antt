@@ -28,8 +28,8 @@ module _ (a : Automaton) (canon : List ℕ) where
     row-new : (letter : ℕ) → letter < width a → led_in a canon new rows letter ≡ values letter
     row-new letter below = led-kept old new adds.kept rows letter within ∙ sym (is_row letter) ∙ sym (l.leads letter below)
 
-    mention-kept : (state : ℕ) → IsMentioned a canon old rows state → IsMentioned a canon new (rows + 1) state
-    mention-kept s m = record {
+    mention-kept : {state : ℕ} → IsMentioned a canon old rows state → IsMentioned a canon new (rows + 1) state
+    mention-kept m = record {
       row = m.row;
       letter = m.letter;
       within = let w = m.within in omega (arith, w);
@@ -39,7 +39,7 @@ module _ (a : Automaton) (canon : List ℕ) where
 
     new_mentioned : (number : ℕ) → number < length new → IsMentioned a canon new (rows + 1) (get_or new number 0)
     new_mentioned number h = elim (cases_lt number (length old)) [
-      | inl before ↦ subst (IsMentioned a canon new (rows + 1)) (sym (adds.kept number before)) (mention-kept _ (n.mentioned number before))
+      | inl before ↦ subst (IsMentioned a canon new (rows + 1)) (sym (adds.kept number before)) (mention-kept (n.mentioned number before))
       | inr past ↦
           let g = adds.added number past h in
           let low = g.0 % width a in
@@ -120,10 +120,10 @@ pub led-next : (a : Automaton) (canon order : List ℕ) (place letter : ℕ) →
 led-next a canon order place letter = ap (λ r. led_in a canon order r letter) (let e : suc place ≡ place + 1 = omega arith in e)
 
 -- the rows that an order is closed under
-pub order-closed : (a : Automaton) (canon order : List ℕ) (rows : ℕ) → IsOrderTo a canon order rows → (row letter : ℕ) → row < rows + 1
+pub order-closed : {a : Automaton} {canon order : List ℕ} {rows : ℕ} → IsOrderTo a canon order rows → (row letter : ℕ) → row < rows + 1
     → letter < width a → Contains order (led_in a canon order row letter)
-order-closed a canon order rows o zero letter less below = o.first letter below
-order-closed a canon order rows o (suc place) letter less below = o.next place letter (omega (arith, less)) below
+order-closed o zero letter less below = o.first letter below
+order-closed o (suc place) letter less below = o.next place letter (omega (arith, less)) below
 
 -- a place in a row comes after all places of the rows before
 row_before : (width : ℕ) (e row letter earlier : ℕ) → earlier < width → (e < row) ⊎ ((e ≡ row) × (earlier < letter)) → e * width + earlier < row * width + letter
@@ -148,8 +148,8 @@ module _ (a : Automaton) (canon order : List ℕ) (m : Automaton) (q : IsQuotien
   same_width = ap (λ t. 2 ^ length t) q.tracks
 
   state_within : (row letter : ℕ) → state_in row letter < length order
-  state_within zero letter = let w = first_within m q.valid letter in omega (arith, w, q.size)
-  state_within (suc place) letter = let w = next_within m q.valid place letter in omega (arith, w, q.size)
+  state_within zero letter = let w = first_within q.valid letter in omega (arith, w, q.size)
+  state_within (suc place) letter = let w = next_within q.valid place letter in omega (arith, w, q.size)
 
   leads_in : (row letter : ℕ) → row ≤ length order → letter < width a → get_or order (state_in row letter) 0 ≡ led_in a canon order row letter
   leads_in zero letter within below = q.first letter below
@@ -205,5 +205,5 @@ module _ (a : Automaton) (canon order : List ℕ) (m : Automaton) (q : IsQuotien
       row_bound (suc row) zero letter h = absurd (omega (arith, h))
       row_bound (suc row) (suc states) letter h = let r = row_bound row states letter (omega (arith, h)) in omega (arith, r)
 
-pub quotient_numbered : (a m : Automaton) → IsQuotient a m → IsNumberedBreadthFirst m
-quotient_numbered a m q = IsNumbered-quotient a q.canon q.order m q.quotient q.numbered
+pub quotient_numbered : {a m : Automaton} → IsQuotient a m → IsNumberedBreadthFirst m
+quotient_numbered {a} {m} q = IsNumbered-quotient a q.canon q.order m q.quotient q.numbered

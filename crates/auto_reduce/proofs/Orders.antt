@@ -26,8 +26,8 @@ Contains-on old new longer kept x there =
     let p = place_in old x there in
     Contains-at new p.0 x (let w = p.1 in omega (arith, longer, w)) (kept p.0 p.1 ∙ p.2)
 
-pub Contains-kept : (old new values : List ℕ) → AddsAll old new values → (x : ℕ) → Contains old x → Contains new x
-Contains-kept old new values h x there = Contains-on old new h.longer h.kept x there
+pub Contains-kept : {old new values : List ℕ} → AddsAll old new values → (x : ℕ) → Contains old x → Contains new x
+Contains-kept {old} {new} h x there = Contains-on old new h.longer h.kept x there
 
 AddsAll-push : (old : List ℕ) (state : ℕ) → AddsAll old (old ++ state ∷ []) (state ∷ [])
 AddsAll-push old state = record {
@@ -83,8 +83,8 @@ one_value x v there =
     let z : p.0 ≡ 0 = let w = p.1 in omega (arith, w) in
     subst (λ n. get_or (x ∷ []) n 0 ≡ v) z p.2
 
-before_wider : (xs : List ℕ) (y a b : ℕ) → ComesBefore xs a b → ComesBefore (xs ++ y ∷ []) a b
-before_wider xs y a b h =
+before_wider : {xs : List ℕ} (y : ℕ) {a b : ℕ} → ComesBefore xs a b → ComesBefore (xs ++ y ∷ []) a b
+before_wider {xs} y h =
     let less = h.less in
     let within = h.within in
     let l = length_push xs y in
@@ -98,15 +98,15 @@ before_wider xs y a b h =
     }
 
 -- one value more
-pub AddsAll-more : (old mid new values : List ℕ) (i x : ℕ) → i < length values → x ≡ get_or values i 0 → AddsAll old mid (take i values)
+pub AddsAll-more : {old mid new : List ℕ} (values : List ℕ) (i x : ℕ) → i < length values → x ≡ get_or values i 0 → AddsAll old mid (take i values)
     → AddsAll mid new (x ∷ []) → AddsAll old new (take (i + 1) values)
-AddsAll-more old mid new values i x within is f g =
+AddsAll-more {old} {mid} {new} values i x within is f g =
     let more = take_more values i 0 within ∙ ap (λ v. take i values ++ v ∷ []) (sym is) in
     subst (AddsAll old new) (sym more) (record {
       longer = let a = f.longer in let b = g.longer in omega arith;
       kept = λ place below. g.kept place (let a = f.longer in omega arith) ∙ f.kept place below;
       has = λ value there. elim (Contains-push_cases (take i values) x value there) [
-        | inl before ↦ Contains-kept mid new (x ∷ []) g value (f.has value before)
+        | inl before ↦ Contains-kept g value (f.has value before)
         | inr last ↦ subst (Contains new) last (g.has x (Contains-at (x ∷ []) 0 x (omega arith) refl))
       ];
       added = λ place past inside. elim (cases_lt place (length mid)) [
@@ -122,7 +122,7 @@ AddsAll-more old mid new values i x within is f g =
         | inl before ↦
             let r = f.in_order u v past less before in
             subst (λ n. ComesBefore (take i values ++ x ∷ []) n (get_or new v 0)) (sym (g.kept u (omega (arith, less, before))))
-            (subst (ComesBefore (take i values ++ x ∷ []) (get_or mid u 0)) (sym (g.kept v before)) (before_wider (take i values) x _ _ r))
+            (subst (ComesBefore (take i values ++ x ∷ []) (get_or mid u 0)) (sym (g.kept v before)) (before_wider x r))
         | inr after ↦ elim (cases_lt u (length mid)) [
           | inr both ↦ let r = g.in_order u v both less inside in let p = r.less in let q = r.within in absurd (omega (arith, p, q))
           | inl below ↦

@@ -65,21 +65,21 @@ module _ (a : Automaton) (canon : List ℕ) (shapes : List Shape) (order numbers
     row_of_place k h = leads-row a canon over (get_or order k 0) (All-get_or (λ s. s < length a.accept) order k 0 h (order_within c o))
 
     row_narrow : (k : ℕ) → k < length order → LooksBelow shapes (get_or rows' k 0) (length a.tracks)
-    row_narrow k h = made_narrow _ _ (next_state a (get_or order k 0)) (row_of_place k h) (row_at k h) (next_within a c.valid (get_or order k 0)) (λ letter below. o.next k letter h below)
+    row_narrow k h = made_narrow _ _ (next_state a (get_or order k 0)) (row_of_place k h) (row_at k h) (next_within c.valid (get_or order k 0)) (λ letter below. o.next k letter h below)
 
     row_within : (k : ℕ) → k < length order → (letter : ℕ) → map_at shapes (get_or rows' k 0) letter < length order
-    row_within k h = made_within _ _ (next_state a (get_or order k 0)) (row_of_place k h) (row_at k h) (next_within a c.valid (get_or order k 0)) (λ letter below. o.next k letter h below)
+    row_within k h = made_within _ _ (next_state a (get_or order k 0)) (row_of_place k h) (row_at k h) (next_within c.valid (get_or order k 0)) (λ letter below. o.next k letter h below)
 
     row_leads : (k letter : ℕ) → k < length order → letter < width a → get_or order (map_at shapes (get_or rows' k 0) letter) 0 ≡ get_or canon (next_state a (get_or order k 0) letter) 0
-    row_leads k letter h below = made_leads _ _ (next_state a (get_or order k 0)) (row_of_place k h) (row_at k h) (next_within a c.valid (get_or order k 0)) (λ l b. o.next k l h b) letter below
+    row_leads k letter h below = made_leads _ _ (next_state a (get_or order k 0)) (row_of_place k h) (row_at k h) (next_within c.valid (get_or order k 0)) (λ l b. o.next k l h b) letter below
 
     pub AreRows-quotient : AreRows a.tracks shapes first' rows' flags
     AreRows-quotient =
         let some = order_some c o in
         let few = order_few c o in
         let states = are_flags.size in
-        let narrow = made_narrow _ first' (first_state a) (leads-first a canon over) f (first_within a c.valid) o.first in
-        let within = made_within _ first' (first_state a) (leads-first a canon over) f (first_within a c.valid) o.first in
+        let narrow = made_narrow _ first' (first_state a) (leads-first a canon over) f (first_within c.valid) o.first in
+        let within = made_within _ first' (first_state a) (leads-first a canon over) f (first_within c.valid) o.first in
         record {
           ascending = c.valid.ascending;
           few_tracks = c.valid.few_tracks;
@@ -97,13 +97,13 @@ module _ (a : Automaton) (canon : List ℕ) (shapes : List Shape) (order numbers
 
     pub IsQuotientBy-dense : IsQuotientBy a canon order (dense a.tracks shapes first' rows' flags)
     IsQuotientBy-dense = record {
-      valid = IsAutomaton-dense a.tracks shapes first' rows' flags AreRows-quotient;
+      valid = IsAutomaton-dense AreRows-quotient;
       canonical = c;
       order_is = o;
       tracks = refl;
       size = are_flags.size;
       first = λ letter below. ap (λ k. get_or order k 0) (get_or-row_of shapes (width a) first' letter below) ∙ made_leads _ first' (first_state a)
-          (leads-first a canon over) f (first_within a c.valid) o.first letter below;
+          (leads-first a canon over) f (first_within c.valid) o.first letter below;
       next = λ place letter h below.
           ap (λ k. get_or order k 0) (next_state-dense a.tracks shapes first' rows' flags AreRows-quotient place letter (get_or rows' place 0) (omega (arith, h, are_flags.size)) below
           (same_default rows' place (omega (arith, h, row_count)))) ∙ row_leads place letter h below;
@@ -115,12 +115,12 @@ module _ (a : Automaton) (canon : List ℕ) (shapes : List Shape) (order numbers
         same_default (x ∷ xs) (suc k) h = same_default xs k (omega (arith, h))
         same_default [] k h = absurd (omega (arith, h))
 
-each-first : (R : ℕ → ℕ → Type 0) (node : ℕ) (nodes answers : List ℕ) → EachAnswers R (node ∷ nodes) answers → R node (get_or answers 0 0)
-each-first R node nodes answers all = all.each 0 (omega arith)
+each-first : {R : ℕ → ℕ → Type 0} (node : ℕ) (nodes : List ℕ) {answers : List ℕ} → EachAnswers R (node ∷ nodes) answers → R node (get_or answers 0 0)
+each-first {R = R} node nodes all = all.each 0 (omega arith)
 
-each-rest : (R : ℕ → ℕ → Type 0) (node : ℕ) (nodes answers : List ℕ) → EachAnswers R (node ∷ nodes) answers → EachAnswers R nodes (drop 1 answers)
-each-rest R node nodes [] all = let size = all.size in absurd (omega (arith, size))
-each-rest R node nodes (answer ∷ answers) all = let size = all.size in record { size = omega (arith, size); each = λ i within. all.each (suc i) (omega (arith, within)) }
+each-rest : {R : ℕ → ℕ → Type 0} (node : ℕ) (nodes : List ℕ) {answers : List ℕ} → EachAnswers R (node ∷ nodes) answers → EachAnswers R nodes (drop 1 answers)
+each-rest {R = R} node nodes {answers = []} all = let size = all.size in absurd (omega (arith, size))
+each-rest {R = R} node nodes {answers = answer ∷ answers} all = let size = all.size in record { size = omega (arith, size); each = λ i within. all.each (suc i) (omega (arith, within)) }
 
 -- the first row and the rows of the states of an order, led to the numbers of their canonical states
 module _ {a : Automaton} {canon order numbers table picked : List ℕ} (over : IsOverNodes a) (c : IsCanonical a canon) (o : IsOrder a canon order)
@@ -133,11 +133,11 @@ module _ {a : Automaton} {canon order numbers table picked : List ℕ} (over : I
 
   pub all_known : All (λ node. node < length a.shapes) (a.first_node ∷ picked)
   all_known = All-cons (λ node. node < length a.shapes) a.first_node picked over.nodes.first_known
-      (All-picked (λ node. node < length a.shapes) a.row_nodes order picked is_picked states_within over.nodes.rows_known)
+      (All-picked (λ node. node < length a.shapes) picked is_picked states_within over.nodes.rows_known)
 
   pub all_in_table : All (λ node. (letter : ℕ) → map_at a.shapes node letter < length table) (a.first_node ∷ picked)
   all_in_table = rw table_size (All-cons (λ node. (letter : ℕ) → map_at a.shapes node letter < length a.accept) a.first_node picked over.nodes.first_within
-      (All-picked (λ node. (letter : ℕ) → map_at a.shapes node letter < length a.accept) a.row_nodes order picked is_picked states_within over.nodes.rows_within))
+      (All-picked (λ node. (letter : ℕ) → map_at a.shapes node letter < length a.accept) picked is_picked states_within over.nodes.rows_within))
 
   numbered : (shapes : List Shape) (node made : ℕ) → ((letter : ℕ) → map_at a.shapes node letter < length a.accept)
       → IsLedFrom a.shapes shapes table node made → IsNumbered shapes (entry_at canon a.shapes node) numbers made
@@ -149,10 +149,10 @@ module _ {a : Automaton} {canon order numbers table picked : List ℕ} (over : I
   module _ (shapes : List Shape) (answers : List ℕ) (led : EachAnswers (IsLedFrom a.shapes shapes table) (a.first_node ∷ picked) answers)
       (flags : List Bool) (are_flags : AreFlags a order flags) where
     each : EachAnswers (IsLedFrom a.shapes shapes table) picked (drop 1 answers)
-    each = each-rest (IsLedFrom a.shapes shapes table) a.first_node picked answers led
+    each = each-rest a.first_node picked led
 
     numbered_first : IsNumbered shapes (entry_at canon a.shapes a.first_node) numbers (get_or answers 0 0)
-    numbered_first = numbered shapes a.first_node (get_or answers 0 0) over.nodes.first_within (each-first (IsLedFrom a.shapes shapes table) a.first_node picked answers led)
+    numbered_first = numbered shapes a.first_node (get_or answers 0 0) over.nodes.first_within (each-first a.first_node picked led)
 
     numbered_row : (k : ℕ) → k < length order → IsNumbered shapes (entry_at canon a.shapes (get_or a.row_nodes (get_or order k 0) 0)) numbers (get_or (drop 1 answers) k 0)
     numbered_row k h =
@@ -178,14 +178,14 @@ module _ (a : Automaton) (canon order : List ℕ) (m : Automaton) (q : IsQuotien
   runs [] place state pw sw all e = e
   runs (letter ∷ letters) place state pw sw all e =
       let below = All-head (λ l. l < width a) letter letters all in
-      runs letters (next_state m place letter) (next_state a state letter) (next_within m q.valid place letter)
-      (next_within a q.canonical.valid state letter) (All-tail (λ l. l < width a) letter letters all)
+      runs letters (next_state m place letter) (next_state a state letter) (next_within q.valid place letter)
+      (next_within q.canonical.valid state letter) (All-tail (λ l. l < width a) letter letters all)
       (q.next place letter (omega (arith, pw, q.size)) below ∙ ap (λ s. get_or canon (next_state a s letter) 0) e ∙ q.canonical.steps state letter sw below)
 
-  pub words_lead : (word : List ℕ) → IsWord (length a.tracks) word → get_or order (state_of m word) 0 ≡ get_or canon (state_of a word) 0
-  words_lead [] w = absurd (w.nonempty refl)
-  words_lead (sign ∷ letters) w =
-      runs letters (first_state m sign) (first_state a sign) (first_within m q.valid sign) (first_within a q.canonical.valid sign) (All-tail (λ l. l < width a) sign letters w.letters)
+  pub words_lead : {word : List ℕ} → IsWord (length a.tracks) word → get_or order (state_of m word) 0 ≡ get_or canon (state_of a word) 0
+  words_lead {word = []} w = absurd (w.nonempty refl)
+  words_lead {word = sign ∷ letters} w =
+      runs letters (first_state m sign) (first_state a sign) (first_within q.valid sign) (first_within q.canonical.valid sign) (All-tail (λ l. l < width a) sign letters w.letters)
       (q.first sign (All-head (λ l. l < width a) sign letters w.letters))
 
   flag_is : (place state : ℕ) → place < length m.accept → state < length a.accept → get_or order place 0 ≡ get_or canon state 0 → is_final m place ≡ is_final a state
@@ -193,7 +193,7 @@ module _ (a : Automaton) (canon order : List ℕ) (m : Automaton) (q : IsQuotien
 
   pub words_are : HasSameWords a m
   words_are word w =
-      let flag = flag_is (state_of m word) (state_of a word) (state_within m q.valid word) (state_within a q.canonical.valid word) (words_lead word w) in
+      let flag = flag_is (state_of m word) (state_of a word) (state_within q.valid word) (state_within q.canonical.valid word) (words_lead w) in
       (λ p. sym flag ∙ p, λ p. flag ∙ p)
 
   met_at : (place : ℕ) → place < length m.accept → IsMet a canon (get_or order place 0)
@@ -202,16 +202,16 @@ module _ (a : Automaton) (canon order : List ℕ) (m : Automaton) (q : IsQuotien
   leads_to : (place : ℕ) → (h : place < length m.accept) → state_of m (met_at place h).word ≡ place
   leads_to place h =
       let met = met_at place h in
-      different_places order q.order_is.different (state_of m met.word) place (let w = state_within m q.valid met.word in omega (arith, w, q.size))
-      (omega (arith, h, q.size)) (words_lead met.word met.is_word ∙ met.leads)
+      different_places order q.order_is.different (state_of m met.word) place (let w = state_within q.valid met.word in omega (arith, w, q.size))
+      (omega (arith, h, q.size)) (words_lead met.is_word ∙ met.leads)
 
   -- letters that tell two states apart tell the places of their canonical states apart
   apart_at : (j k s t : ℕ) → j < length m.accept → k < length m.accept → s < length a.accept → t < length a.accept
       → get_or order j 0 ≡ get_or canon s 0 → get_or order k 0 ≡ get_or canon t 0 → ToldApart a s t → ToldApart m j k
   apart_at j k s t jw kw sw tw es et apart =
       let flag = λ (p u : ℕ) (pw : p < length m.accept) (uw : u < length a.accept) (e : get_or order p 0 ≡ get_or canon u 0).
-      flag_is (run m p apart.letters) (run a u apart.letters) (run_within m q.valid apart.letters p pw)
-      (run_within a q.canonical.valid apart.letters u uw) (runs apart.letters p u pw uw apart.are_letters e) in
+      flag_is (run m p apart.letters) (run a u apart.letters) (run_within q.valid apart.letters p pw)
+      (run_within q.canonical.valid apart.letters u uw) (runs apart.letters p u pw uw apart.are_letters e) in
       record {
         letters = apart.letters;
         are_letters = subst (λ ts. All (λ l. l < 2 ^ length ts) apart.letters) (sym q.tracks) apart.are_letters;
@@ -226,24 +226,24 @@ module _ (a : Automaton) (canon order : List ℕ) (m : Automaton) (q : IsQuotien
     apart = λ j k jw kw other.
         let u = met_at j jw in
         let v = met_at k kw in
-        let su = state_within a q.canonical.valid u.word in
-        let sv = state_within a q.canonical.valid v.word in
+        let su = state_within q.canonical.valid u.word in
+        let sv = state_within q.canonical.valid v.word in
         let differ = λ (e : get_or canon (state_of a u.word) 0 ≡ get_or canon (state_of a v.word) 0).
         other (different_places order q.order_is.different j k (omega (arith, jw, q.size)) (omega (arith, kw, q.size)) (sym u.leads ∙ e ∙ v.leads)) in
         apart_at j k (state_of a u.word) (state_of a v.word) jw kw su sv (sym u.leads) (sym v.leads) (q.canonical.apart _ _ su sv differ);
   }
 
-pub quotient_words : (a m : Automaton) → IsQuotient a m → HasSameWords a m
-quotient_words a m q word w = words_are a q.canon q.order m q.quotient word w
+pub quotient_words : {a m : Automaton} → IsQuotient a m → HasSameWords a m
+quotient_words {a} {m} q word w = words_are a q.canon q.order m q.quotient word w
 
-pub quotient_reduced : (a m : Automaton) → IsQuotient a m → IsReduced m
-quotient_reduced a m q = IsReduced-quotient a q.canon q.order m q.quotient
+pub quotient_reduced : {a m : Automaton} → IsQuotient a m → IsReduced m
+quotient_reduced {a} {m} q = IsReduced-quotient a q.canon q.order m q.quotient
 
-pub quotient_tracks : (a m : Automaton) → IsQuotient a m → m.tracks ≡ a.tracks
-quotient_tracks a m q = q.quotient.tracks
+pub quotient_tracks : {a m : Automaton} → IsQuotient a m → m.tracks ≡ a.tracks
+quotient_tracks q = q.quotient.tracks
 
-pub quotient_fewer : (a m : Automaton) → IsQuotient a m → length m.accept ≤ length a.accept
-quotient_fewer a m q =
+pub quotient_fewer : {a m : Automaton} → IsQuotient a m → length m.accept ≤ length a.accept
+quotient_fewer q =
     let few = order_few q.quotient.canonical q.quotient.order_is in
     let size = q.quotient.size in
     omega (arith, few, size)

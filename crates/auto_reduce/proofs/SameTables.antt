@@ -35,9 +35,9 @@ row_below width row rows letter less =
     ]
 
 -- rows that lead to the same states are equal
-pub next_ext : (a b : Automaton) → IsAutomaton a → IsAutomaton b → width a ≡ width b → length a.accept ≡ length b.accept
+pub next_ext : {a b : Automaton} → IsAutomaton a → IsAutomaton b → width a ≡ width b → length a.accept ≡ length b.accept
     → ((state letter : ℕ) → state < length a.accept → letter < width a → next_state a state letter ≡ next_state b state letter) → a.next ≡ b.next
-next_ext a b is_a is_b w states at =
+next_ext {a} {b} is_a is_b w states at =
     let sizes : length a.next ≡ length b.next = is_a.next_size ∙ ap (λ n. n * width a) states ∙ ap (λ n. length b.accept * n) w ∙ sym is_b.next_size in
     ext_get_or 0 a.next b.next sizes (λ place within.
     let whole = div-add-mod' place (width a) in
@@ -113,9 +113,9 @@ module _ (a : Automaton) (o : IsInOrder a) where
     run_below (letter ∷ letters) from low all =
         run_below letters (next_state a from letter) (step_below from letter low (All-head (λ l. l < width a) letter letters all)) (All-tail (λ l. l < width a) letter letters all)
 
-    word_below : (word : List ℕ) → IsWord (length a.tracks) word → state_of a word < state
-    word_below [] is = absurd (is.nonempty refl)
-    word_below (sign ∷ letters) is =
+    word_below : {word : List ℕ} → IsWord (length a.tracks) word → state_of a word < state
+    word_below {word = []} is = absurd (is.nonempty refl)
+    word_below {word = sign ∷ letters} is =
         let below = All-head (λ l. l < width a) sign letters is.letters in
         let low = subst (λ s. s < state) (mention-first sign below) (below_state (zero * width a + sign) (place_in_rows zero sign (suc state) (omega arith) below)) in
         run_below letters (first_state a sign) low (All-tail (λ l. l < width a) sign letters is.letters)
@@ -123,7 +123,7 @@ module _ (a : Automaton) (o : IsInOrder a) where
     pub unmentioned : ⊥
     unmentioned =
         let r = o.reduced.reached state known in
-        let low = word_below r.word r.is_word in
+        let low = word_below r.is_word in
         let leads = r.leads in
         omega (arith, low, leads)
 
@@ -141,8 +141,8 @@ record AreAlike (a b : Automaton) : Type 0 where
   tracks : length a.tracks ≡ length b.tracks
   same : (word : List ℕ) → IsWord (length a.tracks) word → Accepts a word ↔ Accepts b word
 
-flip : (a b : Automaton) → AreAlike a b → AreAlike b a
-flip a b h = record {
+flip : {a b : Automaton} → AreAlike a b → AreAlike b a
+flip h = record {
   left = h.right;
   right = h.left;
   tracks = sym h.tracks;
@@ -160,49 +160,49 @@ module _ (a b : Automaton) (h : AreAlike a b) where
   same_width : width a ≡ width b
   same_width = ap (λ n. 2 ^ n) h.tracks
 
-  Meet-flip : (j k : ℕ) → Meet a b j k → Meet b a k j
-  Meet-flip j k m = record { word = m.word; is_word = subst (λ n. IsWord n m.word) h.tracks m.is_word; leads = m.leads_too; leads_too = m.leads }
+  Meet-flip : {j k : ℕ} → Meet a b j k → Meet b a k j
+  Meet-flip m = record { word = m.word; is_word = subst (λ n. IsWord n m.word) h.tracks m.is_word; leads = m.leads_too; leads_too = m.leads }
 
-  left_in : (j k : ℕ) → Meet a b j k → j < length a.accept
-  left_in j k m = subst (λ s. s < length a.accept) m.leads (state_within a h.left.valid m.word)
+  left_in : {j k : ℕ} → Meet a b j k → j < length a.accept
+  left_in m = subst (λ s. s < length a.accept) m.leads (state_within h.left.valid m.word)
 
-  right_in : (j k : ℕ) → Meet a b j k → k < length b.accept
-  right_in j k m = subst (λ s. s < length b.accept) m.leads_too (state_within b h.right.valid m.word)
+  right_in : {j k : ℕ} → Meet a b j k → k < length b.accept
+  right_in m = subst (λ s. s < length b.accept) m.leads_too (state_within h.right.valid m.word)
 
   -- from states that meet, the same letters lead to states of one flag
-  one_flag : (j k : ℕ) → Meet a b j k → (letters : List ℕ) → All (λ l. l < width b) letters → is_final a (run a j letters) ≡ is_final b (run b k letters)
-  one_flag j k m letters all =
-      let long = IsWord-append (length a.tracks) m.word letters m.is_word (subst (λ n. All (λ l. l < 2 ^ n) letters) (sym h.tracks) all) in
+  one_flag : {j k : ℕ} → Meet a b j k → (letters : List ℕ) → All (λ l. l < width b) letters → is_final a (run a j letters) ≡ is_final b (run b k letters)
+  one_flag m letters all =
+      let long = IsWord-append letters m.is_word (subst (λ n. All (λ l. l < 2 ^ n) letters) (sym h.tracks) all) in
       let some = m.is_word.nonempty in
       let to_a = state_of-append a m.word letters some ∙ ap (λ s. run a s letters) m.leads in
       let to_b = state_of-append b m.word letters some ∙ ap (λ s. run b s letters) m.leads_too in
       ap (is_final a) (sym to_a) ∙ same_flag _ _ (h.same (m.word ++ letters) long) ∙ ap (is_final b) to_b
 
-  one_right : (j k l : ℕ) → Meet a b j k → Meet a b j l → k ≡ l
-  one_right j k l m n =
+  one_right : {j k l : ℕ} → Meet a b j k → Meet a b j l → k ≡ l
+  one_right {k} {l} m n =
       elim (cases_eq k l) [
         | inl e ↦ e
         | inr other ↦
-            let t = h.right.reduced.apart k l (right_in j k m) (right_in j l n) other in
-            absurd (t.differ (sym (one_flag j k m t.letters t.are_letters) ∙ one_flag j l n t.letters t.are_letters))
+            let t = h.right.reduced.apart k l (right_in m) (right_in n) other in
+            absurd (t.differ (sym (one_flag m t.letters t.are_letters) ∙ one_flag n t.letters t.are_letters))
       ]
 
   Meet-first : (letter : ℕ) → letter < width a → Meet a b (first_state a letter) (first_state b letter)
   Meet-first letter below = record { word = letter ∷ []; is_word = IsWord-one (length a.tracks) letter below; leads = refl; leads_too = refl }
 
-  Meet-next : (j k letter : ℕ) → Meet a b j k → letter < width a → Meet a b (next_state a j letter) (next_state b k letter)
-  Meet-next j k letter m below =
+  Meet-next : {j k : ℕ} (letter : ℕ) → Meet a b j k → letter < width a → Meet a b (next_state a j letter) (next_state b k letter)
+  Meet-next letter m below =
       let some = m.is_word.nonempty in
       record {
         word = m.word ++ letter ∷ [];
-        is_word = IsWord-append (length a.tracks) m.word (letter ∷ []) m.is_word (All-cons (λ l. l < width a) letter [] below (All-nil (λ l. l < width a)));
+        is_word = IsWord-append (letter ∷ []) m.is_word (All-cons (λ l. l < width a) letter [] below (All-nil (λ l. l < width a)));
         leads = state_of-append a m.word (letter ∷ []) some ∙ ap (λ s. next_state a s letter) m.leads;
         leads_too = state_of-append b m.word (letter ∷ []) some ∙ ap (λ s. next_state b s letter) m.leads_too;
       }
 
 -- the other way round
-one_left : (a b : Automaton) (h : AreAlike a b) (i j k : ℕ) → Meet a b i k → Meet a b j k → i ≡ j
-one_left a b h i j k m n = one_right b a (flip a b h) k i j (Meet-flip a b h i k m) (Meet-flip a b h j k n)
+one_left : {a b : Automaton} (h : AreAlike a b) {i j k : ℕ} → Meet a b i k → Meet a b j k → i ≡ j
+one_left {a} {b} h m n = one_right b a (flip h) (Meet-flip a b h m) (Meet-flip a b h n)
 
 module _ (a b : Automaton) (h : AreAlike a b) where
   -- where the states below one meet themselves, what is mentioned in the rows up to it meets
@@ -219,7 +219,7 @@ module _ (a b : Automaton) (h : AreAlike a b) where
         let there : get_or (mentions b) (suc s * width a + letter) 0 ≡ next_state b s letter =
         ap (λ w. get_or (mentions b) (suc s * w + letter) 0) (same_width a b h) ∙ mention-next b h.right s letter low in
         subst (λ t. Meet a b t (get_or (mentions b) (suc s * width a + letter) 0)) (sym (mention-next a h.left s letter below))
-        (subst (Meet a b (next_state a s letter)) (sym there) (Meet-next a b h s s letter (known s (omega (arith, below_row))) below))
+        (subst (Meet a b (next_state a s letter)) (sym there) (Meet-next a b h letter (known s (omega (arith, below_row))) below))
 
     mentions_meet : (p : ℕ) → p < suc state * width a → Meet a b (get_or (mentions a) p 0) (get_or (mentions b) p 0)
     mentions_meet p less =
@@ -229,12 +229,12 @@ module _ (a b : Automaton) (h : AreAlike a b) where
         subst (λ n. Meet a b (get_or (mentions a) n 0) (get_or (mentions b) n 0)) whole (mention_in_row (p / width a) (p % width a) row below)
 
     -- a state that meets a later one has no first mention
-    no_first : (fuel p later : ℕ) → p < fuel → p < suc state * width a → get_or (mentions a) p 0 ≡ state → Meet a b state later → state < later → ⊥
-    no_first zero p later less within is m above = omega (arith, less)
-    no_first (suc fuel) p later less within is m above =
+    no_first : (fuel p : ℕ) {later : ℕ} → p < fuel → p < suc state * width a → get_or (mentions a) p 0 ≡ state → Meet a b state later → state < later → ⊥
+    no_first zero p less within is m above = omega (arith, less)
+    no_first (suc fuel) p less within is m above =
         let here = subst (λ s. Meet a b s (get_or (mentions b) p 0)) is (mentions_meet p within) in
-        let later_is = one_right a b h state (get_or (mentions b) p 0) later here m in
-        let later_in = right_in a b h state later m in
+        let later_is = one_right a b h here m in
+        let later_in = right_in a b h m in
         let p_in = rows_within b h.right (suc state) p (omega (arith, above, later_in)) (subst (λ w. p < suc state * w) (same_width a b h) within) in
         let q = earlier_below b h.right p state p_in (omega (arith, above, later_is)) in
         let q_less = q.1 in
@@ -242,17 +242,17 @@ module _ (a b : Automaton) (h : AreAlike a b) where
         let there = subst (Meet a b (get_or (mentions a) q.0 0)) q.2 (mentions_meet q.0 q_within) in
         elim (cases_order (get_or (mentions a) q.0 0) state) [
           | inl same ↦
-              let e = one_right a b h state state later (subst (λ s. Meet a b s state) same there) m in
+              let e = one_right a b h (subst (λ s. Meet a b s state) same there) m in
               omega (arith, e, above)
           | inr rest ↦ elim rest [
             | inl low ↦
-                let e = one_right a b h (get_or (mentions a) q.0 0) (get_or (mentions a) q.0 0) state (known (get_or (mentions a) q.0 0) low) there in
+                let e = one_right a b h (known (get_or (mentions a) q.0 0) low) there in
                 omega (arith, e, low)
             | inr high ↦
-                let state_in = left_in a b h state later m in
+                let state_in = left_in a b h m in
                 let r = earlier_below a h.left q.0 state (rows_within a h.left (suc state) q.0 (omega (arith, state_in)) q_within) high in
                 let r_less = r.1 in
-                no_first fuel r.0 later (omega (arith, r_less, q_less, less)) (omega (arith, r_less, q_within)) r.2 m above
+                no_first fuel r.0 (omega (arith, r_less, q_less, less)) (omega (arith, r_less, q_within)) r.2 m above
           ]
         ]
 
@@ -268,9 +268,9 @@ module _ (a b : Automaton) (h : AreAlike a b) where
         | inr rest ↦ elim rest [
           | inl above ↦
               let p = mentioned a h.left state within in
-              absurd (no_first state known (suc p.0) p.0 (state_of b r.word) (omega arith) p.1 p.2 m above)
+              absurd (no_first state known (suc p.0) p.0 (omega arith) p.1 p.2 m above)
           | inr low ↦
-              let e = one_left a b h state (state_of b r.word) (state_of b r.word) m (known (state_of b r.word) low) in
+              let e = one_left h m (known (state_of b r.word) low) in
               absurd (omega (arith, e, low))
         ]
       ]
@@ -278,19 +278,19 @@ module _ (a b : Automaton) (h : AreAlike a b) where
   itself : (state : ℕ) → state < length a.accept → Meet a b state state
   itself state within = meets_itself (suc state) state (omega arith) within
 
-  one_state : (j k : ℕ) → Meet a b j k → j ≡ k
-  one_state j k m = one_right a b h j j k (itself j (left_in a b h j k m)) m
+  one_state : {j k : ℕ} → Meet a b j k → j ≡ k
+  one_state {j} m = one_right a b h (itself j (left_in a b h m)) m
 
   few_states : length a.accept ≤ length b.accept
   few_states =
       let some = h.left.valid.some_state in
       let last = itself (length a.accept - 1) (omega (arith, some)) in
-      let within = right_in a b h (length a.accept - 1) (length a.accept - 1) last in
+      let within = right_in a b h last in
       omega (arith, within)
 
 module _ (a b : Automaton) (h : AreAlike a b) where
   same_states : length a.accept ≡ length b.accept
-  same_states = let l = few_states a b h in let r = few_states b a (flip a b h) in omega (arith, l, r)
+  same_states = let l = few_states a b h in let r = few_states b a (flip h) in omega (arith, l, r)
 
   same_first : a.first ≡ b.first
   same_first =
@@ -298,18 +298,18 @@ module _ (a b : Automaton) (h : AreAlike a b) where
       let size_b = h.right.valid.first_size in
       let w = same_width a b h in
       ext_get_or 0 a.first b.first (omega (arith, size_a, size_b, w))
-      (λ letter within. one_state a b h (first_state a letter) (first_state b letter) (Meet-first a b h letter (omega (arith, within, size_a))))
+      (λ letter within. one_state a b h (Meet-first a b h letter (omega (arith, within, size_a))))
 
   next_at : (state letter : ℕ) → state < length a.accept → letter < width a → next_state a state letter ≡ next_state b state letter
-  next_at state letter within below = one_state a b h _ _ (Meet-next a b h state state letter (itself a b h state within) below)
+  next_at state letter within below = one_state a b h (Meet-next a b h letter (itself a b h state within) below)
 
   same_next : a.next ≡ b.next
-  same_next = next_ext a b h.left.valid h.right.valid (same_width a b h) same_states next_at
+  same_next = next_ext h.left.valid h.right.valid (same_width a b h) same_states next_at
 
   same_accept : a.accept ≡ b.accept
   same_accept =
       ext_get_or false a.accept b.accept same_states
-      (λ state within. one_flag a b h state state (itself a b h state within) [] (All-nil (λ l. l < width b)))
+      (λ state within. one_flag a b h (itself a b h state within) [] (All-nil (λ l. l < width b)))
 
 pub equal_tables : (a b : Automaton) → IsInOrder a → IsInOrder b → a.tracks ≡ b.tracks → AcceptSameWords a b → HaveEqualTables a b
 equal_tables a b oa ob tracks words =

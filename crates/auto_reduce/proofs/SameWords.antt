@@ -82,7 +82,7 @@ module _ (a : Automaton) (over : IsOverNodes a) where
 
   nodes_lead : (place letter : ℕ) → place < length (nodes_of a) → letter < width a → map_at a.shapes (get_or (nodes_of a) place 0) letter ≡ entry a place letter
   nodes_lead zero letter within below = first-map a over letter below
-  nodes_lead (suc state) letter within below = (AreRowNodes-own a over).leads state letter (omega (arith, within, nodes_size)) below
+  nodes_lead (suc state) letter within below = (AreRowNodes-own over).leads state letter (omega (arith, within, nodes_size)) below
 
 module _ (a b : Automaton) (is_a : IsAutomaton a) (is_b : IsAutomaton b) (over_a : IsOverNodes a) (over_b : IsOverNodes b) (tracks : a.tracks ≡ b.tracks) (flags : a.accept ≡ b.accept)
     (shapes : List Shape) (brought : List ℕ) (grows : Grows a.shapes shapes) (each : EachAnswers (IsCarried b.shapes shapes (λ letter. letter) (λ value. value)) (nodes_of b) brought) where
@@ -132,7 +132,7 @@ module _ (a b : Automaton) (is_a : IsAutomaton a) (is_b : IsAutomaton b) (over_a
         let size_b = is_b.first_size in
         let w = same_width a b tracks in
         ext_get_or 0 a.first b.first (omega (arith, size_a, size_b, w)) (λ letter within. same_entry zero letter (omega arith) (omega (arith, within, size_a)));
-    next = next_ext a b is_a is_b (same_width a b tracks) (ap length flags)
+    next = next_ext is_a is_b (same_width a b tracks) (ap length flags)
         (λ state letter within below. same_entry (suc state) letter (let s = nodes_size a over_a in omega (arith, s, within)) below);
     accept = flags;
   }
@@ -146,7 +146,7 @@ module _ (a b : Automaton) (is_a : IsAutomaton a) (is_b : IsAutomaton b) (over_a
   pub HaveEqualMaps-tables : HaveEqualTables a b → HaveEqualMaps shapes (nodes_of a) brought
   HaveEqualMaps-tables h = record {
     at = λ place letter within below.
-        map_at-narrow shapes (get_or (nodes_of a) place 0) (get_or brought place 0) (length a.tracks) (own_narrow place within) (brought_narrow place within)
+        map_at-narrow (own_narrow place within) (brought_narrow place within)
         (λ low low_below. own_at place low within low_below ∙ same_entry place low ∙ sym (brought_at place low within low_below)) letter;
   }
     where

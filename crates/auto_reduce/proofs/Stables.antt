@@ -43,7 +43,7 @@ module _ (a : Automaton) where
         elim (cases_eq (next_state a (first_state a letter) letter) (first_state a letter)) [
           | inl same ↦ same
           | inr other ↦
-              let t = reduced.apart (next_state a (first_state a letter) letter) (first_state a letter) (next_within a is (first_state a letter) letter) (first_within a is letter) other in
+              let t = reduced.apart (next_state a (first_state a letter) letter) (first_state a letter) (next_within is (first_state a letter) letter) (first_within is letter) other in
               let word = d.stable (letter ∷ t.letters) (record { nonempty = λ e. cc e; letters = All-cons (λ l. l < width a) letter t.letters below t.are_letters }) in
               absurd (t.differ (sym (same_flag _ _ word)))
         ]
@@ -59,7 +59,7 @@ DecidesIntegers-words m a tracks same = (
   λ d. record {
     stable = λ word is.
         let here = same word is in
-        let once = same (repeat_first word) (IsWord-again (length a.tracks) word is) in
+        let once = same (repeat_first word) (IsWord-again is) in
         let s = d.stable word (subst (λ t. IsWord (length t) word) (sym tracks) is) in
         (λ p. once.0 (s.0 (here.1 p)), λ p. here.0 (s.1 (once.1 p)));
   },
@@ -67,7 +67,7 @@ DecidesIntegers-words m a tracks same = (
     stable = λ word is_m.
         let is = subst (λ t. IsWord (length t) word) tracks is_m in
         let here = same word is in
-        let once = same (repeat_first word) (IsWord-again (length a.tracks) word is) in
+        let once = same (repeat_first word) (IsWord-again is) in
         let s = d.stable word is in
         (λ p. once.1 (s.0 (here.0 p)), λ p. here.1 (s.1 (once.0 p)));
   },
@@ -112,18 +112,18 @@ module _ (a : Automaton) (own shapes : List Shape) (first row state : ℕ) (grow
   row-IsKept kept letter leads =
       let own_letter = letter % 2 ^ length a.tracks in
       let below = mod_below letter (2 ^ length a.tracks) (pow_pos (length a.tracks)) in
-      let low = sym (first_leads own_letter below) ∙ sym (map_at-low own first (length a.tracks) letter first_narrow) ∙ sym (grows.map first letter first_known) ∙ leads in
-      grows.map row letter row_known ∙ map_at-low own row (length a.tracks) letter row_narrow ∙ row_leads own_letter below ∙ kept.keeps own_letter below low
+      let low = sym (first_leads own_letter below) ∙ sym (map_at-low letter first_narrow) ∙ sym (grows.map first letter first_known) ∙ leads in
+      grows.map row letter row_known ∙ map_at-low letter row_narrow ∙ row_leads own_letter below ∙ kept.keeps own_letter below low
 
 -- where the states among the leaves of the first row are kept, all are
-pub IsKept-leaves : (a : Automaton) (shapes : List Shape) (first : ℕ) (leaves : List ℕ) → AreLeaves shapes first leaves
+pub IsKept-leaves : (a : Automaton) {shapes : List Shape} {first : ℕ} {leaves : List ℕ} → AreLeaves shapes first leaves
     → ((letter : ℕ) → letter < width a → map_at shapes first letter ≡ first_state a letter)
     → ((k : ℕ) → k < length leaves → IsKept a (get_or leaves k 0)) → (letter : ℕ) → letter < width a → IsKept a (first_state a letter)
-IsKept-leaves a shapes first leaves are leads kept letter below =
+IsKept-leaves a {shapes} {first} {leaves} are leads kept letter below =
     let p = place_in leaves (map_at shapes first letter) (are.all letter) in
     subst (IsKept a) (p.2 ∙ leads letter below) (kept p.0 p.1)
 
 -- a leaf is below the bound of all values
-pub leaf_within : (shapes : List Shape) (first bound : ℕ) (leaves : List ℕ) → AreLeaves shapes first leaves
+pub leaf_within : {shapes : List Shape} {first : ℕ} (bound : ℕ) {leaves : List ℕ} → AreLeaves shapes first leaves
     → ((letter : ℕ) → map_at shapes first letter < bound) → (k : ℕ) → k < length leaves → get_or leaves k 0 < bound
-leaf_within shapes first bound leaves are below k within = let g = are.given k within in subst (λ v. v < bound) g.1 (below g.0)
+leaf_within bound are below k within = let g = are.given k within in subst (λ v. v < bound) g.1 (below g.0)

@@ -59,10 +59,10 @@ RemembersPruned-learns {rows = rows} {shapes = shapes} {met = met} {a = a} all l
   ];
 }
 
-pub IsPruned-leaf : (rows : Rows) (shapes : List Shape) (met : List ℕ) (a r state value : ℕ)
+pub IsPruned-leaf : (rows : Rows) (shapes : List Shape) (met : List ℕ) {a : ℕ} (r state value : ℕ)
     → IsAt rows.from.now a (Leaf state) → value ≡ get_or rows.canon.now state 0
     → r < length shapes → top_track shapes r ≡ 20 → ((letter : ℕ) → StandsFor met (map_at shapes r letter) value) → IsPruned rows shapes met a r
-IsPruned-leaf rows shapes met a r state value at is known top map = record {
+IsPruned-leaf rows shapes met r state value at is known top map = record {
   known = known;
   map = λ letter. subst (StandsFor met (map_at shapes r letter)) (is ∙ sym (ap (λ v. get_or rows.canon.now v 0) (at.map letter))) (map letter);
   top = let t = at.top in omega (arith, t, top);
@@ -72,11 +72,11 @@ either : (met : List ℕ) (b : Bool) (v w x y : ℕ) → StandsFor met v w → S
 either met true v w x y p q = p
 either met false v w x y p q = q
 
-pub IsPruned-test : (rows : Rows) (mid shapes : List Shape) (met : List ℕ) (a r track low high low' high' : ℕ)
+pub IsPruned-test : {rows : Rows} {mid : List Shape} (shapes : List Shape) {met : List ℕ} {a : ℕ} (r track low high : ℕ) {low' high' : ℕ}
     → IsAt rows.from.now a (Test track low high)
     → IsPruned rows mid met low low' → IsPruned rows mid met high high'
     → r < length shapes → ((letter : ℕ) → map_at shapes r letter ≡ chosen mid track low' high' letter) → track ≤ top_track shapes r → IsPruned rows shapes met a r
-IsPruned-test rows mid shapes met a r track low high low' high' at l h known map top = record {
+IsPruned-test {rows} {mid} shapes {met} {a} r track low high {low'} {high'} at l h known map top = record {
   known = known;
   map = λ letter.
       let from = rows.from.now in
@@ -96,10 +96,10 @@ done_before done new node other noted there = elim (cases_eq other node) [
   | inr apart ↦ inl (sym (ap (λ l. get_or l other false) noted ∙ get_or-set_other done node other true false apart) ∙ there)
 ]
 
-pub AreDone-note : (rows : Rows) (shapes : List Shape) (met : List ℕ) (done new : List Bool) (node r : ℕ)
+pub AreDone-note : (rows : Rows) (shapes : List Shape) {met : List ℕ} {done : List Bool} (new : List Bool) (node r : ℕ)
     → AreDone (canonical_at rows) met done → new ≡ set done node true
     → IsPruned rows shapes met node r → IsMetLeaf shapes met r → AreDone (canonical_at rows) met new
-AreDone-note rows shapes met done new node r all noted is leaf = record {
+AreDone-note rows shapes {met} {done} new node r all noted is leaf = record {
   are_met = λ other letter there. elim (done_before done new node other noted there) [
     | inl before ↦ all.are_met other letter before
     | inr e ↦ subst (λ n. Contains met (canonical_at rows n letter)) (sym e) (here letter)
@@ -110,7 +110,7 @@ AreDone-note rows shapes met done new node r all noted is leaf = record {
     here letter = elim (is.map letter) [ inl same ↦ subst (Contains met) same (leaf.is_met letter) | inr both ↦ both.1 ]
 
 pub AreDone-more : {states : ℕ → ℕ → ℕ} {old new values : List ℕ} {done : List Bool} → AddsAll old new values → AreDone states old done → AreDone states new done
-AreDone-more {old = old} {new = new} {values = values} adds all = record { are_met = λ node letter there. Contains-kept old new values adds _ (all.are_met node letter there) }
+AreDone-more {old = old} {new = new} {values = values} adds all = record { are_met = λ node letter there. Contains-kept adds _ (all.are_met node letter there) }
 
 pub AreDone-none : (states : ℕ → ℕ → ℕ) (met : List ℕ) (done : List Bool) → ((node : ℕ) → get_or done node false ≡ false) → AreDone states met done
 AreDone-none states met done none = record { are_met = λ node letter there. absurd (true≢false (sym there ∙ none node)) }
@@ -145,7 +145,7 @@ module _ (to : List Shape) (row : ℕ → ℕ) (r : ℕ) (old new leaves : List 
     kept = adds.kept;
     has = λ letter. elim (is letter) [
       | inl same ↦ subst (Contains new) same (adds.has _ (are.all letter))
-      | inr both ↦ Contains-kept old new leaves adds _ both.1
+      | inr both ↦ Contains-kept adds _ both.1
     ];
     added = λ place past within.
         let p = place_in leaves _ (adds.added place past within) in
@@ -160,9 +160,9 @@ module _ (to : List Shape) (row : ℕ → ℕ) (r : ℕ) (old new leaves : List 
   }
 
 -- the first row is added whole
-pub AddsRow-first : (to : List Shape) (row : ℕ → ℕ) (r : ℕ) (new leaves : List ℕ) → ((letter : ℕ) → map_at to r letter ≡ row letter)
+pub AddsRow-first : {to : List Shape} (row : ℕ → ℕ) {r : ℕ} {new leaves : List ℕ} → ((letter : ℕ) → map_at to r letter ≡ row letter)
     → AreLeaves to r leaves → AddsAll [] new leaves → AllPairs (λ j k. j ≢ k) new → AddsRow row [] new
-AddsRow-first to row r new leaves is are adds apart = AddsRow-pruned to row r [] new leaves (λ letter. inl (is letter)) are adds apart
+AddsRow-first {to} row {r} {new} {leaves} is are adds apart = AddsRow-pruned to row r [] new leaves (λ letter. inl (is letter)) are adds apart
 
 -- ---- what is found before any diagram is made
 is_one : Unmet → Bool
@@ -178,9 +178,9 @@ found-either : (met : List ℕ) (found : Unmet) (b : Bool) (v w : ℕ) → IsFou
 found-either met found true v w p q = p
 found-either met found false v w p q = q
 
-pub Finds-leaf : (from : List Shape) (canon met : List ℕ) (before after : Unmet) (node state : ℕ) → IsAt from node (Leaf state)
+pub Finds-leaf : (from : List Shape) (canon met : List ℕ) (before : Unmet) {after : Unmet} (node state : ℕ) → IsAt from node (Leaf state)
     → Finds met before (λ letter. get_or canon state 0) after → Finds met before (entry_at canon from node) after
-Finds-leaf from canon met before after node state at f =
+Finds-leaf from canon met before {after} node state at f =
     let same : (letter : ℕ) → get_or canon state 0 ≡ entry_at canon from node letter = λ letter. sym (ap (λ v. get_or canon v 0) (at.map letter)) in
     record {
       leads = λ letter. subst (IsFound met after) (same letter) (f.leads letter);
@@ -191,10 +191,10 @@ Finds-leaf from canon met before after node state at f =
       ];
     }
 
-pub Finds-test : (from : List Shape) (canon met : List ℕ) (before mid after : Unmet) (node track low high : ℕ)
+pub Finds-test : (from : List Shape) (canon met : List ℕ) (before : Unmet) {mid after : Unmet} (node track low high : ℕ)
     → IsAt from node (Test track low high) → HasChildren from node (Test track low high)
     → Finds met before (entry_at canon from low) mid → Finds met mid (entry_at canon from high) after → Finds met before (entry_at canon from node) after
-Finds-test from canon met before mid after node track low high at children l h = record {
+Finds-test from canon met before {after} node track low high at children l h = record {
   leads = λ letter.
       let entry = ap (λ v. get_or canon v 0) (at.map letter) ∙ entry-either canon (nat_eq (bit_at letter track) 0) (map_at from low letter) (map_at from high letter) in
       subst (IsFound met after) (sym entry)
@@ -210,9 +210,9 @@ Finds-test from canon met before mid after node track low high at children l h =
   ];
 }
 
-pub AreDoneWith-kept : (states : ℕ → ℕ → ℕ) (met : List ℕ) (before after : Unmet) (row : ℕ → ℕ) (done : List Bool) → Finds met before row after
+pub AreDoneWith-kept : {states : ℕ → ℕ → ℕ} {met : List ℕ} {before after : Unmet} {row : ℕ → ℕ} {done : List Bool} → Finds met before row after
     → AreDoneWith states met before done → AreDoneWith states met after done
-AreDoneWith-kept states met before after row done f all = record { are_found = λ node letter there. f.kept (states node letter) (all.are_found node letter there) }
+AreDoneWith-kept {states} f all = record { are_found = λ node letter there. f.kept (states node letter) (all.are_found node letter there) }
 
 pub AreDoneWith-note : (states : ℕ → ℕ → ℕ) (met : List ℕ) (before after : Unmet) (done new : List Bool) (node : ℕ)
     → AreDoneWith states met after done → new ≡ set done node true → Finds met before (states node) after
@@ -224,9 +224,9 @@ AreDoneWith-note states met before after done new node all noted f = record {
   ];
 }
 
-pub AreDoneBut-note : (states : ℕ → ℕ → ℕ) (met nodes : List ℕ) (done new : List Bool) (node : ℕ) → AreDoneBut states met nodes done
+pub AreDoneBut-note : {states : ℕ → ℕ → ℕ} {met nodes : List ℕ} {done : List Bool} (new : List Bool) (node : ℕ) → AreDoneBut states met nodes done
     → new ≡ set done node true → AreDoneBut states met (nodes ++ node ∷ []) new
-AreDoneBut-note states met nodes done new node all noted = record {
+AreDoneBut-note {nodes} {done} new node all noted = record {
   are_met = λ other there. elim (done_before done new node other noted there) [
     | inl was ↦ elim (all.are_met other was) [
       | inl passed ↦ inl (Contains-append_left nodes (node ∷ []) other passed)
@@ -239,18 +239,18 @@ AreDoneBut-note states met nodes done new node all noted = record {
 pub AreDone-from_none : (states : ℕ → ℕ → ℕ) (met : List ℕ) (done : List Bool) → AreDoneWith states met Nothing done → AreDone states met done
 AreDone-from_none states met done all = record { are_met = all.are_found }
 
-one_added : (old new : List ℕ) (state value : ℕ) → AddsAll old new (state ∷ []) → IsFound old (One state) value → Contains new value
-one_added old new state value adds found = elim found [
-  | inl there ↦ Contains-kept old new (state ∷ []) adds value there
+one_added : {old new : List ℕ} (state value : ℕ) → AddsAll old new (state ∷ []) → IsFound old (One state) value → Contains new value
+one_added state value adds found = elim found [
+  | inl there ↦ Contains-kept adds value there
   | inr e ↦ adds.has value (subst (Contains (state ∷ [])) (sym e) (Contains-push [] state))
 ]
 
-pub AreDone-from_one : (states : ℕ → ℕ → ℕ) (old new : List ℕ) (state : ℕ) (done : List Bool) → AddsAll old new (state ∷ [])
+pub AreDone-from_one : (states : ℕ → ℕ → ℕ) {old new : List ℕ} (state : ℕ) (done : List Bool) → AddsAll old new (state ∷ [])
     → AreDoneWith states old (One state) done → AreDone states new done
-AreDone-from_one states old new state done adds all = record { are_met = λ node letter there. one_added old new state (states node letter) adds (all.are_found node letter there) }
+AreDone-from_one states state done adds all = record { are_met = λ node letter there. one_added state (states node letter) adds (all.are_found node letter there) }
 
-pub AddsRow-none : (met : List ℕ) (row : ℕ → ℕ) → Finds met Nothing row Nothing → AddsRow row met met
-AddsRow-none met row f = record {
+pub AddsRow-none : {met : List ℕ} {row : ℕ → ℕ} → Finds met Nothing row Nothing → AddsRow row met met
+AddsRow-none f = record {
   longer = omega arith;
   kept = λ place within. refl;
   has = f.leads;
@@ -258,11 +258,11 @@ AddsRow-none met row f = record {
   in_order = λ i j past less within. absurd (omega (arith, past, less, within));
 }
 
-pub AddsRow-one : (old new : List ℕ) (row : ℕ → ℕ) (state : ℕ) → Finds old Nothing row (One state) → AddsAll old new (state ∷ []) → AddsRow row old new
-AddsRow-one old new row state f adds = record {
+pub AddsRow-one : {old new : List ℕ} {row : ℕ → ℕ} (state : ℕ) → Finds old Nothing row (One state) → AddsAll old new (state ∷ []) → AddsRow row old new
+AddsRow-one {new} {row} state f adds = record {
   longer = adds.longer;
   kept = adds.kept;
-  has = λ letter. one_added old new state (row letter) adds (f.leads letter);
+  has = λ letter. one_added state (row letter) adds (f.leads letter);
   added = λ place past within. elim (f.given state refl) [
     | inl none ↦ absurd (Nothing≢One state none)
     | inr u ↦ (u.letter, u.is ∙ one_value state (get_or new place 0) (adds.added place past within))

@@ -48,10 +48,10 @@ module _ (lists : List (List ℕ)) (class state : ℕ) (within : class < length 
     | inr other ↦ inl (subst (λ list. Contains list x) (get_or-set_other lists class c more [] other) there)
   ]
 
-pub AreListedTo-put : (old : List (List ℕ)) (states classes : List ℕ) (new next : List (List ℕ)) (turn class state : ℕ)
+pub AreListedTo-put : {old : List (List ℕ)} {states classes : List ℕ} {new : List (List ℕ)} (next : List (List ℕ)) {turn : ℕ} (class state : ℕ)
     → AreListedTo old states classes new turn → turn < length states → class < length new
     → class ≡ get_or classes turn 0 → state ≡ get_or states turn 0 → next ≡ set new class (get_or new class [] ++ state ∷ []) → AreListedTo old states classes next (turn + 1)
-AreListedTo-put old states classes new next turn class state t within inside class_is state_is is = record {
+AreListedTo-put {states} {classes} {new} next {turn} class state t within inside class_is state_is is = record {
   size = ap length is ∙ length-set new class (get_or new class [] ++ state ∷ []) ∙ t.size;
   kept = λ c x there. subst (λ lists. Contains (get_or lists c []) x) (sym is) (put_keeps new class state inside c x (t.kept c x there));
   added = λ k less. elim (cases_lt k turn) [
@@ -73,9 +73,9 @@ pub AreListed-to : (old : List (List ℕ)) (states classes : List ℕ) (new : Li
 AreListed-to old states classes new turns end t = record { size = t.size; kept = t.kept; added = λ turn less. t.added turn (omega (arith, less, end)); only = t.only }
 
 -- all states in the lists of their classes, which were empty
-pub IsListing-first : (classes : List ℕ) (count : ℕ) (representatives states : List ℕ) (lists : List (List ℕ)) → AreMembers classes count representatives → length states ≡ length classes
+pub IsListing-first : {classes : List ℕ} {count : ℕ} {representatives : List ℕ} (states : List ℕ) {lists : List (List ℕ)} → AreMembers classes count representatives → length states ≡ length classes
     → ((state : ℕ) → state < length classes → get_or states state 0 ≡ state) → AreListed (replicate count []) states classes lists → IsListing classes count representatives lists
-IsListing-first classes count representatives states lists members size each l = record {
+IsListing-first {classes} {count} states {lists} members size each l = record {
   members = members;
   size = l.size ∙ length-replicate count [];
   within = λ class state there. elim (l.only class state there) [
@@ -111,9 +111,9 @@ ArePruned-set classes lists class was kept inside was_is fewer stays = record {
   ];
 }
 
-pub IsListing-pruned : (classes : List ℕ) (count : ℕ) (representatives : List ℕ) (lists pruned : List (List ℕ))
+pub IsListing-pruned : {classes : List ℕ} {count : ℕ} {representatives : List ℕ} {lists pruned : List (List ℕ)}
     → IsListing classes count representatives lists → ArePruned classes lists pruned → IsListing classes count representatives pruned
-IsListing-pruned classes count representatives lists pruned l p = record {
+IsListing-pruned {classes} l p = record {
   members = l.members;
   size = p.size ∙ l.size;
   within = λ class state there. l.within class state (p.fewer class state there);
@@ -181,10 +181,10 @@ AreCandidates-to p representatives stale found t = record {
 }
 
 -- the same states, some of them less often
-pub AreCandidates-once : (p : Partition) (representatives stale found once : List ℕ) → AreCandidates p representatives stale found
+pub AreCandidates-once : {p : Partition} {representatives stale found : List ℕ} (once : List ℕ) → AreCandidates p representatives stale found
     → All (λ state. state < length p.classes.items) once → ((state : ℕ) → Contains found state → Contains once state)
     → AreCandidates p representatives stale once
-AreCandidates-once p representatives stale found once c within all = record {
+AreCandidates-once once c within all = record {
   within = within;
   each = λ state there. all state (c.each state there);
   led = λ state known there. all state (c.led state known there);

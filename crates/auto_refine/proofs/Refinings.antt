@@ -18,12 +18,12 @@ use Rattle.auto_refine.proofs.Counting.{decided}
 use Rattle.auto_refine.proofs.Splits.{none}
 
 -- what leads to classes leads to those of a finer partition where no next state moved
-pub led_to_finer : (a : Automaton) → IsAutomaton a → (shapes : List Shape) (old new : Partition) (moved led : List ℕ)
+pub led_to_finer : {a : Automaton} → IsAutomaton a → {shapes : List Shape} {old new : Partition} {moved led : List ℕ}
     → AreLedRows a shapes old.classes.items led → length new.classes.items ≡ length a.accept
     → IsFiner old.classes.items new.classes.items → KeepsOthers old new moved
     → (state : ℕ) → state < length a.accept → IsShared new.classes.items state → ¬ LeadsInto a moved state
     → IsLed a new.classes.items shapes (get_or led state 0) (next_state a state)
-led_to_finer a is shapes old new moved led l size finer others state within shared apart =
+led_to_finer {a} is {old} {new} l size finer others state within shared apart =
     let in_new : state < length new.classes.items = omega (arith, within, size) in
     let other_in : shared.other < length old.classes.items = let w = shared.within in let c = l.classes_size in omega (arith, w, c, size) in
     let before = l.at state within (record {
@@ -36,16 +36,16 @@ led_to_finer a is shapes old new moved led l size finer others state within shar
       known = before.known;
       narrow = before.narrow;
       leads = λ letter below.
-          let next = next_within a is state letter in
+          let next = next_within is state letter in
           let stays = others.kept (next_state a state letter) (let c = l.classes_size in omega (arith, next, c)) (λ there. apart (letter, below, there)) in
           before.leads letter below ∙ sym stays;
     }
 
 -- rows that lead to the classes, where the others are led again
-pub AreLedRows-again : (a : Automaton) (shapes more : List Shape) (classes stale led next : List ℕ) → length classes ≡ length a.accept → length led ≡ length a.accept
+pub AreLedRows-again : {a : Automaton} {shapes more : List Shape} {classes stale led next : List ℕ} → length classes ≡ length a.accept → length led ≡ length a.accept
     → ((state : ℕ) → state < length a.accept → IsShared classes state → ¬ Contains stale state → IsLed a classes shapes (get_or led state 0) (next_state a state))
     → Grows shapes more → AreLedAgain a more stale classes led next → AreLedRows a more classes next
-AreLedRows-again a shapes more classes stale led next classes_size size led_before grows again = record {
+AreLedRows-again {a} {more} {classes} {stale} {led} classes_size size led_before grows again = record {
   classes_size = classes_size;
   size = again.size ∙ size;
   at = λ state within shared. elim (decided _ (is_member-Decides Decides-eqb stale state)) [
@@ -54,16 +54,16 @@ AreLedRows-again a shapes more classes stale led next classes_size size led_befo
         let before = led_before state within shared absent in
         subst (λ node. IsLed a classes more node (next_state a state)) (sym (again.kept state within absent)) (record {
           known = let k = before.known in let g = grows.longer in omega (arith, k, g);
-          narrow = LooksBelow-grows shapes more _ (length a.tracks) before.known grows before.narrow;
+          narrow = LooksBelow-grows before.known grows before.narrow;
           leads = λ letter below. grows.map (get_or led state 0) letter before.known ∙ before.leads letter below;
         })
   ];
 }
 
 -- fewer rows may lead elsewhere where only those of states that share their class count
-pub IsRefined-fewer : (a : Automaton) (r : Refining) (but other : ℕ → Type 0) → IsRefined a r but
+pub IsRefined-fewer : {a : Automaton} {r : Refining} {but : ℕ → Type 0} (other : ℕ → Type 0) → IsRefined a r but
     → ((state : ℕ) → state < length a.accept → IsShared r.partition.classes.items state → but state → other state) → IsRefined a r other
-IsRefined-fewer a r but other f within = record {
+IsRefined-fewer other f within = record {
   sound = f.sound;
   listing = f.listing;
   settled = f.settled;
@@ -71,16 +71,16 @@ IsRefined-fewer a r but other f within = record {
   led = λ state known shared apart. f.led state known shared (λ h. apart (within state known shared h));
 }
 
-pub IsRefined-stale : (a : Automaton) (r : Refining) (moved stale : List ℕ) → IsRefined a r (LeadsInto a moved)
+pub IsRefined-stale : {a : Automaton} {r : Refining} (moved stale : List ℕ) → IsRefined a r (LeadsInto a moved)
     → AreStale a r.partition.classes.items moved stale → IsRefined a r (Contains stale)
-IsRefined-stale a r moved stale f s =
-    IsRefined-fewer a r (LeadsInto a moved) (Contains stale) f (λ state known shared h. s.rest state h.0 known shared h.1 h.2)
+IsRefined-stale moved stale f s =
+    IsRefined-fewer (Contains stale) f (λ state known shared h. s.rest state h.0 known shared h.1 h.2)
 
 -- where no state moved, states of one class lead to one class
-rows_respected : (a : Automaton) (r : Refining) → IsRefined a r (LeadsInto a []) → (j k letter : ℕ) → j < length a.accept → k < length a.accept → letter < width a
+rows_respected : {a : Automaton} {r : Refining} → IsRefined a r (LeadsInto a []) → (j k letter : ℕ) → j < length a.accept → k < length a.accept → letter < width a
     → get_or r.partition.classes.items j 0 ≡ get_or r.partition.classes.items k 0 → get_or r.partition.classes.items (next_state a j letter)
     0 ≡ get_or r.partition.classes.items (next_state a k letter) 0
-rows_respected a r f j k letter jw kw below same = elim (cases_eq j k) [
+rows_respected {a} {r} f j k letter jw kw below same = elim (cases_eq j k) [
   | inl e ↦ ap (λ n. get_or r.partition.classes.items (next_state a n letter) 0) e
   | inr other ↦
       let classes = r.partition.classes.items in
@@ -96,10 +96,10 @@ rows_respected a r f j k letter jw kw below same = elim (cases_eq j k) [
       sym (j_led.leads letter below) ∙ ap (λ n. map_at r.diagrams n letter) node ∙ k_led.leads letter below
 ]
 
-pub IsCoarsest-refined : (a : Automaton) (r : Refining) → IsRefined a r (LeadsInto a []) → IsCoarsest a r.partition.classes.items r.partition.count
-IsCoarsest-refined a r f = record {
+pub IsCoarsest-refined : {a : Automaton} {r : Refining} → IsRefined a r (LeadsInto a []) → IsCoarsest a r.partition.classes.items r.partition.count
+IsCoarsest-refined f = record {
   partition = f.sound.partition;
-  respects = record { flags = f.sound.flags; rows = rows_respected a r f };
+  respects = record { flags = f.sound.flags; rows = rows_respected f };
   apart = f.sound.apart;
 }
 

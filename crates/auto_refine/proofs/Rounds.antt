@@ -23,9 +23,9 @@ use Rattle.auto_refine.proofs.Counting.{length_le-below}
 
 -- ---- a round
 -- a row that is led to classes leads letters to the classes of the next states
-pub IsLed-from : (a : Automaton) (shapes : List Shape) (rows classes : List ℕ) (state led : ℕ) → AreRowNodes a rows → state < length a.accept
+pub IsLed-from : {a : Automaton} (shapes : List Shape) {rows : List ℕ} (classes : List ℕ) (state led : ℕ) → AreRowNodes a rows → state < length a.accept
     → IsLedFrom a.shapes shapes classes (get_or rows state 0) led → IsLed a classes shapes led (next_state a state)
-IsLed-from a shapes rows classes state led r within m =
+IsLed-from {a} shapes {rows} classes state led r within m =
     let narrow = All-get_or (λ node. LooksBelow a.shapes node (length a.tracks)) rows state 0 (omega (arith, r.size, within)) r.narrow in
     record {
       known = m.known;
@@ -38,11 +38,11 @@ module _ (a : Automaton) (shapes : List Shape) (is : IsDiagram shapes) (start le
   same_node : (j k : ℕ) → IsLed a start shapes (get_or led j 0) (next_state a j) → IsLed a start shapes (get_or led k 0) (next_state a k)
       → ((letter : ℕ) → letter < width a → get_or start (next_state a j letter) 0 ≡ get_or start (next_state a k letter) 0) → get_or led j 0 ≡ get_or led k 0
   same_node j k jl kl same =
-      node-from_map shapes is _ _ jl.known kl.known (map_at-narrow shapes _ _ (length a.tracks) jl.narrow kl.narrow
+      node-from_map shapes is _ _ jl.known kl.known (map_at-narrow jl.narrow kl.narrow
       (λ letter below. jl.leads letter below ∙ same letter below ∙ sym (kl.leads letter below)))
 
-  pub IsRound-split : (classes : List ℕ) (count : ℕ) → IsSplit start led classes count → IsRound a start classes count
-  IsRound-split classes count s = record {
+  pub IsRound-split : {classes : List ℕ} {count : ℕ} → IsSplit start led classes count → IsRound a start classes count
+  IsRound-split {classes} {count} s = record {
     partition = subst (λ n. IsPartition n classes count) l.classes_size s.partition;
     same = λ j k jw kw. elim (cases_eq j k) [
       | inl e ↦ (λ _. (ap (λ n. get_or start n 0) e, λ letter below. ap (λ n. get_or start (next_state a n letter) 0) e), λ _. ap (λ n. get_or classes n 0) e)
@@ -143,9 +143,9 @@ pub HasOther-from : (classes : List ℕ) (both : Bool) → IsAnyAnswer (λ class
 HasOther-from classes true found = (found.0, found.1, (Decides-eqb _ _).0 (found.2 0))
 HasOther-from classes false none = λ k inside e. true≢false (sym ((Decides-eqb _ _).1 e) ∙ none k 0 (omega arith) inside)
 
-IsPartition-flags : (a : Automaton) (classes : List ℕ) (both : Bool) → 0 < length a.accept → IsFlag a classes
+IsPartition-flags : {a : Automaton} {classes : List ℕ} (both : Bool) → 0 < length a.accept → IsFlag a classes
     → HasOther classes both → IsPartition (length a.accept) classes (1 + cond both 1 0)
-IsPartition-flags a classes true some f found = record {
+IsPartition-flags true some f found = record {
   states = f.states;
   within = f.below;
   attained = λ class within. elim (cases_eq class 0) [
@@ -153,7 +153,7 @@ IsPartition-flags a classes true some f found = record {
     | inr more ↦ record { state = found.0; within = found.1; has = found.2 ∙ omega (arith, within, more) }
   ];
 }
-IsPartition-flags a classes false some f none = record {
+IsPartition-flags {classes} false some f none = record {
   states = f.states;
   within = All-from_get_or (λ class. class < 1) classes 0 (λ k inside.
       let below = All-get_or (λ class. class < 2) classes k 0 inside f.below in
@@ -162,9 +162,9 @@ IsPartition-flags a classes false some f none = record {
   attained = λ class within. record { state = 0; within = omega (arith, some, f.states); has = f.first ∙ omega (arith, within) };
 }
 
-pub IsSound-flags : (a : Automaton) (classes : List ℕ) (both : Bool) → 0 < length a.accept → IsFlag a classes → HasOther classes both → IsSound a classes (1 + cond both 1 0)
-IsSound-flags a classes both some f h = record {
-  partition = IsPartition-flags a classes both some f h;
+pub IsSound-flags : {a : Automaton} {classes : List ℕ} (both : Bool) → 0 < length a.accept → IsFlag a classes → HasOther classes both → IsSound a classes (1 + cond both 1 0)
+IsSound-flags {a} both some f h = record {
+  partition = IsPartition-flags both some f h;
   flags = λ j k jw kw. (f.flags j k (omega (arith, jw, f.states)) (omega (arith, kw, f.states))).0;
   apart = λ j k jw kw other. record {
     letters = [];
@@ -184,7 +184,7 @@ module _ (a : Automaton) (is : IsAutomaton a) (old new : List ℕ) (count count'
           | inl same ↦ elim (agree_or_differ (λ x. get_or old (next_state a j x) 0) (λ x. get_or old (next_state a k x) 0) (width a)) [
             | inl agree ↦ absurd (other ((r.same j k jw kw).1 (same, agree)))
             | inr found ↦
-                let rest = s.apart (next_state a j found.0) (next_state a k found.0) (next_within a is j found.0) (next_within a is k found.0) found.2 in
+                let rest = s.apart (next_state a j found.0) (next_state a k found.0) (next_within is j found.0) (next_within is k found.0) found.2 in
                 record {
                   letters = found.0 ∷ rest.letters;
                   are_letters = All-cons (λ letter. letter < width a) found.0 rest.letters found.1 rest.are_letters;

@@ -66,8 +66,8 @@ module _ (classes representatives nodes : List ℕ) (count : ℕ) (old new : Lis
     (kept : PairsKept old new) (unrepeated : AllPairs (λ p q. p ≢ q) new) (state place class node own : ℕ) (within : state < length classes)
     (class_is : class ≡ get_or classes state 0) (node_is : node ≡ get_or nodes state 0) (own_is : own ≡ chosen_node classes representatives nodes state) (other : node ≢ own)
     (at : slice_get new place ≡ Some (class, node)) where
-  move_kept : (s number : ℕ) → IsMove classes representatives nodes count old s number → IsMove classes representatives nodes count new s number
-  move_kept s number h = record { within = h.within; other = h.other; least = h.least; is = kept.at _ _ h.is }
+  move_kept : {s number : ℕ} → IsMove classes representatives nodes count old s number → IsMove classes representatives nodes count new s number
+  move_kept h = record { within = h.within; other = h.other; least = h.least; is = kept.at _ _ h.is }
 
   move_new : (number : ℕ) → number ≡ count + place → IsMove classes representatives nodes count new state number
   move_new number is = record {
@@ -85,7 +85,7 @@ module _ (classes representatives nodes : List ℕ) (count : ℕ) (old new : Lis
       elim (cases_lt turn (length states)) [
         | inl before ↦
             let number_stays = get_or_append_left numbers (number ∷ []) 0 turn (omega (arith, before, size)) in
-            rw (get_or_append_left states (state ∷ []) 0 turn before, number_stays) (move_kept _ _ (m.each turn before))
+            rw (get_or_append_left states (state ∷ []) 0 turn before, number_stays) (move_kept (m.each turn before))
         | inr past ↦
             let here : length states ≡ turn = omega (arith, more, less, past) in
             rw (get_or_push states state 0 turn here, get_or_push numbers number 0 turn (omega (arith, here, size))) (move_new number is)
@@ -102,7 +102,7 @@ module _ (classes representatives nodes : List ℕ) (count : ℕ) (old new : Lis
         size = length_push numbers number ∙ ap (λ n. n + 1) m.size ∙ sym (length_push states state);
         each = each_new number is;
         firsts_size = omega (arith, full, longer, size);
-        first = λ p less. move_kept _ _ (m.first p (omega (arith, less, full, size)));
+        first = λ p less. move_kept (m.first p (omega (arith, less, full, size)));
       }
 
   -- of a new signature
@@ -122,7 +122,7 @@ module _ (classes representatives nodes : List ℕ) (count : ℕ) (old new : Lis
           each = each_new number is;
           firsts_size = length_push firsts state ∙ omega (arith, l, size);
           first = λ q less. elim (cases_lt q (length firsts)) [
-            | inl before ↦ rw (get_or_append_left firsts (state ∷ []) 0 q before) (move_kept _ _ (m.first q (omega (arith, before, size))))
+            | inl before ↦ rw (get_or_append_left firsts (state ∷ []) 0 q before) (move_kept (m.first q (omega (arith, before, size))))
             | inr past ↦ rw (get_or_push firsts state 0 q (omega (arith, less, past, l, size))) (move_new (count + q) (omega (arith, less, past, l, size, here)))
           ];
         }

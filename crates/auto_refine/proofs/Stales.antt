@@ -19,10 +19,10 @@ use Rattle.auto_refine.proofs.Rounds.{IsLed-from}
 
 -- ---- states whose rows are to be led again
 -- two states stand in the list of a class that a state shares
-pub shared_listed : (classes : List ℕ) (count : ℕ) (representatives : List ℕ) (lists : List (List ℕ)) (state : ℕ)
+pub shared_listed : {classes : List ℕ} {count : ℕ} {representatives : List ℕ} {lists : List (List ℕ)} {state : ℕ}
     → IsListing classes count representatives lists → state < length classes → IsShared classes state
     → 1 < length (get_or lists (get_or classes state 0) [])
-shared_listed classes count representatives lists state l within h =
+shared_listed {classes} {lists} {state} l within h =
     let list = get_or lists (get_or classes state 0) [] in
     let one = l.listed state within in
     let two = subst (λ class. Contains (get_or lists class []) h.other) (sym h.same) (l.listed h.other h.within) in
@@ -59,7 +59,7 @@ pub sorted_all : (found stale classes : List ℕ) (count : ℕ) (representatives
 sorted_all found stale classes count representatives lists l within sorted state there alike =
     let is : get_or found there.0 0 ≡ state = get_or_default found there.0 0 state there.1 ∙ there.2 in
     let known : state < length classes = subst (λ s. s < length classes) is (All-get_or (λ s. s < length classes) found there.0 0 there.1 within) in
-    let several = shared_listed classes count representatives lists state l known alike in
+    let several = shared_listed l known alike in
     subst (Contains stale) is (sorted there.0 there.1 (subst (λ s. 1 < length (get_or lists (get_or classes s 0) [])) (sym is) several))
 
 -- ---- values at their places
@@ -103,32 +103,32 @@ IsPut-from old places values new size to = record {
 }
 
 -- ---- rows that are led again
-pub All-picked : (P : ℕ → Type 0) (rows order picked : List ℕ) → ArePicked rows order picked → All (λ state. state < length rows) order → All P rows → All P picked
-All-picked P rows order picked p within all = All-from_get_or P picked 0 (λ i inside.
+pub All-picked : (P : ℕ → Type 0) {rows order : List ℕ} (picked : List ℕ) → ArePicked rows order picked → All (λ state. state < length rows) order → All P rows → All P picked
+All-picked P {rows} {order} picked p within all = All-from_get_or P picked 0 (λ i inside.
     let here : i < length order = let s = p.size in omega (arith, s, inside) in
     subst P (sym (p.at i here)) (All-get_or P rows (get_or order i 0) 0 (All-get_or (λ state. state < length rows) order i 0 here within) all))
 
-pub AreLedAgain-from : (a : Automaton) (shapes : List Shape) (rows picked nodes states classes old new : List ℕ) → AreRowNodes a rows → length old ≡ length a.accept
+pub AreLedAgain-from : (a : Automaton) (shapes : List Shape) (rows picked nodes states classes : List ℕ) {old new : List ℕ} → AreRowNodes a rows → length old ≡ length a.accept
     → ArePicked rows states picked → EachAnswers (IsLedFrom a.shapes shapes classes) picked nodes → IsPut old states nodes new
     → All (λ state. state < length a.accept) states → AreLedAgain a shapes states classes old new
-AreLedAgain-from a shapes rows picked nodes states classes old new r size p m put within = record {
+AreLedAgain-from a shapes rows picked nodes states classes r size p m put within = record {
   size = put.size;
   led = λ state known there.
       let h = put.put state (omega (arith, known, size)) there in
       let inside : h.turn < length picked = let w = h.within in let s = p.size in omega (arith, w, s) in
       let row : get_or picked h.turn 0 ≡ get_or rows state 0 = p.at h.turn h.within ∙ ap (λ s. get_or rows s 0) h.place_is in
       let mapped = subst (λ node. IsLedFrom a.shapes shapes classes node (get_or nodes h.turn 0)) row (m.each h.turn inside) in
-      subst (λ node. IsLed a classes shapes node (next_state a state)) (sym (h.value_is 0)) (IsLed-from a shapes rows classes state (get_or nodes h.turn 0) r known mapped);
+      subst (λ node. IsLed a classes shapes node (next_state a state)) (sym (h.value_is 0)) (IsLed-from shapes classes state (get_or nodes h.turn 0) r known mapped);
   kept = λ state known absent. put.kept state (omega (arith, known, size)) absent 0;
 }
 
 -- nodes that lead to classes, for the first time
-pub AreLedRows-first : (a : Automaton) (shapes : List Shape) (rows classes led : List ℕ) → AreRowNodes a rows → length classes ≡ length a.accept
+pub AreLedRows-first : {a : Automaton} (shapes : List Shape) {rows : List ℕ} (classes : List ℕ) {led : List ℕ} → AreRowNodes a rows → length classes ≡ length a.accept
     → EachAnswers (IsLedFrom a.shapes shapes classes) rows led → AreLedRows a shapes classes led
-AreLedRows-first a shapes rows classes led r size m = record {
+AreLedRows-first shapes classes {led} r size m = record {
   classes_size = size;
   size = m.size ∙ r.size;
-  at = λ state within shared. IsLed-from a shapes rows classes state (get_or led state 0) r within (m.each state (let s = r.size in omega (arith, s, within)));
+  at = λ state within shared. IsLed-from shapes classes state (get_or led state 0) r within (m.each state (let s = r.size in omega (arith, s, within)));
 }
 
 -- states whose nodes were kept are as settled as they were

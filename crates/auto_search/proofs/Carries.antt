@@ -60,8 +60,8 @@ module _ (axis : Axis) (d : ℤ) (is : IsSlope d) (falls : axis.zero ≡ fall d)
   sum-bit bit bits hi = (more bit bits hi (carried bits (2 * hi + bit_number bit))).1
 
 -- the value of a track after the near end's steps and more
-pub along-is : (value d : ℤ) (near track t : ℕ) (axis : Axis) → IsSlope d → IsAxis value d near track axis → value +ℤ (pos (near + t) *ℤ d) ≡ along axis d t
-along-is value d near track t axis slope is =
+pub along-is : {value d : ℤ} {near track : ℕ} (t : ℕ) {axis : Axis} → IsSlope d → IsAxis value d near track axis → value +ℤ (pos (near + t) *ℤ d) ≡ along axis d t
+along-is {value} {d} {near} t slope is =
     let m = times-add d slope near t in
     let b = is.base in
     rw (b, m) (regroup value (pos near *ℤ d) (pos t *ℤ d))
@@ -80,8 +80,8 @@ module _ (way : Way) (near : ℕ) {steps : ℕ} (ray : Ray) (is_way : IsWay way)
 
   pub tuple-is : (t : ℕ) → tuple_at way (near + t) ≡ set (set way.fixed.now way.x_track (along ray.x way.dx t)) way.y_track (along ray.y way.dy t)
   tuple-is t =
-      let ex = along-is (get_or way.fixed.now way.x_track (pos 0)) way.dx near way.x_track t ray.x is_way.dx is.x in
-      let ey = along-is (get_or way.fixed.now way.y_track (pos 0)) way.dy near way.y_track t ray.y is_way.dy is.y in
+      let ex = along-is t is_way.dx is.x in
+      let ey = along-is t is_way.dy is.y in
       rw (ex, ey) refl
 
   -- the last letters of the tuple at a distance

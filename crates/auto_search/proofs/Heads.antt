@@ -71,10 +71,10 @@ module _ (a : Automaton) (way : Way) (near : ℕ) {steps : ℕ} (ray : Ray) (is_
   abbrev pub IsCarried : Axis → ℤ → ℤ → List Bool → ℕ → ℕ → Type 0
   IsCarried axis d z head place c = int_shr z place +ℤ pos axis.zero ≡ int_shr axis.base place +ℤ (pos (head_number head) *ℤ d) +ℤ pos c
 
-  carried-more : (value d z : ℤ) (track : ℕ) (axis : Axis) (bit : Bool) (head : List Bool) (place c : ℕ) → IsSlope d → IsAxis value d near track axis
+  carried-more : {value d : ℤ} (z : ℤ) {track : ℕ} {axis : Axis} (bit : Bool) (head : List Bool) (place c : ℕ) → IsSlope d → IsAxis value d near track axis
       → FitsBelow ray.top axis.base → ray.top ≤ place → IsCarried axis d z (bit ∷ head) place c
       → IsCarried axis d z head (suc place) (sum_at axis ray.top c bit / 2) × (sum_at axis ray.top c bit % 2 ≡ integer_bit z place)
-  carried-more value d z track axis bit head place c slope i short high e =
+  carried-more {d} z {axis} bit head place c slope i short high e =
       let fixed = high-bit axis.base ray.top place high short in
       let a' = rw fixed at (int_shr-suc axis.base place) in
       carry-step (int_shr z (suc place)) (int_shr z place) (int_shr axis.base (suc place)) (int_shr axis.base place) (pos (head_number head) *ℤ d)
@@ -82,9 +82,9 @@ module _ (a : Automaton) (way : Way) (near : ℕ) {steps : ℕ} (ray : Ray) (is_
       c (integer_bit axis.base ray.top) (added axis bit) (integer_bit z place) axis.zero
       e a' (int_shr-suc z place) (integer_bit-lt z place) (times-double d slope (head_number head) (bit_number bit)) (added-is axis d bit slope i.zero i.one)
 
-  sign-here : (value d z : ℤ) (track : ℕ) (axis : Axis) (place c : ℕ) → IsSlope d → IsAxis value d near track axis → FitsBelow ray.top axis.base
+  sign-here : {value d : ℤ} (z : ℤ) {track : ℕ} {axis : Axis} (place c : ℕ) → IsSlope d → IsAxis value d near track axis → FitsBelow ray.top axis.base
       → ray.top ≤ place → IsCarried axis d z [] place c → FitsBelow place z → sign_of axis ray.top c ≡ Some (integer_bit z place)
-  sign-here value d z track axis place c slope i short high e fits =
+  sign-here {d} z {axis} place c slope i short high e fits =
       let fixed = high-bit axis.base ray.top place high short in
       let s = fits-sign axis.base place (fits-past axis.base ray.top place high short) in
       let s' = rw fixed at s in
@@ -101,14 +101,14 @@ module _ (a : Automaton) (way : Way) (near : ℕ) {steps : ℕ} (ray : Ray) (is_
   unfolding down
   read-is [] place cx cy high ex ey fx fy =
       let zero : place + 0 ≡ place = omega arith in
-      let sx = sign-here (get_or way.fixed.now way.x_track (pos 0)) way.dx x way.x_track ray.x place cx is_way.dx is.x (base-fits ray.x steps ray.top is.x_fits) high ex (rw zero at fx) in
-      let sy = sign-here (get_or way.fixed.now way.y_track (pos 0)) way.dy y way.y_track ray.y place cy is_way.dy is.y (base-fits ray.y steps ray.top is.y_fits) high ey (rw zero at fy) in
+      let sx = sign-here x place cx is_way.dx is.x (base-fits ray.x steps ray.top is.x_fits) high ex (rw zero at fx) in
+      let sy = sign-here y place cy is_way.dy is.y (base-fits ray.y steps ray.top is.y_fits) high ey (rw zero at fy) in
       let l = letter-high place (integer_bit x place) (integer_bit y place) high (let b = integer_bit-lt x place in omega (arith, b)) (let b = integer_bit-lt y place in omega (arith, b)) in
       rw (sx, sy) (ap (λ l. Some (first_state a l)) l)
   read-is (bit ∷ head) place cx cy high ex ey fx fy =
       let next : place + suc (length head) ≡ suc place + length head = omega arith in
-      let hx = carried-more (get_or way.fixed.now way.x_track (pos 0)) way.dx x way.x_track ray.x bit head place cx is_way.dx is.x (base-fits ray.x steps ray.top is.x_fits) high ex in
-      let hy = carried-more (get_or way.fixed.now way.y_track (pos 0)) way.dy y way.y_track ray.y bit head place cy is_way.dy is.y (base-fits ray.y steps ray.top is.y_fits) high ey in
+      let hx = carried-more x bit head place cx is_way.dx is.x (base-fits ray.x steps ray.top is.x_fits) high ex in
+      let hy = carried-more y bit head place cy is_way.dy is.y (base-fits ray.y steps ray.top is.y_fits) high ey in
       let sx = sum_at ray.x ray.top cx bit in
       let sy = sum_at ray.y ray.top cy bit in
       let before = read-is head (suc place) (sx / 2) (sy / 2) (omega (arith, high)) hx.0 hy.0 (rw next at fx) (rw next at fy) in
@@ -165,9 +165,9 @@ module _ (a : Automaton) (valid : IsAutomaton a) (decides : DecidesIntegers a) (
       let e : length lo + length head + 3 ≡ length lo + length (head ++ zeros) = let l = length-append head zeros in omega (arith, l) in
       subst (λ n. FitsBelow n (along axis d (whole (head_number head) lo))) e f
 
-  carried-here : (value d : ℤ) (track : ℕ) (axis : Axis) → IsSlope d → IsAxis value d near track axis
+  carried-here : {value d : ℤ} {track : ℕ} {axis : Axis} → IsSlope d → IsAxis value d near track axis
       → int_shr (along axis d (whole (head_number head) lo)) (length lo) +ℤ pos axis.zero ≡ int_shr axis.base (length lo) +ℤ (pos (head_number (head ++ zeros)) *ℤ d) +ℤ pos (carry axis lo)
-  carried-here value d track axis slope i = rw (head_number-zeros head) (carried axis d slope i.zero i.one lo (head_number head))
+  carried-here {d} {axis} slope i = rw (head_number-zeros head) (carried axis d slope i.zero i.one lo (head_number head))
 
   state-here : ℕ
   state-here = down a (changed a way near ray is_way is x-here y-here) (length lo) (length (head ++ zeros))
@@ -177,8 +177,8 @@ module _ (a : Automaton) (valid : IsAutomaton a) (decides : DecidesIntegers a) (
   reads-here =
       read-is a way near ray is_way is (along ray.x way.dx (whole (head_number head) lo)) (along ray.y way.dy (whole (head_number head) lo))
       (head ++ zeros) (length lo) (carry ray.x lo) (carry ray.y lo) (omega (arith, size))
-      (carried-here (get_or way.fixed.now way.x_track (pos 0)) way.dx way.x_track ray.x is_way.dx is.x)
-      (carried-here (get_or way.fixed.now way.y_track (pos 0)) way.dy way.y_track ray.y is_way.dy is.y)
+      (carried-here is_way.dx is.x)
+      (carried-here is_way.dy is.y)
       (fits-here way.dx ray.x is_way.dx is.x_fits) (fits-here way.dy ray.y is_way.dy is.y_fits)
 
   tuple-here : List ℤ

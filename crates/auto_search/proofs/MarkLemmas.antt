@@ -30,10 +30,10 @@ IsMarked-set failed cell slot small inside = record {
 }
 
 -- marks at the states of a front that no bits complete
-pub Remembers-marked : (a : Automaton) (ray : Ray) (old new : List ℕ) (place state slot : ℕ) (front : List (Option ℕ)) → Remembers a ray old
+pub Remembers-marked : {a : Automaton} {ray : Ray} {old : List ℕ} (new : List ℕ) (place state slot : ℕ) (front : List (Option ℕ)) → Remembers a ray old
     → state < length a.accept → IsMarked old new (cell_of a place state) slot
     → get_or front slot None ≡ Some state → IsDead a ray place front → Remembers a ray new
-Remembers-marked a ray old new place state slot front known small is found dead = record {
+Remembers-marked {a} {ray} new place state slot front known small is found dead = record {
   dead = λ bits state' below marked leads. elim (is.marks (cell_of a (length bits) state') (slot_of ray bits) marked) [
     | inl before ↦ known.dead bits state' below before leads
     | inr here ↦
@@ -43,5 +43,5 @@ Remembers-marked a ray old new place state slot front known small is found dead 
 }
 
 -- as many cells as twice before
-pub SameRoom-trans : (a b c : Marks) → SameRoom a b → SameRoom b c → SameRoom a c
-SameRoom-trans a b c p q = record { failed_kept = q.failed_kept ∙ p.failed_kept; cells_kept = q.cells_kept ∙ p.cells_kept }
+pub SameRoom-trans : {a b c : Marks} → SameRoom a b → SameRoom b c → SameRoom a c
+SameRoom-trans p q = record { failed_kept = q.failed_kept ∙ p.failed_kept; cells_kept = q.cells_kept ∙ p.cells_kept }

@@ -73,13 +73,13 @@ module _ (g new : Trace) (states slots states' slots' : List ℕ) (len : ℕ) (g
   Known-kept head slot state k = elim k [ inl e ↦ inl (Entered-kept head slot state e) | inr t ↦ inr (Twice-kept slot state t) ]
 
 -- the moment passes, and there was nothing to enter
-pub met-wait : (a : Automaton) (ray : Ray) (g : Trace) (times states slots : List ℕ) (len starts now : ℕ) → IsMet a ray g times states slots len starts now
+pub met-wait : {a : Automaton} {ray : Ray} {g : Trace} {times states slots : List ℕ} {len starts now : ℕ} → IsMet a ray g times states slots len starts now
     → ((slot state : ℕ) → slot ≡ now → slot < 9 → IsSlot ray slot → headed a ray [] (slot / 3) (slot % 3) ≡ Some state → Entered g states slots len [] slot state)
     → ((k slot state : ℕ) (bit : Bool) → k < len → slot < 9 → moment k bit slot ≡ now → (g.heads k ≡ [] → bit ≡ true) → IsSlot ray slot
     → headed a ray (bit ∷ g.heads k) (slot / 3) (slot % 3) ≡ Some state
     → up ray bit slot ≡ get_or slots k 0 → Known g states slots len (bit ∷ g.heads k) slot state)
     → IsMet a ray g times states slots len starts (now + 1)
-met-wait a ray g times states slots len starts now is first here = record {
+met-wait {now} is first here = record {
   trimmed = is.trimmed;
   reads = is.reads;
   small = is.small;
@@ -306,12 +306,12 @@ module _ {a : Automaton} {ray : Ray} (suits : Suits a ray) {g : Trace} {times st
 
   pub try-none : get_or after slot None ≡ None → IsMet a ray g times states slots len starts (moment entry bit slot + 1)
   try-none none =
-      met-wait a ray g times states slots len starts (moment entry bit slot) is (λ slot' state' e h f r. absurd (now-late slot' e h))
+      met-wait is (λ slot' state' e h f r. absurd (now-late slot' e h))
       (λ k slot' state' bit' kh s e sm fits h u. let c = child k slot' state' bit' s e fits h u in absurd (let bad = sym none ∙ c.3 in cc))
 
   pub try-twice : (state : ℕ) → get_or after slot None ≡ Some state → 2 ≤ get_or times (state * 9 + slot) 0 → IsMet a ray g times states slots len starts (moment entry bit slot + 1)
   try-twice state found two =
-      met-wait a ray g times states slots len starts (moment entry bit slot) is (λ slot' state' e h f r. absurd (now-late slot' e h))
+      met-wait is (λ slot' state' e h f r. absurd (now-late slot' e h))
       (λ k slot' state' bit' kh s e sm fits h u.
       let c = child k slot' state' bit' s e fits h u in
       let same : state ≡ state' = let x = sym found ∙ c.3 in cc in
@@ -448,8 +448,8 @@ module _ {a : Automaton} {ray : Ray} (suits : Suits a ray) {g : Trace} {times st
 moment-suc : (entry slot : ℕ) (bit : Bool) → moment entry bit slot + 1 ≡ moment entry bit (slot + 1)
 moment-suc entry slot bit = omega arith
 
-Goes-trans : (f g h : Trace) (len len' : ℕ) → len ≤ len' → Goes f g len → Goes g h len' → Goes f h len
-Goes-trans f g h len len' more p q = record {
+Goes-trans : {f g h : Trace} {len len' : ℕ} → len ≤ len' → Goes f g len → Goes g h len' → Goes f h len
+Goes-trans more p q = record {
   heads = λ j l. q.heads j (omega (arith, l, more)) ∙ p.heads j l;
   parent = λ j l. q.parent j (omega (arith, l, more)) ∙ p.parent j l;
   bit = λ j l. q.bit j (omega (arith, l, more)) ∙ p.bit j l;
@@ -467,8 +467,8 @@ module _ {a : Automaton} {ray : Ray} (suits : Suits a ray) {times states slots t
   within-here : entry < len'
   within-here = let l = walk.longer in omega (arith, l, within)
 
-  may-here : (g : Trace) → IsMet a ray g times' states' slots' len' starts (moment entry bit slot) → g.heads entry ≡ [] → bit ≡ true
-  may-here g is e = elim may [
+  may-here : {g : Trace} → IsMet a ray g times' states' slots' len' starts (moment entry bit slot) → g.heads entry ≡ [] → bit ≡ true
+  may-here is e = elim may [
     | inl y ↦ y
     | inr n ↦ let b = (is.begins entry within-here).0 e in absurd (omega (arith, b, n))
   ]
@@ -482,7 +482,7 @@ module _ {a : Automaton} {ray : Ray} (suits : Suits a ray) {times states slots t
     place = walk.place;
     met = λ g is.
         let w = walk.met g is in
-        let n = try-none suits entry slot bit w.1 walk.place within-here small (may-here w.0 w.1) after-here front none in
+        let n = try-none suits entry slot bit w.1 walk.place within-here small (may-here w.1) after-here front none in
         (w.0, rw (← moment-suc entry slot bit) n, w.2);
   }
 
@@ -499,7 +499,7 @@ module _ {a : Automaton} {ray : Ray} (suits : Suits a ray) {times states slots t
       place = place;
       met = λ g is.
           let w = walk.met g is in
-          let n = try-twice suits entry slot bit w.1 walk.place within-here small (may-here w.0 w.1) after-here front state found same.0 in
+          let n = try-twice suits entry slot bit w.1 walk.place within-here small (may-here w.1) after-here front state found same.0 in
           (w.0, rw (← moment-suc entry slot bit, same.1, same.2, same.3, same.4) n, w.2);
     }
     | inr more ↦
@@ -517,13 +517,11 @@ module _ {a : Automaton} {ray : Ray} (suits : Suits a ray) {times states slots t
           place = place;
           met = λ g is.
               let w = walk.met g is in
-              let n = try-push suits entry slot bit w.1 walk.place within-here small (may-here w.0 w.1) after-here front state found i1 i2 in
-              let goes = push-goes suits entry slot bit w.1 walk.place within-here small (may-here w.0 w.1) after-here front state found i1 i2 in (
-                g' suits entry slot bit w.1 walk.place within-here small (may-here w.0 w.1) after-here front state found i1 i2,
+              let n = try-push suits entry slot bit w.1 walk.place within-here small (may-here w.1) after-here front state found i1 i2 in
+              let goes = push-goes suits entry slot bit w.1 walk.place within-here small (may-here w.1) after-here front state found i1 i2 in (
+                g' suits entry slot bit w.1 walk.place within-here small (may-here w.1) after-here front state found i1 i2,
                 rw (← moment-suc entry slot bit, more.1, more.2, more.3, more.4) n,
-                Goes-trans g w.0
-                    (g' suits entry slot bit w.1 walk.place within-here small (may-here w.0 w.1) after-here front state found i1 i2)
-                    len len' walk.longer w.2 goes,
+                Goes-trans walk.longer w.2 goes,
               );
         }
   ]
@@ -622,7 +620,7 @@ module _ {a : Automaton} {ray : Ray} {times states slots : List ℕ} {len slot :
     none = is.none;
     little = let l = is.little in omega (arith, l);
     trace = is.trace;
-    met = met-wait a ray is.trace times states slots len len slot is.met
+    met = met-wait is.met
         (λ slot' state' e h f r. absurd (let bad = sym none ∙ first-found slot' state' e h f r in cc))
         (λ k slot' state' bit' kh s e some f r u. absurd (not-now k slot' bit' e));
   }

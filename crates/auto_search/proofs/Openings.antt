@@ -28,12 +28,12 @@ use Rattle.auto_search.proofs.Tallies.{has-same}
 pub record IsHeadFront (a : Automaton) (ray : Ray) (head : List Bool) (front : List (Option ℕ)) : Type 0 where
   pub at : (slot : ℕ) → slot < 9 → IsSlot ray slot → get_or front slot None ≡ read a ray head (slot / 3) (slot % 3)
 
-head-start : (a : Automaton) (ray : Ray) (front : List (Option ℕ)) → IsStart a ray front → IsHeadFront a ray [] front
-head-start a ray front is = record { at = λ slot small fits. is.at slot small }
+head-start : {a : Automaton} {ray : Ray} {front : List (Option ℕ)} → IsStart a ray front → IsHeadFront a ray [] front
+head-start is = record { at = λ slot small fits. is.at slot small }
 
-head-step : (a : Automaton) (ray : Ray) (suits : Suits a ray) (head : List Bool) (bit : Bool) (front after : List (Option ℕ))
+head-step : {a : Automaton} {ray : Ray} (suits : Suits a ray) {head : List Bool} {bit : Bool} {front after : List (Option ℕ)}
     → IsHeadFront a ray head front → IsStep a ray ray.top bit front after → IsHeadFront a ray (bit ∷ head) after
-head-step a ray suits head bit front after is step = record {
+head-step {a} {ray} suits {bit} is step = record {
   at = λ slot small fits.
       let sx = sum_at ray.x ray.top (slot / 3) bit in
       let sy = sum_at ray.y ray.top (slot % 3) bit in
@@ -53,10 +53,10 @@ head-step a ray suits head bit front after is step = record {
       step.at slot small fx fy ∙ ap (option_map (λ (state : ℕ). next_state a state (letter_at ray ray.top sx sy))) above';
 }
 
-pub opened-steps : (a : Automaton) (ray : Ray) (suits : Suits a ray) (f0 f1 f2 f3 : List (Option ℕ)) → IsStart a ray f0
+pub opened-steps : {a : Automaton} {ray : Ray} (suits : Suits a ray) (f0 f1 f2 f3 : List (Option ℕ)) → IsStart a ray f0
     → IsStep a ray ray.top false f0 f1 → IsStep a ray ray.top false f1 f2 → IsStep a ray ray.top false f2 f3 → IsOpened a ray f3
-opened-steps a ray suits f0 f1 f2 f3 s0 s1 s2 s3 =
-    let h = head-step a ray suits (false ∷ false ∷ []) false f2 f3 (head-step a ray suits (false ∷ []) false f1 f2 (head-step a ray suits [] false f0 f1 (head-start a ray f0 s0) s1) s2) s3 in
+opened-steps suits f0 f1 f2 f3 s0 s1 s2 s3 =
+    let h = head-step suits (head-step suits (head-step suits (head-start s0) s1) s2) s3 in
     record { at = λ slot small x y. h.at slot small (x, y); only = s3.only }
 
 -- the head of a number

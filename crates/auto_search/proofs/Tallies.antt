@@ -31,10 +31,10 @@ parts-same top m n b c lb lc e =
     let s = same_from_place m (number b) n (number c) (2 ^ top) hb hc e in
     (s.0, number-same b c (lb ∙ sym lc) s.1)
 
-Yields-kept : (a : Automaton) (ray : Ray) (g h : Trace) (states slots states' slots' : List ℕ) (len end : ℕ) → end ≤ len → Goes g h len
+Yields-kept : (a : Automaton) (ray : Ray) {g h : Trace} (states slots states' slots' : List ℕ) {len : ℕ} (end : ℕ) → end ≤ len → Goes g h len
     → ((j : ℕ) → j < len → get_or states' j 0 ≡ get_or states j 0) → ((j : ℕ) → j < len → get_or slots' j 0 ≡ get_or slots j 0)
     → (n : ℕ) → Yields a ray g states slots end n → Yields a ray h states' slots' end n
-Yields-kept a ray g h states slots states' slots' len end inside goes ss sl n y =
+Yields-kept a ray states slots states' slots' {len} end inside goes ss sl n y =
     let w : y.entry < len = let v = y.within in omega (arith, v, inside) in
     record {
       entry = y.entry;
@@ -46,13 +46,13 @@ Yields-kept a ray g h states slots states' slots' len end inside goes ss sl n y 
       leads = subst (λ s. Leads a ray s y.lo) (sym (ss y.entry w)) y.leads;
     }
 
-Goes-back : (g h : Trace) (len : ℕ) → Goes g h len → Goes h g len
-Goes-back g h len p = record { heads = λ j l. sym (p.heads j l); parent = λ j l. sym (p.parent j l); bit = λ j l. sym (p.bit j l); key = λ j l. sym (p.key j l) }
+Goes-back : {g h : Trace} {len : ℕ} → Goes g h len → Goes h g len
+Goes-back p = record { heads = λ j l. sym (p.heads j l); parent = λ j l. sym (p.parent j l); bit = λ j l. sym (p.bit j l); key = λ j l. sym (p.key j l) }
 
 -- what one entry yields
-alone-yields : (a : Automaton) (ray : Ray) (g : Trace) (states slots : List ℕ) (end : ℕ) (front : List (Option ℕ)) → IsAlone (get_or slots end 0) (get_or states end 0) front → (n : ℕ)
+alone-yields : (a : Automaton) (ray : Ray) (g : Trace) (states slots : List ℕ) (end : ℕ) {front : List (Option ℕ)} → IsAlone (get_or slots end 0) (get_or states end 0) front → (n : ℕ)
     → Raised (head_number (g.heads end) * 2 ^ ray.top) (CompletedBy a ray ray.top front) n → Yields a ray g states slots (end + 1) n
-alone-yields a ray g states slots end front is n (m, e, by) =
+alone-yields a ray g states slots end is n (m, e, by) =
     let only = is.only (slot_of ray by.bits) by.completes.state by.completes.found in
     record {
       entry = end;
@@ -105,16 +105,16 @@ module _ (a : Automaton) (ray : Ray) (suits : Suits a ray) (g : Trace) (times st
       plus-has few more (Yields a ray g states slots end) (Raised (head_number (g.heads end) * 2 ^ ray.top) (CompletedBy a ray ray.top front)) (Yields a ray g states slots (end + 1)) h
       (raised-has more (head_number (g.heads end) * 2 ^ ray.top) (CompletedBy a ray ray.top front) k)
       (λ n y. record { entry = y.entry; within = (let w = y.within in omega (arith, w)); lo = y.lo; size = y.size; is = y.is; slot = y.slot; leads = y.leads })
-      (alone-yields a ray g states slots end front alone) split disjoint
+      (alone-yields a ray g states slots end alone) split disjoint
 
 -- one more entry is counted, and followed
-pub turn-counts : (a : Automaton) (ray : Ray) (suits : Suits a ray) (times states slots times1 states1 slots1 times2 states2 slots2 : List ℕ)
+pub turn-counts : {a : Automaton} {ray : Ray} (suits : Suits a ray) (times states slots times1 states1 slots1 times2 states2 slots2 : List ℕ)
     (len len1 len2 starts end : ℕ) (few more : Few) (front : List (Option ℕ))
     → Counting a ray times states slots len starts end few → end < len → IsAlone (get_or slots end 0) (get_or states end 0) front → HasFew more (CompletedBy a ray ray.top front)
     → Walks a ray times states slots len times1 states1 slots1 len1 starts starts (moment end false 0) (moment end false 9)
     → Walks a ray times1 states1 slots1 len1 times2 states2 slots2 len2 starts starts (moment end true 0) (moment end true 9)
     → Counting a ray times2 states2 slots2 len2 starts (end + 1) (plus_of few more)
-turn-counts a ray suits times states slots times1 states1 slots1 times2 states2 slots2 len len1 len2 starts end few more front is within alone done w1 w2 =
+turn-counts {a} {ray} suits times states slots times1 states1 slots1 times2 states2 slots2 len len1 len2 starts end few more front is within alone done w1 w2 =
     let m1 = w1.met is.trace is.met in
     let t1 : moment end false 9 ≡ moment end true 0 = omega arith in
     let m1' = subst (λ t. IsMet a ray m1.0 times1 states1 slots1 len1 starts t) t1 m1.1 in
@@ -139,13 +139,13 @@ turn-counts a ray suits times states slots times1 states1 slots1 times2 states2 
       trace = m2.0;
       met = m2';
       few_yields = has-same (plus_of few more) (Yields a ray is.trace states slots (end + 1)) (Yields a ray m2.0 states2 slots2 (end + 1)) next
-          (Yields-kept a ray is.trace m2.0 states slots states2 slots2 len (end + 1) inside goes ss sl)
-          (Yields-kept a ray m2.0 is.trace states2 slots2 states slots len (end + 1) inside (Goes-back is.trace m2.0 len goes) (λ j h. sym (ss j h)) (λ j h. sym (sl j h)));
+          (Yields-kept a ray states slots states2 slots2 (end + 1) inside goes ss sl)
+          (Yields-kept a ray states2 slots2 states slots (end + 1) inside (Goes-back goes) (λ j h. sym (ss j h)) (λ j h. sym (sl j h)));
     }
 
 module _ {a : Automaton} {ray : Ray} (suits : Suits a ray) {times states slots : List ℕ} {len starts end : ℕ} {few : Few} (is : Counting a ray times states slots len starts end few) where
-  pub yields-meets : (n : ℕ) → Yields a ray is.trace states slots end n → Meets a ray n
-  yields-meets n y =
+  pub yields-meets : {n : ℕ} → Yields a ray is.trace states slots end n → Meets a ray n
+  yields-meets y =
       let w : y.entry < len = let v = y.within in let e = is.enough in omega (arith, v, e) in
       record {
         head = is.trace.heads y.entry;
@@ -160,7 +160,7 @@ module _ {a : Automaton} {ray : Ray} (suits : Suits a ray) {times states slots :
 
   -- several already
   pub more-meets : few ≡ More → HasFew More (Meets a ray)
-  more-meets e = let h = subst (λ f. HasFew f (Yields a ray is.trace states slots end)) e is.few_yields in (h.0, h.1, h.2, yields-meets h.0 h.3, yields-meets h.1 h.4)
+  more-meets e = let h = subst (λ f. HasFew f (Yields a ray is.trace states slots end)) e is.few_yields in (h.0, h.1, h.2, yields-meets h.3, yields-meets h.4)
 
   -- all are counted
   module _ (done : end ≡ len) where
@@ -179,8 +179,8 @@ module _ {a : Automaton} {ray : Ray} (suits : Suits a ray) {times states slots :
         (omega (arith, hx, hy, sx, sy), (rw parts.0 hx, rw parts.1 hy))
 
     -- what is met is yielded, or two numbers are
-    meets-yields : (n : ℕ) → Meets a ray n → Yields a ray is.trace states slots end n ⊎ HasFew More (Yields a ray is.trace states slots end)
-    meets-yields n m =
+    meets-yields : {n : ℕ} → Meets a ray n → Yields a ray is.trace states slots end n ⊎ HasFew More (Yields a ray is.trace states slots end)
+    meets-yields {n} m =
         let now : moment end false 0 ≡ moment len false 0 = ap (λ k. moment k false 0) done in
         let s = in-slot m.lo in
         elim (known-all a ray suits is.trace times states slots len starts (moment end false 0) is.met now m.head (slot_of ray m.lo) m.state m.trimmed s.0 s.1 m.reads) [
@@ -213,11 +213,11 @@ module _ {a : Automaton} {ray : Ray} (suits : Suits a ray) {times states slots :
     all-counted = at few is.few_yields
       where
         at : (f : Few) → HasFew f (Yields a ray is.trace states slots end) → HasFew f (Meets a ray)
-        at Zero h = λ n m. elim (meets-yields n m) [ inl y ↦ h n y | inr two ↦ h two.0 two.3 ]
+        at Zero h = λ n m. elim (meets-yields m) [ inl y ↦ h n y | inr two ↦ h two.0 two.3 ]
         at One h = (
           h.0,
-          yields-meets h.0 h.1,
-          λ n m. elim (meets-yields n m) [
+          yields-meets h.1,
+          λ n m. elim (meets-yields m) [
             | inl y ↦ h.2 n y
             | inr two ↦
                 let e1 = h.2 two.0 two.3 in
@@ -226,7 +226,7 @@ module _ {a : Automaton} {ray : Ray} (suits : Suits a ray) {times states slots :
                 absurd (omega (arith, e1, e2, o))
           ],
         )
-        at More h = (h.0, h.1, h.2, yields-meets h.0 h.3, yields-meets h.1 h.4)
+        at More h = (h.0, h.1, h.2, yields-meets h.3, yields-meets h.4)
 
 -- a state that was entered for a slot has an entry
 pub counting-entered : {a : Automaton} {ray : Ray} {times states slots : List ℕ} {len starts end : ℕ} {few : Few}

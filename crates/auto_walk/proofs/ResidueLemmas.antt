@@ -28,9 +28,9 @@ abbrev pub by_bit : ℕ → ℕ → ℕ → ℕ
 by_bit low high letter = if nat_eq (bit_at letter 0) 0 then low else high
 
 -- a row by one bit, over one track
-pub IsRow-bits : (w : Walker) (shapes : List Shape) (old new : List (List ℕ)) (lead : ℕ → List ℕ) (low high node : ℕ) → length w.tracks ≡ 1
+pub IsRow-bits : (w : Walker) {shapes : List Shape} {old new : List (List ℕ)} (lead : ℕ → List ℕ) {low high node : ℕ} → length w.tracks ≡ 1
     → ((letter : ℕ) → lead letter ≡ by_bit low high letter ∷ []) → IsBitRow shapes old new low high node → IsRow w shapes old new lead node
-IsRow-bits w shapes old new lead low high node one leads_to row =
+IsRow-bits w {shapes} {new} lead {low} {high} {node} one leads_to row =
     let at : (letter : ℕ) → slice_get new (map_at shapes node letter) ≡ Some (lead letter) = λ letter. row.leads letter ∙ ap Some (sym (leads_to letter)) in
     record {
       known = row.known;
@@ -118,10 +118,10 @@ same_residue : (a b : ℕ) → pos a ≡ pos b → a ≡ b
 same_residue a b e = cc
 
 -- a word is accepted just if its value leaves the residue
-pub residue_words : (a : Automaton) (tracks : List Var) (var : Var) (modulus wanted : ℕ) → 0 < modulus → tracks ≡ var ∷ [] → IsWalked (residue_walker tracks modulus wanted) a
+pub residue_words : {a : Automaton} (tracks : List Var) (var : Var) (modulus wanted : ℕ) → 0 < modulus → tracks ≡ var ∷ [] → IsWalked (residue_walker tracks modulus wanted) a
     → AcceptsWhere (var ∷ []) (ResidueHolds var modulus wanted) a
-residue_words a tracks var modulus wanted positive one walked [] is_word = absurd (is_word.nonempty refl)
-residue_words a tracks var modulus wanted positive one walked (sign ∷ letters) is_word =
+residue_words tracks var modulus wanted positive one walked [] is_word = absurd (is_word.nonempty refl)
+residue_words tracks var modulus wanted positive one walked (sign ∷ letters) is_word =
     let n : ℕ = read_on (bit_at sign 0 * (modulus - 1)) letters % modulus in
     let size : length tracks ≡ 1 = ap length one in
     let accepts = walked.words (sign ∷ letters) (subst (λ k. IsWord k (sign ∷ letters)) (sym size) is_word) in
@@ -138,7 +138,7 @@ residue_words a tracks var modulus wanted positive one walked (sign ∷ letters)
     nat_eq-same : {x y : ℕ} → x ≡ y → nat_eq x y ≡ true
     nat_eq-same {x} {y} e = grind (arith, common_steps, e)
 
-pub residue_integers : RepeatKeepsValues → (a : Automaton) (tracks : List Var) (var : Var) (modulus wanted : ℕ) → 0 < modulus → tracks ≡ var ∷ []
+pub residue_integers : RepeatKeepsValues → {a : Automaton} (tracks : List Var) (var : Var) (modulus wanted : ℕ) → 0 < modulus → tracks ≡ var ∷ []
     → IsWalked (residue_walker tracks modulus wanted) a → DecidesIntegers a
-residue_integers repeat a tracks var modulus wanted positive one walked =
-    DecidesIntegers-values repeat a (var ∷ []) (λ v. int_rem_euclid (v var.0) (pos modulus) ≡ pos wanted) (walked.tracks ∙ one) (residue_words a tracks var modulus wanted positive one walked)
+residue_integers repeat {a} tracks var modulus wanted positive one walked =
+    DecidesIntegers-values repeat a (var ∷ []) (λ v. int_rem_euclid (v var.0) (pos modulus) ≡ pos wanted) (walked.tracks ∙ one) (residue_words tracks var modulus wanted positive one walked)

@@ -15,17 +15,17 @@ use Rattle.auto_walk.proofs.WalkLemmas.{All-at, IsReached-first, IsReached-next}
 pub Extends-refl : (places : List (List ℕ)) → Extends places places
 Extends-refl places = record { kept = λ k p h. h }
 
-pub Extends-trans : (a b c : List (List ℕ)) → Extends a b → Extends b c → Extends a c
-Extends-trans a b c first then = record { kept = λ k p h. then.kept k p (first.kept k p h) }
+pub Extends-trans : {a b c : List (List ℕ)} → Extends a b → Extends b c → Extends a c
+Extends-trans first then = record { kept = λ k p h. then.kept k p (first.kept k p h) }
 
 -- no place goes
-pub length-Extends : (old new : List (List ℕ)) (k : ℕ) → Extends old new → k < length old → k < length new
-length-Extends old new k more h =
+pub length-Extends : {old new : List (List ℕ)} (k : ℕ) → Extends old new → k < length old → k < length new
+length-Extends {old} {new} k more h =
     slice_get_within new k _ (more.kept k (get_or old k []) (slice_get-get_or old k [] h))
 
 pub length_le-Extends : (old new : List (List ℕ)) → Extends old new → length old ≤ length new
 length_le-Extends old new more = elim (cases_lt (length new) (length old)) [
-  | inl shorter ↦ let l = length-Extends old new (length new) more shorter in absurd (omega arith)
+  | inl shorter ↦ let l = length-Extends (length new) more shorter in absurd (omega arith)
   | inr longer ↦ omega arith
 ]
 
@@ -46,30 +46,30 @@ module _ (w : Walker) where
     different = row.different;
   }
 
-  pub AreNumbered-first : (shapes : List Shape) (old new : List (List ℕ)) (node : ℕ) → old ≡ [] → IsRow w shapes old new w.first node → AreNumbered w new
-  AreNumbered-first shapes old new node none row =
+  pub AreNumbered-first : {shapes : List Shape} {old new : List (List ℕ)} {node : ℕ} → old ≡ [] → IsRow w shapes old new w.first node → AreNumbered w new
+  AreNumbered-first {shapes} {old} {new} {node} none row =
       let empty : length old ≡ 0 = ap length none in
       numbered-row shapes old new w.first node (IsReached-first w) (λ k d h. absurd (omega (arith, h, empty)))
       (record { kept = λ k p h. let l = slice_get_within old k p h in absurd (omega (arith, l, empty)) }) row
 
-  pub AreNumbered-next : (shapes : List Shape) (old new : List (List ℕ)) (number node : ℕ) → AreNumbered w old → Extends old new → IsRowOf w shapes old new number node → AreNumbered w new
-  AreNumbered-next shapes old new number node n more r =
+  pub AreNumbered-next : {shapes : List Shape} {old new : List (List ℕ)} {number node : ℕ} → AreNumbered w old → Extends old new → IsRowOf w shapes old new number node → AreNumbered w new
+  AreNumbered-next {shapes} {old} {new} {number} {node} n more r =
       let from = All-at (IsReached w) old number r.place r.is n.reached in
-      numbered-row shapes old new (w.next r.place) node (λ letter below. IsReached-next w r.place letter below from) n.reached more r.row
+      numbered-row shapes old new (w.next r.place) node (λ letter below. IsReached-next w letter below from) n.reached more r.row
 
   -- a row keeps leading on as places and nodes are added
-  pub LeadsOn-kept : (old_shapes shapes : List Shape) (old new : List (List ℕ)) (number node : ℕ) → Grows old_shapes shapes → Extends old new → LeadsOn w old_shapes old number node
+  pub LeadsOn-kept : {old_shapes shapes : List Shape} {old new : List (List ℕ)} {number node : ℕ} → Grows old_shapes shapes → Extends old new → LeadsOn w old_shapes old number node
       → LeadsOn w shapes new number node
-  LeadsOn-kept old_shapes shapes old new number node grows more l = record {
+  LeadsOn-kept {new} {number} {node} grows more l = record {
     place = l.place;
     is = more.kept number l.place l.is;
     known = let k = l.known in let g = grows.longer in omega (arith, k, g);
-    narrow = LooksBelow-grows old_shapes shapes node (length w.tracks) l.known grows l.narrow;
+    narrow = LooksBelow-grows l.known grows l.narrow;
     leads = λ letter below. ap (slice_get new) (grows.map node letter l.known) ∙ more.kept _ _ (l.leads letter below);
   }
 
-  pub LeadsOn-row : (shapes : List Shape) (old new : List (List ℕ)) (number node : ℕ) → Extends old new → IsRowOf w shapes old new number node → LeadsOn w shapes new number node
-  LeadsOn-row shapes old new number node more r = record {
+  pub LeadsOn-row : {shapes : List Shape} {old new : List (List ℕ)} {number node : ℕ} → Extends old new → IsRowOf w shapes old new number node → LeadsOn w shapes new number node
+  LeadsOn-row {number} more r = record {
     place = r.place;
     is = more.kept number r.place r.is;
     known = r.row.known;
@@ -77,16 +77,16 @@ module _ (w : Walker) where
     leads = r.row.leads;
   }
 
-  pub AreRows-push : (old_shapes shapes : List Shape) (old new : List (List ℕ)) (rows : List ℕ) (number node : ℕ) → number ≡ length rows → Grows old_shapes shapes → Extends old new
+  pub AreRows-push : {old_shapes shapes : List Shape} {old new : List (List ℕ)} {rows : List ℕ} {number node : ℕ} → number ≡ length rows → Grows old_shapes shapes → Extends old new
       → AreRows w old_shapes old rows → LeadsOn w shapes new number node → AreRows w shapes new (rows ++ node ∷ [])
-  AreRows-push old_shapes shapes old new rows number node last grows more are one = record {
+  AreRows-push {shapes} {new} {rows} {number} {node} last grows more are one = record {
     lead = λ i n at.
         let within : i < length rows + 1 = subst (λ k. i < k) (length_push rows node) (slice_get_within (rows ++ node ∷ []) i n at) in
         let here = get_or_from_slice_get (rows ++ node ∷ []) i n n at in
         elim (cases_lt i (length rows)) [
           | inl before ↦
               let same : get_or rows i n ≡ n = sym (get_or_append_left rows (node ∷ []) n i before) ∙ here in
-              LeadsOn-kept old_shapes shapes old new i n grows more (are.lead i n (slice_get-get_or rows i n before ∙ ap Some same))
+              LeadsOn-kept grows more (are.lead i n (slice_get-get_or rows i n before ∙ ap Some same))
           | inr after ↦
               let is_last : number ≡ i = omega (arith, last, after, within) in
               let end : length rows ≡ i = omega (arith, last, is_last) in

@@ -43,8 +43,8 @@ module _ (w : Walker) where
     leads = refl;
   }
 
-  pub IsReached-next : (place : List ℕ) (letter : ℕ) → letter < 2 ^ length w.tracks → IsReached w place → IsReached w (w.next place letter)
-  IsReached-next place letter below r =
+  pub IsReached-next : {place : List ℕ} (letter : ℕ) → letter < 2 ^ length w.tracks → IsReached w place → IsReached w (w.next place letter)
+  IsReached-next letter below r =
       let both = place_of-push w r.word letter r.is_word.nonempty in
       record {
         word = r.word ++ letter ∷ [];
@@ -96,8 +96,8 @@ module _ (w : Walker) where
       λ e. h i j d less inside (ap (place_of w) (sym (at i (omega arith) (omega arith))) ∙ e ∙ ap (place_of w) (at j few inside))
 
   -- more places than the budget are more words than the budget
-  pub MoreThan-from : (budget : ℕ) (places : List (List ℕ)) → AreNumbered w places → budget < length places → MoreThan w budget
-  MoreThan-from budget places n over =
+  pub MoreThan-from : (budget : ℕ) {places : List (List ℕ)} → AreNumbered w places → budget < length places → MoreThan w budget
+  MoreThan-from budget {places} n over =
       let all = words_to places n.reached in
       let count : length all.words ≡ length places = sym (length-map all.words (place_of w)) ∙ ap length all.lead in
       let enough : budget + 1 ≤ length all.words = omega (arith, count, over) in

@@ -21,8 +21,8 @@ use Rattle.auto_walk.specs.Rows.{AreNumbered, IsRow, LeadsOn, AreRows, Extends}
 use Rattle.auto_walk.proofs.WalkLemmas.{length_le-among, All-at, apart_in_map}
 
 -- a node that looks below a bound gives each letter the value of one of the letters below the bound's power
-pub map_at-low : (shapes : List Shape) (node bound letter : ℕ) → LooksBelow shapes node bound → map_at shapes node letter ≡ map_at shapes node (letter % 2 ^ bound)
-map_at-low shapes node bound letter narrow = narrow.same letter (letter % 2 ^ bound) (λ k below. low_bits letter bound k below)
+pub map_at-low : {shapes : List Shape} {node bound : ℕ} (letter : ℕ) → LooksBelow shapes node bound → map_at shapes node letter ≡ map_at shapes node (letter % 2 ^ bound)
+map_at-low {bound} letter narrow = narrow.same letter (letter % 2 ^ bound) (λ k below. low_bits letter bound k below)
 
 -- the first row, once more places and nodes are known
 pub record IsFirstRow (w : Walker) (shapes : List Shape) (places : List (List ℕ)) (node : ℕ) : Type 0 where
@@ -30,11 +30,11 @@ pub record IsFirstRow (w : Walker) (shapes : List Shape) (places : List (List �
   pub narrow : LooksBelow shapes node (length w.tracks)
   pub leads : (letter : ℕ) → letter < 2 ^ length w.tracks → slice_get places (map_at shapes node letter) ≡ Some (w.first letter)
 
-pub IsFirstRow-kept : (w : Walker) (old_shapes shapes : List Shape) (none old new : List (List ℕ)) (node : ℕ) → Grows old_shapes shapes → Extends old new
+pub IsFirstRow-kept : {w : Walker} {old_shapes shapes : List Shape} {none old new : List (List ℕ)} {node : ℕ} → Grows old_shapes shapes → Extends old new
     → IsRow w old_shapes none old w.first node → IsFirstRow w shapes new node
-IsFirstRow-kept w old_shapes shapes none old new node grows more row = record {
+IsFirstRow-kept {new} {node} grows more row = record {
   known = let k = row.known in let g = grows.longer in omega (arith, k, g);
-  narrow = LooksBelow-grows old_shapes shapes node (length w.tracks) row.known grows row.narrow;
+  narrow = LooksBelow-grows row.known grows row.narrow;
   leads = λ letter below. ap (slice_get new) (grows.map node letter row.known) ∙ more.kept _ _ (row.leads letter below);
 }
 
@@ -56,7 +56,7 @@ closed-rows {w} {more_w} {last_w} {old_shapes} {shapes} {none} {old} {places} {f
   tracks = subst (λ (v : Walker). AreTracks v.tracks) (last ∙ more) tracks;
   few = few;
   numbered = subst (λ v. AreNumbered v places) more numbered;
-  first_row = IsFirstRow-kept w old_shapes shapes none old places first grows kept row;
+  first_row = IsFirstRow-kept grows kept row;
   leads_on = subst (λ v. AreRows v shapes places rows) more leads_on;
   rows_size = size;
   flags = flags ∙ ap (λ (v : Walker). map v.final places) (last ∙ more);
@@ -91,12 +91,12 @@ module _ {w : Walker} {shapes : List Shape} {places : List (List ℕ)} {first : 
         first_known = closed.first_row.known;
         first_narrow = closed.first_row.narrow;
         first_within =
-            λ letter. rw (map_at-low shapes first (length w.tracks) letter closed.first_row.narrow, states)
+            λ letter. rw (map_at-low letter closed.first_row.narrow, states)
             (slice_get_within places _ _ (closed.first_row.leads (letter % 2 ^ length w.tracks) (letter_low letter)));
         rows_known = All-from_get_or (λ node. node < length shapes) rows 0 (λ k h. (row_at k h).known);
         rows_narrow = All-from_get_or (λ node. LooksBelow shapes node (length w.tracks)) rows 0 (λ k h. (row_at k h).narrow);
         rows_within = All-from_get_or (λ node. (letter : ℕ) → map_at shapes node letter < length accept) rows 0 (λ k h letter.
-            rw (map_at-low shapes (get_or rows k 0) (length w.tracks) letter (row_at k h).narrow, states)
+            rw (map_at-low letter (row_at k h).narrow, states)
             (slice_get_within places _ _ ((row_at k h).leads (letter % 2 ^ length w.tracks) (letter_low letter))));
       }
 
@@ -119,17 +119,17 @@ module _ {w : Walker} {shapes : List Shape} {places : List (List ℕ)} {first : 
   run_leads (letter ∷ letters) state place all at =
       run_leads letters _ _ (All-tail (λ l. l < 2 ^ length w.tracks) letter letters all) (step_leads state letter place (All-head (λ l. l < 2 ^ length w.tracks) letter letters all) at)
 
-  pub word_leads : (word : List ℕ) → IsWord (length w.tracks) word → slice_get places (state_of (dense w.tracks shapes first rows accept) word) ≡ Some (place_of w word)
-  word_leads [] is = absurd (is.nonempty refl)
-  word_leads (sign ∷ letters) is =
+  pub word_leads : {word : List ℕ} → IsWord (length w.tracks) word → slice_get places (state_of (dense w.tracks shapes first rows accept) word) ≡ Some (place_of w word)
+  word_leads {word = []} is = absurd (is.nonempty refl)
+  word_leads {word = sign ∷ letters} is =
       let below = All-head (λ l. l < 2 ^ length w.tracks) sign letters is.letters in
       run_leads letters _ _ (All-tail (λ l. l < 2 ^ length w.tracks) sign letters is.letters)
       (ap (slice_get places) (get_or-row_of shapes (2 ^ length w.tracks) first sign below) ∙ closed.first_row.leads sign below)
 
-  final_is : (word : List ℕ) → IsWord (length w.tracks) word
+  final_is : {word : List ℕ} → IsWord (length w.tracks) word
       → is_final (dense w.tracks shapes first rows accept) (state_of (dense w.tracks shapes first rows accept) word) ≡ w.final (place_of w word)
-  final_is word is =
-      let at = word_leads word is in
+  final_is {word} is =
+      let at = word_leads is in
       let state = state_of (dense w.tracks shapes first rows accept) word in
       ap (λ l. get_or l state false) closed.flags
       ∙ get_or_from_slice_get (map w.final places) state (w.final (place_of w word)) false (slice_get-map w.final places state ∙ ap (option_map w.final) at)
@@ -137,7 +137,7 @@ module _ {w : Walker} {shapes : List Shape} {places : List (List ℕ)} {first : 
   pub IsWalked-closed : IsWalked w (dense w.tracks shapes first rows accept)
   IsWalked-closed = record {
     tracks = refl;
-    words = λ word is. let flag = final_is word is in (λ h. sym flag ∙ h, λ h. flag ∙ h);
+    words = λ word is. let flag = final_is is in (λ h. sym flag ∙ h, λ h. flag ∙ h);
     reached = λ state within.
         let inside : state < length places = omega (arith, states, within) in
         let at = slice_get-get_or places state [] inside in
@@ -145,18 +145,18 @@ module _ {w : Walker} {shapes : List Shape} {places : List (List ℕ)} {first : 
         record {
           word = r.word;
           is_word = r.is_word;
-          leads = one_place places closed.numbered.different _ _ _ (word_leads r.word r.is_word) (at ∙ ap Some (sym r.leads));
+          leads = one_place places closed.numbered.different _ _ _ (word_leads r.is_word) (at ∙ ap Some (sym r.leads));
         };
     same = λ u v is_u is_v. (
-      λ e. same_Some _ _ (sym (word_leads u is_u) ∙ ap (slice_get places) e ∙ word_leads v is_v),
-      λ e. one_place places closed.numbered.different _ _ _ (word_leads u is_u) (word_leads v is_v ∙ ap Some (sym e)),
+      λ e. same_Some _ _ (sym (word_leads is_u) ∙ ap (slice_get places) e ∙ word_leads is_v),
+      λ e. one_place places closed.numbered.different _ _ _ (word_leads is_u) (word_leads is_v ∙ ap Some (sym e)),
     );
   }
 
-  pub not_MoreThan : (budget : ℕ) → length places ≤ budget → MoreThan w budget → ⊥
-  not_MoreThan budget room more =
+  pub not_MoreThan : {budget : ℕ} → length places ≤ budget → MoreThan w budget → ⊥
+  not_MoreThan room more =
       let there = λ (word : List ℕ) (is : IsWord (length w.tracks) word).
-      let at = word_leads word is in
+      let at = word_leads is in
       let state = state_of (dense w.tracks shapes first rows accept) word in
       let found : Contains places (place_of w word) = (state, slice_get_within places state (place_of w word) at, get_or_from_slice_get places state (place_of w word) (place_of w word) at) in
       found in

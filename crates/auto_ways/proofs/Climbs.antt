@@ -72,8 +72,8 @@ AddsListed-set lists at x list new is items = record {
 pub AddsListed-refl : (lists : List (SmallVec ℕ)) (x : ℕ) → AddsListed lists lists x
 AddsListed-refl lists x = record { size = refl; kept = λ k y l. l; only = λ k y l. inl l }
 
-pub AddsListed-trans : (first second third : List (SmallVec ℕ)) (x : ℕ) → AddsListed first second x → AddsListed second third x → AddsListed first third x
-AddsListed-trans first second third x f s = record {
+pub AddsListed-trans : {first second third : List (SmallVec ℕ)} {x : ℕ} → AddsListed first second x → AddsListed second third x → AddsListed first third x
+AddsListed-trans f s = record {
   size = s.size ∙ f.size;
   kept = λ k y l. s.kept k y (f.kept k y l);
   only = λ k y l. elim (s.only k y l) [ inl before ↦ f.only k y before | inr same ↦ inr same ];
@@ -89,8 +89,8 @@ AreListedBelow-none lists bound none = record {
       absurd (omega (arith, less));
 }
 
-pub AreListedBelow-adds : (old new : List (SmallVec ℕ)) (bound : ℕ) → AreListedBelow old bound → AddsListed old new bound → AreListedBelow new (bound + 1)
-AreListedBelow-adds old new bound b adds = record {
+pub AreListedBelow-adds : {old new : List (SmallVec ℕ)} {bound : ℕ} → AreListedBelow old bound → AddsListed old new bound → AreListedBelow new (bound + 1)
+AreListedBelow-adds b adds = record {
   below = λ k x l. elim (adds.only k x l) [
     | inl before ↦ let less = b.below k x before in omega (arith, less)
     | inr same ↦ omega (arith, same)
@@ -98,14 +98,14 @@ AreListedBelow-adds old new bound b adds = record {
 }
 
 -- the list at a place
-pub AreListedBelow-all : (lists : List (SmallVec ℕ)) (bound at : ℕ) (list : SmallVec ℕ) → AreListedBelow lists bound → slice_get lists at ≡ Some list → All (λ x. x < bound) list.items
-AreListedBelow-all lists bound at list b is = All-from_get_or (λ x. x < bound) list.items 0
+pub AreListedBelow-all : {lists : List (SmallVec ℕ)} {bound : ℕ} (at : ℕ) (list : SmallVec ℕ) → AreListedBelow lists bound → slice_get lists at ≡ Some list → All (λ x. x < bound) list.items
+AreListedBelow-all {bound} at list b is = All-from_get_or (λ x. x < bound) list.items 0
     (λ i inside. b.below at (get_or list.items i 0) (record { list = list; is = is; has = Contains-get_or list.items i 0 inside }))
 
-pub IsLinked-adds : (above more_above leaves more_leaves : List (SmallVec ℕ)) (number place : ℕ) (way : Way) → AddsListed above more_above number
+pub IsLinked-adds : {above more_above leaves more_leaves : List (SmallVec ℕ)} {number : ℕ} (place : ℕ) (way : Way) → AddsListed above more_above number
     → AddsListed leaves more_leaves number → IsLinked above leaves place way → IsLinked more_above more_leaves place way
-IsLinked-adds above more_above leaves more_leaves number place (State state) up down l = down.kept state place l
-IsLinked-adds above more_above leaves more_leaves number place (Both low high) up down l = (up.kept low place l.0, up.kept high place l.1)
+IsLinked-adds place (State state) up down l = down.kept state place l
+IsLinked-adds place (Both low high) up down l = (up.kept low place l.0, up.kept high place l.1)
 
 pub FitsAt-later : (states first later : ℕ) (way : Way) → first ≤ later → FitsAt states first way → FitsAt states later way
 FitsAt-later states first later (State state) le fits = fits
@@ -153,12 +153,12 @@ MarksMore-set marks waiting new place known off is = rw is (record {
 })
 
 -- ---- climbing
-pub AreClimbed-step : (above owners : List (SmallVec ℕ)) (marks new : List Bool) (waiting rest more found : List ℕ) (place : ℕ)
+pub AreClimbed-step : {above owners : List (SmallVec ℕ)} {marks new : List Bool} {waiting rest more found : List ℕ} (place : ℕ)
     (next listed : SmallVec ℕ)
     → AreClimbed above owners marks waiting found → waiting ≡ rest ++ place ∷ []
     → slice_get above place ≡ Some next → slice_get owners place ≡ Some listed → MarksMore marks rest new more
     → All (λ p. get_or new p false ≡ true) next.items → AreClimbed above owners new more (found ++ listed.items)
-AreClimbed-step above owners marks new waiting rest more found place next listed c popped next_is listed_is m marked = record {
+AreClimbed-step {above} {owners} {new} {rest} {found} place next listed c popped next_is listed_is m marked = record {
   done = λ p on. elim (m.waits p on) [
     | inr there ↦ inl there
     | inl before ↦ elim (c.done p before) [
@@ -178,9 +178,9 @@ AreClimbed-step above owners marks new waiting rest more found place next listed
 }
 
 -- what climbed up to the end is marked wherever it leads to the states
-AreMarks-climbed : (a : Automaton) (w : Ways) (states : List ℕ) (marks : List Bool) (found : List ℕ) (r : AreRowWays a w) → AreStarted states w.leaves.items marks
+AreMarks-climbed : {a : Automaton} {w : Ways} {states : List ℕ} {marks : List Bool} (found : List ℕ) (r : AreRowWays a w) → AreStarted states w.leaves.items marks
     → ((place : ℕ) → get_or marks place false ≡ true → IsClimbed w.above.items w.owners.items marks found place) → AreMarks r.ways (is_member nat_eq states) marks
-AreMarks-climbed a w states marks found r started done = record { up = λ place way there on. by place way (r.up.linked place way there) on }
+AreMarks-climbed {w} {states} {marks} found r started done = record { up = λ place way there on. by place way (r.up.linked place way there) on }
   where
     by : (place : ℕ) (way : Way) → IsLinked w.above.items w.leaves.items place way → mark_of_way (is_member nat_eq states) marks way ≡ true → get_or marks place false ≡ true
     by place (State state) linked on = started.marked state place ((is_member-Decides Decides-eqb states state).0 on) linked
@@ -189,10 +189,10 @@ AreMarks-climbed a w states marks found r started done = record { up = λ place 
       | inr h ↦ (done high h).up place linked.1
     ]
 
-pub found_above : (a : Automaton) (w : Ways) (states : List ℕ) (marks : List Bool) (found : List ℕ) → AreRowWays a w
+pub found_above : {a : Automaton} {w : Ways} {states : List ℕ} {marks : List Bool} {found : List ℕ} → AreRowWays a w
     → AreStarted states w.leaves.items marks → AreClimbed w.above.items w.owners.items marks [] found
     → (state letter : ℕ) → state < length a.accept → letter < width a → Contains states (next_state a state letter) → Contains found state
-found_above a w states marks found r started c state letter known below there =
+found_above {a} {w} {states} {marks} {found} r started c state letter known below there =
     let place = get_or r.rows state 0 in
     let size = r.placed.size in
     let owned = r.owners.owned state (omega (arith, known, size)) in
@@ -207,7 +207,7 @@ found_above a w states marks found r started c state letter known below there =
     by : (b : Bool) → get_or marks (get_or r.rows state 0) false ≡ b → IsListed w.owners.items (get_or r.rows state 0) state → Contains found state
     by true on owned = (done (get_or r.rows state 0) on).rows state owned
     by false off owned =
-        let none = r.placed.none (is_member nat_eq states) marks (AreMarks-climbed a w states marks found r started done) state letter known below off in
+        let none = r.placed.none (is_member nat_eq states) marks (AreMarks-climbed found r started done) state letter known below off in
         let is = (is_member-Decides Decides-eqb states (next_state a state letter)).1 there in
         absurd (true≢false (sym is ∙ none))
 
@@ -233,36 +233,36 @@ AreStarted-from states leaves marks each = record {
       each there.0 place there.1 (subst (λ s. IsListed leaves s place) here l);
 }
 
-pub AreStarted-kept : (states : List ℕ) (leaves : List (SmallVec ℕ)) (marks new : List Bool)
+pub AreStarted-kept : {states : List ℕ} {leaves : List (SmallVec ℕ)} {marks : List Bool} (new : List Bool)
     → ((place : ℕ) → get_or marks place false ≡ true → get_or new place false ≡ true) → AreStarted states leaves marks → AreStarted states leaves new
-AreStarted-kept states leaves marks new kept s = record { marked = λ state place there l. kept place (s.marked state place there l) }
+AreStarted-kept new kept s = record { marked = λ state place there l. kept place (s.marked state place there l) }
 
 -- the last of what waits, and the rest
 pub All-last : (bound place : ℕ) (waiting rest : List ℕ) → waiting ≡ rest ++ place ∷ [] → All (λ p. p < bound) waiting → place < bound
 All-last bound place waiting rest is all = All-contains (λ p. p < bound) waiting place all (subst (λ xs. Contains xs place) (sym is) (Contains-push rest place))
 
-pub All-waits : (bound place : ℕ) (marks new : List Bool) (waiting rest more : List ℕ) → length marks ≡ bound → waiting ≡ rest ++ place ∷ []
+pub All-waits : (bound place : ℕ) {marks new : List Bool} (waiting : List ℕ) {rest more : List ℕ} → length marks ≡ bound → waiting ≡ rest ++ place ∷ []
     → All (λ p. p < bound) waiting → MarksMore marks rest new more → All (λ p. p < bound) more
-All-waits bound place marks new waiting rest more size is all m = subst (λ n. All (λ p. p < n) more) size (m.within (subst (λ n. All (λ p. p < n) rest) (sym size)
+All-waits bound place waiting {rest} {more} size is all m = subst (λ n. All (λ p. p < n) more) size (m.within (subst (λ n. All (λ p. p < n) rest) (sym size)
     (All-from_get_or (λ p. p < bound) rest 0 (λ i inside. All-contains (λ p. p < bound) waiting (get_or rest i 0) all
     (subst (λ xs. Contains xs (get_or rest i 0)) (sym is) (Contains-append_left rest (place ∷ []) (get_or rest i 0) (Contains-get_or rest i 0 inside)))))))
 
 -- ---- place by place
-pub linked_more : (ways : List Way) (above more_above leaves more_leaves : List (SmallVec ℕ)) (index : ℕ) (way : Way)
+pub linked_more : (ways : List Way) {above more_above leaves more_leaves : List (SmallVec ℕ)} {index : ℕ} (way : Way)
     → ((place : ℕ) (w : Way) → place < index → slice_get ways place ≡ Some w → IsLinked above leaves place w)
     → AddsListed above more_above index → AddsListed leaves more_leaves index → slice_get ways index ≡ Some way → IsLinked more_above more_leaves index way
     → (place : ℕ) (w : Way) → place < index + 1 → slice_get ways place ≡ Some w → IsLinked more_above more_leaves place w
-linked_more ways above more_above leaves more_leaves index way before up down at last place w less is = elim (cases_lt place index) [
-  | inl low ↦ IsLinked-adds above more_above leaves more_leaves index place w up down (before place w low is)
+linked_more ways {more_above} {more_leaves} {index} way before up down at last place w less is = elim (cases_lt place index) [
+  | inl low ↦ IsLinked-adds place w up down (before place w low is)
   | inr past ↦
       let same : index ≡ place = omega (arith, less, past) in
       let way_same : way ≡ w = same_Some way w (sym at ∙ ap (λ k. slice_get ways k) same ∙ is) in
       subst (λ k. IsLinked more_above more_leaves k w) same (subst (IsLinked more_above more_leaves index) way_same last)
 ]
 
-pub owned_more : (rows : List ℕ) (owners more : List (SmallVec ℕ)) (index : ℕ)
+pub owned_more : (rows : List ℕ) {owners more : List (SmallVec ℕ)} {index : ℕ}
     → ((state : ℕ) → state < index → IsListed owners (get_or rows state 0) state) → AddsListed owners more index
     → IsListed more (get_or rows index 0) index
     → (state : ℕ) → state < index + 1 → IsListed more (get_or rows state 0) state
-owned_more rows owners more index before adds last = below_more (λ state. IsListed more (get_or rows state 0) state) index
+owned_more rows {more} {index} before adds last = below_more (λ state. IsListed more (get_or rows state 0) state) index
     (λ state less. adds.kept (get_or rows state 0) state (before state less)) last

@@ -32,8 +32,8 @@ each_push P xs x before last k y is =
 pub KeepsWays-refl : (ways : List Way) → KeepsWays ways ways
 KeepsWays-refl ways = record { longer = omega arith; at = λ place way h. h }
 
-pub KeepsWays-trans : (first second third : List Way) → KeepsWays first second → KeepsWays second third → KeepsWays first third
-KeepsWays-trans first second third f g = record { longer = let a = f.longer in let b = g.longer in omega (arith, a, b); at = λ place way h. g.at place way (f.at place way h) }
+pub KeepsWays-trans : {first second third : List Way} → KeepsWays first second → KeepsWays second third → KeepsWays first third
+KeepsWays-trans f g = record { longer = let a = f.longer in let b = g.longer in omega (arith, a, b); at = λ place way h. g.at place way (f.at place way h) }
 
 pub KeepsWays-push : (ways : List Way) (way : Way) → KeepsWays ways (ways ++ way ∷ [])
 KeepsWays-push ways way = record {
@@ -48,13 +48,13 @@ last_way : (ways : List Way) (way : Way) → slice_get (ways ++ way ∷ []) (len
 last_way ways way = let l = length_push ways way in slice_get-get_or (ways ++ way ∷ []) (length ways) way (omega (arith, l)) ∙ ap Some (get_or_push ways way way (length ways) refl)
 
 -- marks of more ways are marks of these
-AreMarks-before : (old new : List Way) (states : ℕ → Bool) (marks : List Bool) → KeepsWays old new → AreMarks new states marks → AreMarks old states marks
-AreMarks-before old new states marks kept m = record { up = λ place way h. m.up place way (kept.at place way h) }
+AreMarks-before : {old new : List Way} {states : ℕ → Bool} {marks : List Bool} → KeepsWays old new → AreMarks new states marks → AreMarks old states marks
+AreMarks-before kept m = record { up = λ place way h. m.up place way (kept.at place way h) }
 
 pub IsPlaced-grows : {shapes : List Shape} {old new : List Way} {node place : ℕ} → KeepsWays old new → IsPlaced shapes old node place → IsPlaced shapes new node place
 IsPlaced-grows {old = old} {new = new} kept is = record {
   within = let w = is.within in let l = kept.longer in omega (arith, w, l);
-  none = λ states marks m. is.none states marks (AreMarks-before old new states marks kept m);
+  none = λ states marks m. is.none states marks (AreMarks-before kept m);
 }
 
 pub AreWays-push : (states : ℕ) (ways : List Way) (way : Way) → AreWays states ways → FitsAt states (length ways) way → AreWays states (ways ++ way ∷ [])
@@ -66,8 +66,8 @@ off_below : (on : Bool) {mark : Bool} → (on ≡ true → mark ≡ true) → ma
 off_below true sets off = sym (sets refl) ∙ off
 off_below false sets off = refl
 
-pub IsPlaced-leaf : (shapes : List Shape) (ways : List Way) (node state : ℕ) → IsAt shapes node (Leaf state) → IsPlaced shapes (ways ++ State state ∷ []) node (length ways)
-IsPlaced-leaf shapes ways node state at = record {
+pub IsPlaced-leaf : {shapes : List Shape} (ways : List Way) {node : ℕ} (state : ℕ) → IsAt shapes node (Leaf state) → IsPlaced shapes (ways ++ State state ∷ []) node (length ways)
+IsPlaced-leaf ways state at = record {
   within = let l = length_push ways (State state) in omega (arith, l);
   none = λ states marks m off letter. ap states (at.map letter) ∙ off_below (states state) (m.up (length ways) (State state) (last_way ways (State state))) off;
 }
@@ -86,7 +86,7 @@ pub IsPlaced-test : {shapes : List Shape} {ways : List Way} {node track low high
 IsPlaced-test {shapes} {ways} {node} {track} {low} {high} {l} {h} at lp hp = record {
   within = let l = length_push ways (Both l h) in omega (arith, l);
   none = λ states marks m off letter.
-      let before = AreMarks-before ways (ways ++ Both l h ∷ []) states marks (KeepsWays-push ways (Both l h)) m in
+      let before = AreMarks-before (KeepsWays-push ways (Both l h)) m in
       let both = or_false (get_or marks l false) (get_or marks h false) (off_below (mark_of_way states marks (Both l h)) (m.up (length ways) (Both l h) (last_way ways (Both l h))) off) in
       ap states (at.map letter)
       ∙ either_off states (nat_eq (bit_at letter track) 0) (map_at shapes low letter) (map_at shapes high letter)
@@ -99,18 +99,18 @@ pub IsPlaced-low : {shapes : List Shape} {first ways : List Way} {node track low
 IsPlaced-low kept at lp hp = IsPlaced-test at (IsPlaced-grows kept lp) hp
 
 -- ---- places that are remembered
-RemembersPlaced-grows : (states : ℕ) (shapes : List Shape) (old new : List Way) (places : List (Option ℕ)) → KeepsWays old new → AreWays states new
+RemembersPlaced-grows : {states : ℕ} {shapes : List Shape} {old new : List Way} {places : List (Option ℕ)} → KeepsWays old new → AreWays states new
     → RemembersPlaced states shapes old places → RemembersPlaced states shapes new places
-RemembersPlaced-grows states shapes old new places kept fits all = record {
+RemembersPlaced-grows kept fits all = record {
   size = all.size;
   fits = fits;
   placed = λ node place at. IsPlaced-grows kept (all.placed node place at);
 }
 
-RemembersPlaced-set : (states : ℕ) (shapes : List Shape) (ways : List Way) (places : List (Option ℕ)) (node place : ℕ)
+RemembersPlaced-set : {states : ℕ} {shapes : List Shape} {ways : List Way} {places : List (Option ℕ)} (node : ℕ) {place : ℕ}
     → RemembersPlaced states shapes ways places → node < length places → IsPlaced shapes ways node place
     → RemembersPlaced states shapes ways (set places node (Some place))
-RemembersPlaced-set states shapes ways places node place all within is = record {
+RemembersPlaced-set {shapes} {ways} {places} node {place} all within is = record {
   size = length-set places node (Some place) ∙ all.size;
   fits = all.fits;
   placed = λ n p at. elim (cases_eq node n) [
@@ -122,19 +122,19 @@ RemembersPlaced-set states shapes ways places node place all within is = record 
   ];
 }
 
-pub RemembersPlaced-next : (states : ℕ) (shapes : List Shape) (ways new : List Way) (places more : List (Option ℕ)) (way : Way) (node : ℕ)
+pub RemembersPlaced-next : {states : ℕ} {shapes : List Shape} {ways : List Way} (new : List Way) {places : List (Option ℕ)} (more : List (Option ℕ)) (way : Way) {node : ℕ}
     → RemembersPlaced states shapes ways places → FitsAt states (length ways) way → node < length shapes
     → IsPlaced shapes (ways ++ way ∷ []) node (length ways) → new ≡ ways ++ way ∷ [] → more ≡ set places node (Some (length ways)) → RemembersPlaced states shapes new more
-RemembersPlaced-next states shapes ways new places more way node remembered fits known placed are updates =
-    let grown = RemembersPlaced-grows states shapes ways (ways ++ way ∷ []) places (KeepsWays-push ways way) (AreWays-push states ways way remembered.fits fits) remembered in
+RemembersPlaced-next {states} {ways} new more way {node} remembered fits known placed are updates =
+    let grown = RemembersPlaced-grows (KeepsWays-push ways way) (AreWays-push states ways way remembered.fits fits) remembered in
     let size = remembered.size in
-    rw (are, updates) (RemembersPlaced-set states shapes (ways ++ way ∷ []) places node (length ways) grown (omega (arith, known, size)) placed)
+    rw (are, updates) (RemembersPlaced-set node grown (omega (arith, known, size)) placed)
 
 -- ---- the rows of an automaton
-pub placed_push : (shapes : List Shape) (old new : List Way) (rows places : List ℕ) (index place : ℕ) → KeepsWays old new → length places ≡ index
+pub placed_push : {shapes : List Shape} {old new : List Way} (rows places : List ℕ) (index : ℕ) {place : ℕ} → KeepsWays old new → length places ≡ index
     → ((k : ℕ) → k < index → IsPlaced shapes old (get_or rows k 0) (get_or places k 0))
     → IsPlaced shapes new (get_or rows index 0) place → (k : ℕ) → k < index + 1 → IsPlaced shapes new (get_or rows k 0) (get_or (places ++ place ∷ []) k 0)
-placed_push shapes old new rows places index place kept size before last k less = elim (cases_lt k index) [
+placed_push {shapes} {new} rows places index {place} kept size before last k less = elim (cases_lt k index) [
   | inl low ↦ subst (IsPlaced shapes new (get_or rows k 0)) (sym (get_or_append_left places (place ∷ []) 0 k (omega (arith, low, size))))
       (IsPlaced-grows kept (before k low))
   | inr past ↦
@@ -142,9 +142,9 @@ placed_push shapes old new rows places index place kept size before last k less 
       subst (IsPlaced shapes new (get_or rows k 0)) (sym (get_or_push places place 0 k (size ∙ same))) (subst (λ n. IsPlaced shapes new (get_or rows n 0) place) same last)
 ]
 
-pub ArePlacedRows-from : (a : Automaton) (rows : List ℕ) (ways : List Way) (places : List ℕ) → AreRowNodes a rows → AreWays (length a.accept) ways → length places ≡ length rows
+pub ArePlacedRows-from : {a : Automaton} {rows : List ℕ} (ways : List Way) (places : List ℕ) → AreRowNodes a rows → AreWays (length a.accept) ways → length places ≡ length rows
     → ((state : ℕ) → state < length rows → IsPlaced a.shapes ways (get_or rows state 0) (get_or places state 0)) → ArePlacedRows a ways places
-ArePlacedRows-from a rows ways places r fits size placed = record {
+ArePlacedRows-from ways places r fits size placed = record {
   fits = fits;
   size = size ∙ r.size;
   within = All-from_get_or (λ place. place < length ways) places 0 (λ state inside. (placed state (omega (arith, inside, size))).within);

@@ -5,8 +5,8 @@ use Rattle.auto_core.specs.Rows.{IsOverNodes}
 use Rattle.auto_core.proofs.NodeMaps.{row-map}
 use Rattle.auto_ways.specs.RowNodes.{AreRowNodes}
 
-pub AreRowNodes-own : (a : Automaton) → IsOverNodes a → AreRowNodes a a.row_nodes
-AreRowNodes-own a over = record {
+pub AreRowNodes-own : {a : Automaton} → IsOverNodes a → AreRowNodes a a.row_nodes
+AreRowNodes-own {a} over = record {
   size = over.nodes.rows_size;
   known = over.nodes.rows_known;
   narrow = over.nodes.rows_narrow;

@@ -11,20 +11,20 @@ use Rattle.chess_game.specs.Offsets.{IsPart, IsTimes}
 signum_multiple : (t : ℕ) (d o : ℤ) → 0 < t → unsigned_abs d ≤ 1 → o ≡ pos t *ℤ d → int_signum o ≡ d
 signum_multiple t d o some small is = ap int_signum is ∙ sign_steps d small t some
 
-pub times_is : (dx dy ox oy : ℤ) (t : ℕ) → IsDirection dx dy → IsTimes dx dy ox oy t → t ≡ max (unsigned_abs ox) (unsigned_abs oy)
-times_is dx dy ox oy t unit is = sym (rw (is.right, is.up) (far_steps dx dy unit t))
+pub times_is : {dx dy ox oy : ℤ} {t : ℕ} → IsDirection dx dy → IsTimes dx dy ox oy t → t ≡ max (unsigned_abs ox) (unsigned_abs oy)
+times_is {dx} {dy} {t} unit is = sym (rw (is.right, is.up) (far_steps dx dy unit t))
 
-pub no_times : (dx dy ox oy : ℤ) (m t : ℕ) → IsTimes dx dy ox oy t → IsDirection dx dy → m ≡ max (unsigned_abs ox) (unsigned_abs oy) → (IsTimes dx dy ox oy m → ⊥) → ⊥
-no_times dx dy ox oy m t h unit is off =
-    off (subst (IsTimes dx dy ox oy) (times_is dx dy ox oy t unit h ∙ sym is) h)
+pub no_times : {dx dy ox oy : ℤ} (m : ℕ) {t : ℕ} → IsTimes dx dy ox oy t → IsDirection dx dy → m ≡ max (unsigned_abs ox) (unsigned_abs oy) → (IsTimes dx dy ox oy m → ⊥) → ⊥
+no_times {dx} {dy} {ox} {oy} m h unit is off =
+    off (subst (IsTimes dx dy ox oy) (times_is unit h ∙ sym is) h)
 
 signum_direction : (ox oy : ℤ) → 0 < max (unsigned_abs ox) (unsigned_abs oy) → IsDirection (int_signum ox) (int_signum oy)
 signum_direction ox oy some = grind arith
 
 -- the two tests with the first step toward the whole tell of a part
-pub part_from : (ox oy ex ey ux uy : ℤ) (s t : ℕ) → ux ≡ int_signum ox → uy ≡ int_signum oy → s ≡ max (unsigned_abs ox) (unsigned_abs oy) → t < s
+pub part_from : {ox oy ex ey ux uy : ℤ} (s t : ℕ) → ux ≡ int_signum ox → uy ≡ int_signum oy → s ≡ max (unsigned_abs ox) (unsigned_abs oy) → t < s
     → IsTimes ux uy ox oy s → IsTimes ux uy ex ey t → IsPart ox oy ex ey
-part_from ox oy ex ey ux uy s t is_x is_y is fewer whole part =
+part_from {ox} {oy} {ux} {uy} s t is_x is_y is fewer whole part =
     record {
       dx = ux;
       dy = uy;
@@ -43,8 +43,8 @@ part_unit ox oy ex ey ux uy s t is_x is_y is_s is_t h =
     let direction : max (unsigned_abs h.dx) (unsigned_abs h.dy) ≡ 1 = h.direction in
     let same_x : h.dx ≡ ux = sym (signum_multiple h.whole h.dx ox h.to_whole.positive (omega arith) h.to_whole.right) ∙ sym is_x in
     let same_y : h.dy ≡ uy = sym (signum_multiple h.whole h.dy oy h.to_whole.positive (omega arith) h.to_whole.up) ∙ sym is_y in
-    let same_s : h.whole ≡ s = times_is h.dx h.dy ox oy h.whole h.direction h.to_whole ∙ sym is_s in
-    let same_t : h.part ≡ t = times_is h.dx h.dy ex ey h.part h.direction h.to_part ∙ sym is_t in
+    let same_s : h.whole ≡ s = times_is h.direction h.to_whole ∙ sym is_s in
+    let same_t : h.part ≡ t = times_is h.direction h.to_part ∙ sym is_t in
     let whole : IsTimes ux uy ox oy s =
     subst (λ n. IsTimes ux uy ox oy n) same_s (subst (λ d. IsTimes ux d ox oy h.whole) same_y (subst (λ d. IsTimes d h.dy ox oy h.whole) same_x h.to_whole)) in
     let part : IsTimes ux uy ex ey t =
@@ -63,8 +63,8 @@ pub times_to : (a z : Square) (dx dy ox oy : ℤ) (t : ℕ) → ox ≡ z.x -ℤ 
 times_to a z dx dy ox oy t x y positive same =
     record { positive = positive; right = z_to ox z.x a.x t dx x (ap (λ b. b.x) same); up = z_to oy z.y a.y t dy y (ap (λ b. b.y) same) }
 
-pub times_from : (a z : Square) (dx dy ox oy : ℤ) (t : ℕ) → ox ≡ z.x -ℤ a.x → oy ≡ z.y -ℤ a.y → IsTimes dx dy ox oy t → z ≡ after_steps a t dx dy
-times_from a z dx dy ox oy t x y h =
+pub times_from : (a z : Square) {dx dy ox oy : ℤ} {t : ℕ} → ox ≡ z.x -ℤ a.x → oy ≡ z.y -ℤ a.y → IsTimes dx dy ox oy t → z ≡ after_steps a t dx dy
+times_from a z {dx} {dy} {ox} {oy} {t} x y h =
     square_is z (a.x +ℤ (pos t *ℤ dx)) (a.y +ℤ (pos t *ℤ dy)) (z_from ox z.x a.x t dx x h.right) (z_from oy z.y a.y t dy y h.up)
 
 -- between, by offsets
@@ -83,8 +83,8 @@ between_part a b z ox oy ex ey is_ox is_oy is_ex is_ey h =
       to_part = times_to a z h.dx h.dy ex ey h.part is_ex is_ey h.begun h.to_z;
     }
 
-pub part_between : (a b z : Square) (ox oy ex ey : ℤ) → ox ≡ b.x -ℤ a.x → oy ≡ b.y -ℤ a.y → ex ≡ z.x -ℤ a.x → ey ≡ z.y -ℤ a.y → IsPart ox oy ex ey → IsBetween a b z
-part_between a b z ox oy ex ey is_ox is_oy is_ex is_ey h =
+pub part_between : (a b z : Square) {ox oy ex ey : ℤ} → ox ≡ b.x -ℤ a.x → oy ≡ b.y -ℤ a.y → ex ≡ z.x -ℤ a.x → ey ≡ z.y -ℤ a.y → IsPart ox oy ex ey → IsBetween a b z
+part_between a b z is_ox is_oy is_ex is_ey h =
     record {
       dx = h.dx;
       dy = h.dy;
@@ -93,6 +93,6 @@ part_between a b z ox oy ex ey is_ox is_oy is_ex is_ey h =
       part = h.part;
       begun = h.to_part.positive;
       fewer = h.fewer;
-      to_b = times_from a b h.dx h.dy ox oy h.whole is_ox is_oy h.to_whole;
-      to_z = times_from a z h.dx h.dy ex ey h.part is_ex is_ey h.to_part;
+      to_b = times_from a b is_ox is_oy h.to_whole;
+      to_z = times_from a z is_ex is_ey h.to_part;
     }

@@ -31,23 +31,23 @@ goes_live Knight p m z h n = some_not_none (square_of m) _ h n
 goes_live Pawn p m z (inl h) n = some_not_none (square_of m) _ h.0 n
 goes_live Pawn p m z (inr h) n = stands_not_none (square_of m) _ h.0 n
 
-pub refused_not_legal : (e : Illegal) (p : Position) (i : ℕ) (z : Square) (q : Position) → IsRefusal p i z e → Legal p i z q → ⊥
-refused_not_legal NoSuchMan p i z q h l = let is = l.step.is_man in cc
-refused_not_legal NotYours p i z q h l =
+pub refused_not_legal : (e : Illegal) {p : Position} {i : ℕ} {z : Square} {q : Position} → IsRefusal p i z e → Legal p i z q → ⊥
+refused_not_legal NoSuchMan h l = let is = l.step.is_man in cc
+refused_not_legal NotYours {p} h l =
     let side = rw l.step.is_man at h in
     other_differs p.turn (sym l.step.his_turn ∙ side)
-refused_not_legal Captured p i z q h l =
+refused_not_legal Captured {p} {z} h l =
     goes_live l.step.man.kind p l.step.man z l.step.goes (rw l.step.is_man at h).1
-refused_not_legal OwnMan p i z q h l = l.step.not_own (rw l.step.is_man at h).2
-refused_not_legal NotReached p i z q h l = (rw l.step.is_man at h).3 l.step.goes
-refused_not_legal KingLeft p i z q (r, step, check) l =
-    let same : r ≡ q = same_after p i z r q step.after l.step.after in
+refused_not_legal OwnMan h l = l.step.not_own (rw l.step.is_man at h).2
+refused_not_legal NotReached h l = (rw l.step.is_man at h).3 l.step.goes
+refused_not_legal KingLeft {p} {q} (r, step, check) l =
+    let same : r ≡ q = same_after step.after l.step.after in
     l.safe (subst (λ s. InCheck s p.turn) same check)
 
-pub narrow_after : (p : Position) (i : ℕ) (z : Square) (q : Position) → IsAfter p i z q → IsNarrowPosition p → IsNarrow z → IsNarrowPosition q
-narrow_after p i z q after narrow here k d h =
+pub narrow_after : {p : Position} {i : ℕ} {z : Square} {q : Position} → IsAfter p i z q → IsNarrowPosition p → IsNarrow z → IsNarrowPosition q
+narrow_after {p} {z} after narrow here k d h =
     let within : k < length p.men = omega (arith, after.same_count, h) in
-    after_each p i z q after k d within IsNarrowMan
+    after_each after k d within IsNarrowMan
     (λ e x is. let same : z ≡ x = cc in subst IsNarrow same here)
     (λ ne s x is. cc)
     (λ ne n. narrow k d within)

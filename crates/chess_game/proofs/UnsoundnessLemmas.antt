@@ -65,17 +65,17 @@ apart_from p none i j m n z is_m is_n s t =
     ]
 
 -- for a sound position no reason holds
-refuted : (e : Unsound) (p : Position) → IsUnsoundFor p e → Sound p → ⊥
-refuted (NoKing s) p h sound =
+refuted : (e : Unsound) {p : Position} → IsUnsoundFor p e → Sound p → ⊥
+refuted (NoKing s) h sound =
     let one = sound.kings s in h one.number (rw one.is_man one.is_king)
-refuted (ManyKings s) p (i, j, lt, a, b) sound =
+refuted (ManyKings s) {p} (i, j, lt, a, b) sound =
     let one = sound.kings s in
     let wa = man_of_some (man_at p i) _ a in
     let wb = man_of_some (man_at p j) _ b in
     let ea : i ≡ one.number = one.only i wa.0 wa.1 wa.2.0 wa.2.1 in
     let eb : j ≡ one.number = one.only j wb.0 wb.1 wb.2.0 wb.2.1 in
     omega arith
-refuted (KingGone s) p (i, a, gone) sound =
+refuted (KingGone s) {p} (i, a, gone) sound =
     let one = sound.kings s in
     let wa = man_of_some (man_at p i) _ a in
     let ea : i ≡ one.number = one.only i wa.0 wa.1 wa.2.0 wa.2.1 in
@@ -84,19 +84,19 @@ refuted (KingGone s) p (i, a, gone) sound =
     let who : wa.0 ≡ one.king = cc in
     let none : wa.0.place ≡ Gone = rw wa.1 at gone in
     one.live (sym (ap (λ m. m.place) who) ∙ none)
-refuted (SameSquare i j) p (lt, (z, a, b)) sound =
+refuted (SameSquare i j) {p} (lt, (z, a, b)) sound =
     let wa = man_of_some (man_at p i) _ a in
     let wb = man_of_some (man_at p j) _ b in
     let e : i ≡ j = sound.apart i j wa.0 wb.0 z wa.1 wb.1 wa.2 wb.2 in
     omega arith
-refuted OtherInCheck p h sound = sound.other_safe h
+refuted OtherInCheck h sound = sound.other_safe h
 
 pub unsound_refuted : (e : Unsound) (p : Position) → IsFirstUnsoundness p e → Sound p → ⊥
-unsound_refuted e p h sound = refuted e p h.holds sound
+unsound_refuted e p h sound = refuted e h.holds sound
 
-pub kings_from : (p : Position) → HasOneKing p White → HasOneKing p Black → (s : Side) → HasOneKing p s
-kings_from p w b White = w
-kings_from p w b Black = b
+pub kings_from : {p : Position} → HasOneKing p White → HasOneKing p Black → (s : Side) → HasOneKing p s
+kings_from w b White = w
+kings_from w b Black = b
 
 -- no reason before this place in the order holds
 abbrev pub IsClear : Position → ℕ → Type 0

@@ -82,7 +82,7 @@ module _ (a z : Square) (r : Ray) (ox oy ux uy : ℤ) (is_ox : ox ≡ z.x -ℤ a
       record {
         begun = omega arith;
         one = λ no. refl;
-        leads = times_from a z r.dx r.dy ox oy 1 is_ox is_oy (record { positive = omega arith; right = same.0 ∙ is_ux ∙ sym (once r.dx); up = same.1 ∙ is_uy ∙ sym (once r.dy) });
+        leads = times_from a z {dx = r.dx} {dy = r.dy} {ox = ox} {oy = oy} {t = 1} is_ox is_oy (record { positive = omega arith; right = same.0 ∙ is_ux ∙ sym (once r.dx); up = same.1 ∙ is_uy ∙ sym (once r.dy) });
       }
 
   pub at_leap : (t : ℕ) → r.far ≡ false → IsAt r t a z → (ox ≡ ux) × (oy ≡ uy)
@@ -92,29 +92,29 @@ module _ (a z : Square) (r : Ray) (ox oy ux uy : ℤ) (is_ox : ox ≡ z.x -ℤ a
       let times = times_to a z r.dx r.dy ox oy 1 is_ox is_oy (omega arith) there in
       (times.right ∙ once r.dx ∙ sym is_ux, times.up ∙ once r.dy ∙ sym is_uy)
 
-  slide_at : (t : ℕ) → r.far ≡ true → IsTimes ux uy ox oy t → IsAt r t a z
-  slide_at t far h =
+  slide_at : {t : ℕ} → r.far ≡ true → IsTimes ux uy ox oy t → IsAt r t a z
+  slide_at {t} far h =
       let there : IsTimes r.dx r.dy ox oy t = subst (λ d. IsTimes r.dx d ox oy t) is_uy (subst (λ d. IsTimes d uy ox oy t) is_ux h) in
       let some : 0 < t = h.positive in
       record {
         begun = omega arith;
         one = λ no. cc;
-        leads = times_from a z r.dx r.dy ox oy t is_ox is_oy there;
+        leads = times_from a z is_ox is_oy there;
       }
 
-  at_slide : (t : ℕ) → IsAt r t a z → IsTimes ux uy ox oy t
-  at_slide t h =
+  at_slide : {t : ℕ} → IsAt r t a z → IsTimes ux uy ox oy t
+  at_slide {t} h =
       let some : 1 ≤ t = h.begun in
       let there : IsTimes r.dx r.dy ox oy t = times_to a z r.dx r.dy ox oy t is_ox is_oy (omega arith) h.leads in
       subst (λ d. IsTimes ux d ox oy t) (sym is_uy) (subst (λ d. IsTimes d r.dy ox oy t) (sym is_ux) there)
 
   pub slide_some : r.far ≡ true → (o : Option ℕ) → IfSome o (IsTimes ux uy ox oy) → IfSome o (λ t. IsAt r t a z)
-  slide_some far (Some t) h = slide_at t far h
+  slide_some far (Some t) h = slide_at far h
   slide_some far None h = tt
 
   pub slide_none : (o : Option ℕ) → IfNone o ((t : ℕ) → IsTimes ux uy ox oy t → ⊥) → IfNone o ((t : ℕ) → IsAt r t a z → ⊥)
   slide_none (Some t) h = tt
-  slide_none None h = λ t there. h t (at_slide t there)
+  slide_none None h = λ t there. h t (at_slide there)
 
 -- the distances of a far ray
 pub far_reach : (r : Ray) (a : Square) (f : Frame) (t : ℕ) → r.far ≡ true → ((1 ≤ t) × IsInside f (after_steps a t r.dx r.dy)) ↔ IsReach r a f t
@@ -136,23 +136,23 @@ square_of_some None P h = absurd h
 square_of_some (Some z) P h = (z, refl, h)
 
 -- a distance along a ray is the only one
-pub at_unique : (r : Ray) (a z : Square) (s t : ℕ) → IsStepwise r → IsAt r s a z → IsAt r t a z → s ≡ t
-at_unique r a z s t stepwise hs ht =
+pub at_unique : {r : Ray} {a z : Square} {s t : ℕ} → IsStepwise r → IsAt r s a z → IsAt r t a z → s ≡ t
+at_unique {r} {a} {z} {s} {t} stepwise hs ht =
     elim (far_or_not r) [
       | inl far ↦
           let offset_x : ℤ = z.x -ℤ a.x in
           let offset_y : ℤ = z.y -ℤ a.y in
           let some_s : 1 ≤ s = hs.begun in
           let some_t : 1 ≤ t = ht.begun in
-          times_is r.dx r.dy (z.x -ℤ a.x) (z.y -ℤ a.y) s (stepwise far) (times_to a z r.dx r.dy (z.x -ℤ a.x) (z.y -ℤ a.y) s refl refl (omega arith) hs.leads)
-          ∙ sym (times_is r.dx r.dy (z.x -ℤ a.x) (z.y -ℤ a.y) t (stepwise far) (times_to a z r.dx r.dy (z.x -ℤ a.x) (z.y -ℤ a.y) t refl refl (omega arith) ht.leads))
+          times_is (stepwise far) (times_to a z r.dx r.dy (z.x -ℤ a.x) (z.y -ℤ a.y) s refl refl (omega arith) hs.leads)
+          ∙ sym (times_is (stepwise far) (times_to a z r.dx r.dy (z.x -ℤ a.x) (z.y -ℤ a.y) t refl refl (omega arith) ht.leads))
       | inr near ↦ hs.one near ∙ sym (ht.one near)
     ]
 
 -- so is the distance at which a man stands
 pub off_unique : (o : Option Square) (r : Ray) (a : Square) (s t : ℕ) → IsStepwise r → IsSomeAnd o (IsAt r s a) → IsSomeAnd o (IsAt r t a) → s ≡ t
 off_unique None r a s t stepwise hs ht = absurd hs
-off_unique (Some z) r a s t stepwise hs ht = at_unique r a z s t stepwise hs ht
+off_unique (Some z) r a s t stepwise hs ht = at_unique stepwise hs ht
 
 less_suc : (k n : ℕ) → k < n + 1 → (k < n) ⊎ (k ≡ n)
 less_suc k n h = grind arith
@@ -263,30 +263,30 @@ module _ (p : Position) (a : Square) (r : Ray) (f : Frame) where
             absurd (omega arith));
       }
 
-  reach_of : (t : ℕ) → (z : Square) → IsAt r t a z → IsInside f z → IsReach r a f t
-  reach_of t z at inside =
+  reach_of : {t : ℕ} → {z : Square} → IsAt r t a z → IsInside f z → IsReach r a f t
+  reach_of {t} at inside =
       (subst (IsAt r t a) at.leads at, subst (IsInside f) at.leads inside)
 
-  pub from_free : (hit : Option Hit) → IsNearest p.men (length p.men) a r hit → (t : ℕ) → IsFreeFrom p a r f t → IsReach r a f t × IfSome hit (λ h. t < h.distance)
-  from_free None nearest t h = (reach_of t h.to h.leads h.inside, tt)
-  from_free (Some hit) nearest t h =
+  pub from_free : (hit : Option Hit) → IsNearest p.men (length p.men) a r hit → {t : ℕ} → IsFreeFrom p a r f t → IsReach r a f t × IfSome hit (λ h. t < h.distance)
+  from_free None nearest h = (reach_of h.leads h.inside, tt)
+  from_free (Some hit) nearest {t} h =
       let w = man_of_some (slice_get p.men hit.index) _ nearest.there in
       let z = square_of_some (square_of w.0) _ w.2 in (
-        reach_of t h.to h.leads h.inside,
+        reach_of h.leads h.inside,
         elim (number_cases t hit.distance) [
           | inl lt ↦ lt
           | inr past ↦ absurd (not_empty p z.0 hit.index w.0 (h.empty hit.distance z.0 (at_most past) z.2) w.1 z.1)
         ],
       )
 
-  no_lesser_man : (hit : Hit) → IsNearestMan p.men (length p.men) a r hit → (z : Square) → IsAt r hit.distance a z → (j : ℕ) → j < hit.index + 1 → StandsAt p j z → ⊥
-  no_lesser_man hit nearest z at zero low there = there
-  no_lesser_man hit nearest z at (suc k) low there =
+  no_lesser_man : {hit : Hit} → IsNearestMan p.men (length p.men) a r hit → {z : Square} → IsAt r hit.distance a z → (j : ℕ) → j < hit.index + 1 → StandsAt p j z → ⊥
+  no_lesser_man nearest at zero low there = there
+  no_lesser_man {hit} nearest {z} at (suc k) low there =
       let w = man_of_some (slice_get p.men k) _ there in
       nearest.least k w.0 (omega arith) w.1 (off_at w.0 a z r hit.distance w.2 at)
 
-  hit_some : (hit : Hit) → IsNearestMan p.men (length p.men) a r hit → IsReach r a f hit.distance → IsHitFrom p a r f (hit.index + 1)
-  hit_some hit nearest reach =
+  hit_some : {hit : Hit} → IsNearestMan p.men (length p.men) a r hit → IsReach r a f hit.distance → IsHitFrom p a r f (hit.index + 1)
+  hit_some {hit} nearest reach =
       let w = man_of_some (slice_get p.men hit.index) _ nearest.there in
       let z = square_of_some (square_of w.0) _ w.2 in
       record {
@@ -298,7 +298,7 @@ module _ (p : Position) (a : Square) (r : Ray) (f : Frame) where
         first = λ k y low at. empty_at p a y r k at (λ i m is off.
             let far : hit.distance ≤ k = nearest.nearest i m k (slice_get_within p.men i m is) is off in
             absurd (omega arith));
-        least = λ j low there. no_lesser_man hit nearest z.0 z.2 j low there;
+        least = λ j low there. no_lesser_man nearest z.2 j low there;
       }
 
   pub hits_some : (span : Span) → ((t : ℕ) → IsIn span t → IsReach r a f t) → (hit : Option Hit) → IsNearest p.men (length p.men) a r hit
@@ -306,7 +306,7 @@ module _ (p : Position) (a : Square) (r : Ray) (f : Frame) where
   hits_some span reach hit nearest None h = tt
   hits_some span reach None nearest (Some n) h = absurd h
   hits_some span reach (Some hit) nearest (Some n) h =
-      subst (IsHitFrom p a r f) (sym h.0) (hit_some hit nearest (reach hit.distance h.1))
+      subst (IsHitFrom p a r f) (sym h.0) (hit_some nearest (reach hit.distance h.1))
 
   pub hits_none : (span : Span) → ((t : ℕ) → IsReach r a f t → IsIn span t) → (hit : Option Hit) → IsNearest p.men (length p.men) a r hit
       → (o : Option ℕ) → IfNone o (IfSome hit (λ h. IsIn span h.distance → ⊥)) → IfNone o ((i : ℕ) → IsHitFrom p a r f i → ⊥)
@@ -322,7 +322,7 @@ module _ (p : Position) (a : Square) (r : Ray) (f : Frame) where
       elim (number_cases hit.distance there.distance) [
         | inl lt ↦ not_empty p z.0 hit.index v.0 (there.first hit.distance z.0 lt z.2) v.1 z.1
         | inr rest ↦ elim rest [
-          | inl same ↦ h (reach hit.distance (subst (IsReach r a f) (sym same) (reach_of there.distance there.to there.leads there.inside)))
+          | inl same ↦ h (reach hit.distance (subst (IsReach r a f) (sym same) (reach_of there.leads there.inside)))
           | inr gt ↦ absurd (omega arith)
         ]
       ]

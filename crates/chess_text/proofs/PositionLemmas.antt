@@ -18,9 +18,9 @@ man_not_end : (m : Man) → man_text m ≡ end_line → ⊥
 man_not_end m h = cc
 
 man_once : (p : Position) (line : List ℕ) (one other : Turnout) → FeedsMan p line one → FeedsMan p line other → one ≡ other
-man_once p line one other (inl (m, hm, im)) (inl (n, hn, in')) = im ∙ ap (λ k. more (stage.Men (with_man p k))) (same_man line m n hm hn) ∙ sym in'
-man_once p line one other (inl (m, hm, im)) (inr (reason, r, ir)) = absurd (man_no_refusal line m reason hm r)
-man_once p line one other (inr (reason, r, ir)) (inl (n, hn, in')) = absurd (man_no_refusal line n reason hn r)
+man_once p line one other (inl (m, hm, im)) (inl (n, hn, in')) = im ∙ ap (λ k. more (stage.Men (with_man p k))) (same_man hm hn) ∙ sym in'
+man_once p line one other (inl (m, hm, im)) (inr (reason, r, ir)) = absurd (man_no_refusal reason hm r)
+man_once p line one other (inr (reason, r, ir)) (inl (n, hn, in')) = absurd (man_no_refusal reason hn r)
 man_once p line one other (inr (reason, r, ir)) (inr (again, a, ia)) = ir ∙ ap wrong (one_refusal line reason again r a) ∙ sym ia
 
 men_once : (p : Position) (line : List ℕ) (one other : Turnout) → FeedsMen p line one → FeedsMen p line other → one ≡ other
@@ -84,8 +84,8 @@ finishes_end p line q high (inr (inr (inl (a, e, i)))) = absurd cc
 finishes_end p line q high (inr (inr (inr (a, e, inl (m, hm, i))))) = absurd cc
 finishes_end p line q high (inr (inr (inr (a, e, inr (reason, r, i))))) = absurd cc
 
-finishes_man : (p : Position) (m : Man) (line : List ℕ) (lines : List (List ℕ)) (q : Position) → IsManLine line m → Finishes (with_man p m) lines q → Finishes p (line ∷ lines) q
-finishes_man p m line lines q hm f =
+finishes_man : (p : Position) {m : Man} {line : List ℕ} (lines : List (List ℕ)) (q : Position) → IsManLine line m → Finishes (with_man p m) lines q → Finishes p (line ∷ lines) q
+finishes_man p {m} lines q hm f =
     record {
       rest = m ∷ f.rest;
       spelled = ap (λ l. l ∷ lines) hm.spelled ∙ ap (λ l. man_text m ∷ l) f.spelled;
@@ -119,7 +119,7 @@ finishes p [] q high h = absurd h
 finishes p (line ∷ []) q high h = finishes_end p line q high h
 finishes p (line ∷ l ∷ lines) q high h =
     let on = goes_on p line h.0 h.1 in
-    finishes_man p on.man line (l ∷ lines) q on.is_line
+    finishes_man p (l ∷ lines) q on.is_line
     (finishes (with_man p on.man) (l ∷ lines) q (more_room p on.man on.room) (subst (λ s. Completes s (l ∷ lines) q) on.next_is h.2))
 
 -- the line of the side to move

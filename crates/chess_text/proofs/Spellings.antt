@@ -128,8 +128,8 @@ same_behind s t k l a b h =
     (same_side s t side, same_kind k l kind, rest)
 
 -- a man has one line
-pub same_man : (line : List ℕ) (m n : Man) → IsManLine line m → IsManLine line n → m ≡ n
-same_man line m n hm hn =
+pub same_man : {line : List ℕ} {m n : Man} → IsManLine line m → IsManLine line n → m ≡ n
+same_man {m} {n} hm hn =
     let parts = same_behind m.side n.side m.kind n.kind (place_text m.place) (place_text n.place) (sym hm.spelled ∙ hn.spelled) in
     let side = parts.0 in
     let kind = parts.1 in
@@ -145,16 +145,16 @@ place_shape Gone fits = inl refl
 place_shape (At x y) fits = inr (pair_has_fields x y fits.0 fits.1)
 
 -- a man's line is not refused
-pub man_no_refusal : (line : List ℕ) (m : Man) (reason : TextWhy) → IsManLine line m → IsManRefusal line reason → ⊥
-man_no_refusal line m why.ManLine h refusal =
+pub man_no_refusal : {line : List ℕ} {m : Man} (reason : TextWhy) → IsManLine line m → IsManRefusal line reason → ⊥
+man_no_refusal {m} why.ManLine h refusal =
     refusal (record { side = m.side; kind = m.kind; rest = place_text m.place; letters = h.spelled; shape = place_shape m.place h.fits })
-man_no_refusal line m why.Number h refusal =
+man_no_refusal {m} why.Number h refusal =
     let parts = same_behind m.side refusal.side m.kind refusal.kind (place_text m.place) refusal.rest (sym h.spelled ∙ refusal.letters) in
     place_no_fault m.place h.fits (subst HasNoNumber (sym parts.2) refusal.no_number)
-man_no_refusal line m why.Header h refusal = refusal
-man_no_refusal line m why.Turn h refusal = refusal
-man_no_refusal line m why.TooFew h refusal = refusal
-man_no_refusal line m why.TooMany h refusal = refusal
+man_no_refusal why.Header h refusal = refusal
+man_no_refusal why.Turn h refusal = refusal
+man_no_refusal why.TooFew h refusal = refusal
+man_no_refusal why.TooMany h refusal = refusal
 
 -- a line is refused as no man for one reason
 pub one_refusal : (line : List ℕ) (a b : TextWhy) → IsManRefusal line a → IsManRefusal line b → a ≡ b

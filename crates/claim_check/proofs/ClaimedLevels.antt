@@ -41,9 +41,9 @@ module _ (c : Claim) (ply : ℕ) where
   after level [] = level
   after level (m ∷ masks) = after (level_with level m (claimed_level c ply m)) masks
 
-  ends_after : (masks : List ℕ) (level : Level) (budget : ℕ) (l : Level) → Ends (for_masks masks given level) budget l → l ≡ after level masks
-  ends_after [] level budget l h = Ends-give_is level l budget h
-  ends_after (m ∷ masks) level budget l h = ends_after masks (level_with level m (claimed_level c ply m)) budget l h
+  ends_after : (masks : List ℕ) (level : Level) {budget : ℕ} {l : Level} → Ends (for_masks masks given level) budget l → l ≡ after level masks
+  ends_after [] level h = Ends-give_is level h
+  ends_after (m ∷ masks) level h = ends_after masks (level_with level m (claimed_level c ply m)) h
 
   with_one : (b : Bool) (level : Level) (m : ℕ) (masks : List ℕ) (k : ℕ) → k == m ≡ b → (level k ≡ claimed_level c ply k) ⊎ Contains (m ∷ masks) k
       → ((if b then claimed_level c ply m else level k) ≡ claimed_level c ply k) ⊎ Contains masks k
@@ -66,9 +66,9 @@ module _ (c : Claim) (ply : ℕ) where
     here_or_none k (Some a) e = inr ((masks_are c.position k).1 (is.only ply k a e).1)
 
     -- mask by mask it is the level of what is claimed
-    pub given_level : (budget : ℕ) (l : Level) → Ends (for_masks (masks_of c.position) given no_sets) budget l → l ≡ claimed_level c ply
-    given_level budget l h =
-        ends_after (masks_of c.position) no_sets budget l h
+    pub given_level : {budget : ℕ} {l : Level} → Ends (for_masks (masks_of c.position) given no_sets) budget l → l ≡ claimed_level c ply
+    given_level h =
+        ends_after (masks_of c.position) no_sets h
         ∙ (λ j k. after_is (masks_of c.position) no_sets k (here_or_none k (claimed_at c ply k) refl) j)
 
 -- the level of one set has it

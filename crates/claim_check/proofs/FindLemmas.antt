@@ -15,12 +15,12 @@ use Rattle.claim_check.specs.Finds.{Finds}
 -- a question that is answered without a step
 pub asked_ends : (budget : ℕ) (q : Question) (P : Type 0) (b : Bool) → IsTrue b ↔ P → (P → IsYes q)
     → ((P → ⊥) → IsNo q) → Ends {P = PartName} (Ask q (Give true) (Give false)) budget b
-asked_ends budget q P true same some none = Ends-ask_yes q (Give true) (Give false) budget true (some (same.0 refl)) (Ends-give budget true)
+asked_ends budget q P true same some none = Ends-ask_yes q (Give true) (Give false) budget (some (same.0 refl)) (Ends-give budget true)
 asked_ends budget q P false same some none = Ends-ask_no q (Give true) (Give false) budget false (none (λ h. let t = same.1 h in absurd (cc))) (Ends-give budget false)
 
-pub none_found : (m : Program Finding) (budget now : ℕ) → now ≡ budget → (found : Finding) → is_some found ≡ false → Ends m now found → Ends m budget None
-none_found m budget now same None none h = subst (λ (b : ℕ). Ends m b None) same h
-none_found m budget now same (Some f) none h = absurd (cc)
+pub none_found : {m : Program Finding} (budget : ℕ) {now : ℕ} → now ≡ budget → {found : Finding} → is_some found ≡ false → Ends m now found → Ends m budget None
+none_found {m} budget same {found = None} none h = subst (λ (b : ℕ). Ends m b None) same h
+none_found budget same {found = Some f} none h = absurd (cc)
 
 -- a part is gone through only where nothing was found before
 pub goes_past : (m : Program Finding) (budget : ℕ) (found : Finding) → is_some found ≡ true → Ends (go_on m found) budget found
@@ -36,15 +36,15 @@ if_ok (Ok value) P holds = holds value
 if_ok (Err e) P holds = tt
 
 -- what is left is gone through, and with it the whole
-pub left_finds : (left whole : Program Finding) (budget now : ℕ) → now ≡ budget → LeadsTo left whole budget
+pub left_finds : {left whole : Program Finding} {budget : ℕ} (now : ℕ) → now ≡ budget → LeadsTo left whole budget
     → (r : Result Finding (PlanError PartName)) → Finds left now r → Finds whole budget r
-left_finds left whole budget now same leads (Ok found) h = leads.ends found (subst (λ (b : ℕ). Ends left b found) same h)
-left_finds left whole budget now same leads (Err e) h = LeadsTo-error left whole budget leads e (subst (λ (b : ℕ). IsPlanError left b e) same h)
+left_finds {left} now same leads (Ok found) h = leads.ends found (subst (λ (b : ℕ). Ends left b found) same h)
+left_finds {left} now same leads (Err e) h = LeadsTo-error leads e (subst (λ (b : ℕ). IsPlanError left b e) same h)
 
 module _ (m n whole : Program Finding) (budget now : ℕ) (same : now ≡ budget) (leads : LeadsTo (and_then m n) whole budget) where
   -- nothing is found, and the next part is left
   pub left_after : (found : Finding) → is_some found ≡ false → Ends m now found → LeadsTo n whole budget
-  left_after found none h = next-leads budget m n whole leads (none_found m budget now same found none h)
+  left_after found none h = next-leads budget m n whole leads (none_found budget same none h)
 
   -- a rule fails
   pub found_in : (found : Finding) → is_some found ≡ true → Ends m now found → Ends whole budget found

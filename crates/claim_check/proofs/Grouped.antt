@@ -88,8 +88,8 @@ module _ (masks : List ℕ) where
   pub bare_none : AreBare [] 0
   bare_none = record { none = refl; size_is = refl }
 
-  pub bare_more : (plies : List (List Automaton)) (size : ℕ) → AreBare plies size → AreBare (plies ++ [] ∷ []) (size + 1)
-  bare_more plies size h = record {
+  pub bare_more : {plies : List (List Automaton)} {size : ℕ} → AreBare plies size → AreBare (plies ++ [] ∷ []) (size + 1)
+  bare_more {plies} h = record {
     none = from_none masks plies ∙ h.none;
     size_is = length_push plies [] ∙ ap (λ n. n + 1) h.size_is;
   }
@@ -103,8 +103,8 @@ module _ (all : List SetHere) (masks : List ℕ) (first count : ℕ) where
     pub size : length plies ≡ first + 2 * done
     pub places : map place_of left ≡ places_with (every_second (first + 2 * done) (count - done)) masks
 
-  pub grouped_none : (plies : List (List Automaton)) → AreBare masks plies first → map place_of all ≡ places_with (every_second first count) masks → Grouped 0 all plies
-  grouped_none plies bare is =
+  pub grouped_none : {plies : List (List Automaton)} → AreBare masks plies first → map place_of all ≡ places_with (every_second first count) masks → Grouped 0 all plies
+  grouped_none bare is =
       let at : first ≡ first + 2 * 0 = omega arith in
       let full : count ≡ count - 0 = omega arith in
       let Of : List ClaimedSet → Type 0 = λ l. AreReduced [] l in

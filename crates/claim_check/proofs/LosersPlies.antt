@@ -49,9 +49,9 @@ some_of None off = absurd (off refl)
 some_of (Some a) off = refl
 
 -- at each of these plies there is a set for each mask of the game
-pub plies_there : (c : Claim) → IsClaim c → (plies : List ℕ) → plies ≡ losers_plies c.winner c.position.turn c.moves
+pub plies_there : {c : Claim} → IsClaim c → (plies : List ℕ) → plies ≡ losers_plies c.winner c.position.turn c.moves
     → All (AreThere c) plies
-plies_there c is plies are =
+plies_there {c} is plies are =
     All-weaker (Contains plies) (AreThere c)
     (λ ply i mask game.
     let losers = (losers_plies-are c.winner c.position c.moves ply).0 (subst (λ (l : List ℕ). Contains l ply) are i) in

@@ -8,13 +8,13 @@ use Rattle.mate_plan.specs.Claim.{claimed_at}
 use Rattle.winning_sets.specs.declared.claimed.ClaimedSets.{ClaimedSets}
 use Rattle.claim_check.specs.Ready.{AreSigned, IsReady, claim_in}
 
-pub one_on : (s : ClaimedSets) → IsReady s → (ply mask : ℕ) (a : Automaton) → DecidesIntegers a → claimed_at (claim_in s) ply mask ≡ Some a → IsSetOn (mask_tracks s.position mask) a
-one_on s ready ply mask a signed there = record {
+pub one_on : {s : ClaimedSets} → IsReady s → (ply mask : ℕ) (a : Automaton) → DecidesIntegers a → claimed_at (claim_in s) ply mask ≡ Some a → IsSetOn (mask_tracks s.position mask) a
+one_on ready ply mask a signed there = record {
   reduced = ready.reduced ply mask a there;
   decides = record { integers = signed; tracks_are = ready.claim.tracks ply mask a there };
   few = ready.few ply mask a there;
 }
 
-pub claimed_on : (s : ClaimedSets) → IsReady s → AreSigned (claim_in s) → (ply mask : ℕ) (a : Automaton)
+pub claimed_on : {s : ClaimedSets} → IsReady s → AreSigned (claim_in s) → (ply mask : ℕ) (a : Automaton)
     → claimed_at (claim_in s) ply mask ≡ Some a → IsSetOn (mask_tracks s.position mask) a
-claimed_on s ready signed ply mask a there = one_on s ready ply mask a (signed ply mask a there) there
+claimed_on ready signed ply mask a there = one_on ready ply mask a (signed ply mask a there) there

@@ -32,10 +32,10 @@ accepts_alike a b word tracks first next accept h =
     back a [] h = h
     back a (sign ∷ letters) h = h
 
-pub reduced_of : (a b m : Automaton) → b.tracks ≡ a.tracks → b.first ≡ a.first → b.next ≡ a.next → b.accept ≡ a.accept
+pub reduced_of : (a b : Automaton) {m : Automaton} → b.tracks ≡ a.tracks → b.first ≡ a.first → b.next ≡ a.next → b.accept ≡ a.accept
     → m.tracks ≡ b.tracks → ((word : List ℕ) → IsWord (length b.tracks) word → Accepts m word ↔ Accepts b word)
     → IsReduced m → length m.accept ≤ length b.accept → IsReducedOf a m
-reduced_of a b m tracks first next accept over words reduced fewer =
+reduced_of a b {m} tracks first next accept over words reduced fewer =
     let Long : List Bool → Type 0 = λ flags. length m.accept ≤ length flags in
     let Word : List Var → List ℕ → Type 0 = λ ts word. IsWord (length ts) word in
     record {

@@ -29,11 +29,11 @@ reach_stopped c ply budget e h =
     Error-bind (reach_level rules (other c.winner) (suc ply) (claimed_level c ply)) (λ reached. and_then (lefts reached) (stales reached)) budget e h
 
 -- what is reached is known, and the rules of the replies are left, mask by mask
-pub ply_leads : (c : Claim) (ply budget k : ℕ) (masks : List ℕ) (reached : Level) → k ≡ ply → masks ≡ masks_of c.position
+pub ply_leads : (c : Claim) (ply : ℕ) {budget : ℕ} (k : ℕ) (masks : List ℕ) {reached : Level} → k ≡ ply → masks ≡ masks_of c.position
     → Ends (reach_level (rules_of c.position) (other c.winner) (suc ply) (claimed_level c ply)) budget reached
     → LeadsTo (and_then (for_each masks (check_left (rules_of c.position) c.winner (suc k) reached (claimed_level c (k + 2))))
     (for_each masks (check_stale (rules_of c.position) (other c.winner) k (claimed_level c k) reached))) (check_ply c ply) budget
-ply_leads c ply budget k masks reached at_ply masks_are ends =
+ply_leads c ply {budget} k masks {reached} at_ply masks_are ends =
     let rules = rules_of c.position in
     let after =
     λ (s : Side) (n : ℕ) (ms : List ℕ) (l : Level). and_then (for_each ms (check_left rules s (suc n) l (claimed_level c (n + 2))))
@@ -41,13 +41,13 @@ ply_leads c ply budget k masks reached at_ply masks_are ends =
     let By : Side → Type 0 = λ s. LeadsTo (after s ply (masks_of c.position) reached) (check_ply c ply) budget in
     let At : ℕ → Type 0 = λ n. LeadsTo (after c.winner n (masks_of c.position) reached) (check_ply c ply) budget in
     let Over : List ℕ → Type 0 = λ ms. LeadsTo (after c.winner k ms reached) (check_ply c ply) budget in
-    let all = LeadsTo-later (reach_level rules (other c.winner) (suc ply) (claimed_level c ply)) (after (other (other c.winner)) ply (masks_of c.position)) (check_ply c ply) budget reached ends
+    let all = LeadsTo-later (after (other (other c.winner)) ply (masks_of c.position)) {whole = check_ply c ply} ends
     (LeadsTo-self (check_ply c ply) budget) in
     subst Over (sym masks_are) (subst At (sym at_ply) (subst By (other_other c.winner) all))
 
 -- the levels stay what they are while the table grows
-pub replies_grow : (s : ClaimedSets) (ply : ℕ) (old new : List Automaton) (r : Replies) → Grows old new → AreReplies s ply old r → AreReplies s ply new r
-replies_grow s ply old new r grows are =
+pub replies_grow : {s : ClaimedSets} {ply : ℕ} {old : List Automaton} (new : List Automaton) {r : Replies} → Grows old new → AreReplies s ply old r → AreReplies s ply new r
+replies_grow {s} {old} new {r} grows are =
     let men = s.position.men in
     let masks = masks_of s.position in
     record {
@@ -60,7 +60,7 @@ replies_grow s ply old new r grows are =
       later_is = level-grows men old new masks r.later grows are.later ∙ are.later_is;
     }
 
-pub at_own_ply : (s : ClaimedSets) (ply : ℕ) (table : List Automaton) (r : Replies) → AreReplies s ply table r → AreReplies s r.ply table r
-at_own_ply s ply table r are =
+pub at_own_ply : {s : ClaimedSets} {ply : ℕ} {table : List Automaton} {r : Replies} → AreReplies s ply table r → AreReplies s r.ply table r
+at_own_ply {s} {table} {r} are =
     let At : ℕ → Type 0 = λ k. AreReplies s k table r in
     subst At (sym are.ply_is) are

@@ -13,10 +13,10 @@ use Rattle.claim_check.specs.Ready.{AreSigned}
 
 module _ (c : Claim) (is : IsClaim c) where
   means : RulesMean c.position
-  means = mean c.position is.sound is.few
+  means = mean is.sound is.few
 
-  pub signed_sets : (budget : ℕ) → Ends (for_each (losers_plies c.winner c.position.turn c.moves) (check_sets c)) budget None → AreSigned c
-  signed_sets budget h =
+  pub signed_sets : {budget : ℕ} → Ends (for_each (losers_plies c.winner c.position.turn c.moves) (check_sets c)) budget None → AreSigned c
+  signed_sets h =
       let plies = losers_plies c.winner c.position.turn c.moves in
       let first = for_each-checks (KeepsRule c) (set_rules c) (check_sets c) plies (λ ply i. sets-checks c is means ply) h.entries None h.takes in
       signed c is means (none_failing (KeepsRule c) _ first)

@@ -13,8 +13,8 @@ use Rattle.winning_sets.specs.declared.claimed.ClaimedSets.{ClaimedSets}
 use Rattle.winning_sets.proofs.ClaimPlaces.{claimed_kept}
 use Rattle.claim_check.specs.Ready.{IsReady, claim_in}
 
-pub won_sets : (s : ClaimedSets) (budget : ℕ) → IsReady s → Ends (check_plan (claim_in s)) budget None → IsWonClaim (solution_of s)
-won_sets s budget ready h =
+pub won_sets : {s : ClaimedSets} {budget : ℕ} → IsReady s → Ends (check_plan (claim_in s)) budget None → IsWonClaim (solution_of s)
+won_sets {s} {budget} ready h =
     let won = ((ends_where_won (claim_in s) budget ready.claim).0 h).0 in
     record {
       claim = ready.claim;

@@ -73,8 +73,8 @@ module _ {P : Type 0} where
 holds_by-alike : (r : RuleAt) (m n : Program Bool) → Alike Same m n → Alike Same (holds_by r m) (holds_by r n)
 holds_by-alike r m n same = bind-alike Same Same m n (λ holds. Give (judged r holds)) (λ holds. Give (judged r holds)) same (λ a b e. ap (judged r) e)
 
-asked-alike : (r : RuleAt) (q k : Question) → SameQuestion q k → Alike Same (holds_by r (Ask q (Give true) (Give false))) (holds_by r (Ask k (Give true) (Give false)))
-asked-alike r q k same = holds_by-alike r (Ask q (Give true) (Give false)) (Ask k (Give true) (Give false)) (same, refl, refl)
+asked-alike : (r : RuleAt) {q k : Question} → SameQuestion q k → Alike Same (holds_by r (Ask q (Give true) (Give false))) (holds_by r (Ask k (Give true) (Give false)))
+asked-alike r {q} {k} same = holds_by-alike r (Ask q (Give true) (Give false)) (Ask k (Give true) (Give false)) (same, refl, refl)
 
 go_on-alike : (m n : Program Finding) (a b : Finding) → a ≡ b → Alike Same m n → Alike Same (go_on m a) (go_on n b)
 go_on-alike m n a b e same = subst (λ (x : Finding). Alike Same (go_on m a) (go_on n x)) e (by a)
@@ -93,7 +93,7 @@ sign-alike : (ply mask : ℕ) (o u : Option Automaton) → AreSameSets o u → A
 sign-alike ply mask None None same = refl
 sign-alike ply mask None (Some b) same = absurd same
 sign-alike ply mask (Some a) None same = absurd same
-sign-alike ply mask (Some a) (Some b) same = asked-alike (rule_at ply mask rule.Sign) (Stable a) (Stable b) (Stable-alike a b (decides-same a b same))
+sign-alike ply mask (Some a) (Some b) same = asked-alike (rule_at ply mask rule.Sign) (Stable-alike a b (decides-same same))
 
 apart-alike : (p : Position) (ply mask : ℕ) (s t : SetOf) → SameSets s t → Alike Same (are_apart p ply mask s) (are_apart p ply mask t)
 apart-alike p ply mask s t sets =
@@ -205,7 +205,7 @@ module _ (p : Position) (w : Side) (n : ℕ) (xs ys : List ClaimedSet) (same : (
   waiting-alike : Alike Same (check_waiting c) (check_waiting d)
   waiting-alike =
       let here = λ (x : Claim). claimed_level x 0 (mask_of p) in
-      asked-alike (rule_at 0 (mask_of p) rule.First) (Has (here c) (tuple_of p)) (Has (here d) (tuple_of p)) (Has-alike (here c) (here d) (tuple_of p) (levels-same 0 (mask_of p)))
+      asked-alike (rule_at 0 (mask_of p) rule.First) (Has-alike (here c) (here d) (tuple_of p) (levels-same 0 (mask_of p)))
 
   first-alike : (a s : Side) → Alike Same (check_first c a s) (check_first d a s)
   first-alike White White = moving-alike n

@@ -12,21 +12,21 @@ use Rattle.claim_plan.proofs.Findings.{first_one}
 use Rattle.claim_plan.proofs.KeptClaims.{kept_claim_won}
 use Rattle.claim_plan.proofs.CheckMeans.{none_fails, plan-checks}
 
-mean_of : (c : Claim) → IsClaim c → RulesMean c.position
-mean_of c is = mean c.position is.sound is.few
+mean_of : {c : Claim} → IsClaim c → RulesMean c.position
+mean_of is = mean is.sound is.few
 
 pub check_finds_first : CheckFindsFirst
 check_finds_first = λ c entries found is t.
-    plan-checks c is (mean_of c is) (some_point c.position is.sound) entries found t
+    plan-checks c is (mean_of is) (some_point is.sound) entries found t
 
 pub none_fails_where_won : NoneFailsWhereWon
-none_fails_where_won = λ c found is first. none_fails c is (mean_of c is) found first
+none_fails_where_won = λ c found is first. none_fails c is (mean_of is) found first
 
 pub one_is_first : OneIsFirst
 one_is_first = λ c a b h k. first_one (KeepsRule c) (rules_in_order c) a b h k
 
 pub kept_claim_is_won : KeptClaimIsWon
-kept_claim_is_won = λ c is kept value. kept_claim_won c is (mean_of c is) (some_point c.position is.sound) kept value
+kept_claim_is_won = λ c is kept value. kept_claim_won c is (mean_of is) (some_point is.sound) kept value
 
 pub ends_where_won : EndsWhereWon
 ends_where_won = λ c budget is. (

@@ -81,7 +81,7 @@ claimed_are_of_game = λ c is won. of_game c is won
 
 pub claimed_is_lost : ClaimedIsLost
 claimed_is_lost = λ c ply q is won h.
-    let losers = (claimed_there c is ply q h).0 in
+    let losers = (claimed_there c is h).0 in
     let left : moves_left (last_ply c.winner c.position.turn c.moves) ply ≡ losers.left = left_half_more (last_ply c.winner c.position.turn c.moves) ply losers.left losers.before in
     let At : ℕ → Type 0 = λ n. Lost c.winner n q in
     subst At (sym left) (claimed_lost c.winner c.position c.moves (IsClaimed c) (of_game c is won) won.positions losers.left ply losers.before q h)

@@ -72,19 +72,19 @@ module _ (c : Claim) (is : IsClaim c) (mean : RulesMean c.position) (some_point 
   -- with the winner to move no set is claimed at ply 0, and with no move none at ply 1
   not_started : c.position.turn ≡ c.winner → IsClaimed c 0 c.position → ⊥
   not_started turn h =
-      let losers = (claimed_there c is 0 p h).0 in
+      let losers = (claimed_there c is h).0 in
       let last = last_winner c.winner p.turn c.moves turn in
       omega (arith, last, losers.before)
 
   no_move : (q : Position) → c.position.turn ≡ c.winner → c.moves ≡ 0 → IsClaimed c 1 q → ⊥
   no_move q turn none h =
-      let losers = (claimed_there c is 1 q h).0 in
+      let losers = (claimed_there c is h).0 in
       let last = last_winner c.winner p.turn c.moves turn in
       omega (arith, last, losers.before, none)
 
-  not_moved : (q : Position) → c.position.turn ≡ other c.winner → IsClaimed c 1 q → ⊥
-  not_moved q turn h =
-      let losers = (claimed_there c is 1 q h).0 in
+  not_moved : {q : Position} → c.position.turn ≡ other c.winner → IsClaimed c 1 q → ⊥
+  not_moved turn h =
+      let losers = (claimed_there c is h).0 in
       let last = last_loser c.winner p.turn c.moves turn in
       omega (arith, last, losers.before)
 
@@ -99,11 +99,11 @@ module _ (c : Claim) (is : IsClaim c) (mean : RulesMean c.position) (some_point 
       let fits = subst Side_fits turn (mean.game.begins is.sound) in
       let Start : Position → Type 0 = λ q. q ≡ p in
       let stands =
-      pre-stands p mean c.winner 0 kind.First p point first (claimed_level c 1) xs Start (IsClaimed c 1) fits (λ h. is.sound)
+      pre-stands p mean 0 kind.First point first (claimed_level c 1) xs Start (IsClaimed c 1) fits (λ h. is.sound)
       (λ h. refl, λ h. source) (claimed_stands c is mean 1) t in (
         λ h.
             let pre = stands.0 h in
-            inl (turn, (pre.next, answer_moves c is mean apart safe 1 p pre.next pre.leads pre.step, pre.leads)),
+            inl (turn, (pre.next, answer_moves c is mean apart safe p pre.leads pre.step, pre.leads)),
         λ h. elim h [
           | inl (his, (q, moves, is_in)) ↦ stands.1 (record { is_in = refl; next = q; step = StepsTo-moves p q moves; leads = is_in })
           | inr (his, is_in) ↦ absurd (not_started turn is_in)
@@ -141,7 +141,7 @@ module _ (c : Claim) (is : IsClaim c) (mean : RulesMean c.position) (some_point 
       let fits = subst Side_fits turn (mean.game.begins is.sound) in
       let stands = claimed_stands c is mean 0 p fits in
       one-checks (KeepsRule c) (Member (claimed_level c 0 (mask_of p)) (tuple_of p)) f found
-      (λ h. inr (turn, stands.0 h), λ h. elim h [ inl (his, (q, moves, is_in)) ↦ absurd (not_moved q turn is_in) | inr (his, is_in) ↦ stands.1 is_in ])
+      (λ h. inr (turn, stands.0 h), λ h. elim h [ inl (his, (q, moves, is_in)) ↦ absurd (not_moved turn is_in) | inr (his, is_in) ↦ stands.1 is_in ])
       (has-told (claimed_level c 0 (mask_of p)) xs found t)
 
   first_at : (w s : Side) → c.winner ≡ w → c.position.turn ≡ s → Checks (KeepsRule c) (rule_at 0 (mask_of c.position) rule.First ∷ []) (check_first c w s)

@@ -28,8 +28,8 @@ module _ (winner : Side) (p : Position) (moves : ℕ) (sound : Sound p) where
   abbrev C : ℕ → Position → Type 0
   C = KeptByLoser winner p moves
 
-  kept_losing : (ply : ℕ) (q : Position) (h : KeptByLoser winner p moves ply q) → Reach p ply q × Lost winner h.losers.left q
-  kept_losing ply q h = (kept_lost winner p moves ply h.losers.left h.losers.before q).0 h.kept
+  kept_losing : {ply : ℕ} {q : Position} (h : KeptByLoser winner p moves ply q) → Reach p ply q × Lost winner h.losers.left q
+  kept_losing {ply} {q} h = (kept_lost winner p moves ply h.losers.left h.losers.before q).0 h.kept
 
   losing_kept : (ply left : ℕ) → ply + (2 * left + 1) ≡ last_ply winner p.turn moves → (q : Position) → Reach p ply q → Lost winner left q → KeptByLoser winner p moves ply q
   losing_kept ply left before q reached lost = record {
@@ -40,22 +40,22 @@ module _ (winner : Side) (p : Position) (moves : ℕ) (sound : Sound p) where
   pub kept_of_game : AreOfGame winner p moves (KeptByLoser winner p moves)
   kept_of_game = record {
     plies = λ ply q h. h.losers;
-    turn = λ ply q h. (kept_losing ply q h).1.0;
-    sound = λ ply q h. reached_sound p sound ply q (kept_losing ply q h).0;
+    turn = λ ply q h. (kept_losing h).1.0;
+    sound = λ ply q h. reached_sound p sound ply q (kept_losing h).0;
   }
 
   -- what is kept at the plies of the loser is won
   pub kept_won : Value winner moves p → IsWonBy winner p (KeptByLoser winner p moves)
   kept_won value = record {
-    same = λ ply q h. (reached_sound p sound ply q (kept_losing ply q h).0).apart;
+    same = λ ply q h. (reached_sound p sound ply q (kept_losing h).0).apart;
     guard = λ ply q h.
-        let (reached, lost) = kept_losing ply q h in
+        let (reached, lost) = kept_losing h in
         let his : other q.turn ≡ winner = ap other lost.0 ∙ other_other winner in
         let P : Side → Type 0 = λ s. InCheck q s → ⊥ in
         subst P his (reached_sound p sound ply q reached).other_safe;
     first = begun moves value refl;
-    left = λ ply q r h step. answered ply q r h.losers.left h.losers.before (kept_losing ply q h) step;
-    stale = λ ply q h. (lost_flat winner (Win winner h.losers.left) q (kept_losing ply q h).1).1;
+    left = λ ply q r h step. answered ply q r h.losers.left h.losers.before (kept_losing h) step;
+    stale = λ ply q h. (lost_flat winner (Win winner h.losers.left) q (kept_losing h).1).1;
   }
     where
       begun : (n : ℕ) → Value winner n p → n ≡ moves → IsBegun winner p (KeptByLoser winner p moves)
@@ -99,18 +99,18 @@ module _ (c : Claim) (is : IsClaim c) (mean : RulesMean c.position) (some_point 
   abbrev IsKept : ℕ → Position → Type 0
   IsKept ply q = Kept c.winner c.position c.moves ply q
 
-  turn_of : (ply : ℕ) (q : Position) (h : KeptByLoser c.winner c.position c.moves ply q) → q.turn ≡ other c.winner
-  turn_of ply q h = ((kept_lost c.winner c.position c.moves ply h.losers.left h.losers.before q).0 h.kept).1.0
+  turn_of : {ply : ℕ} {q : Position} (h : KeptByLoser c.winner c.position c.moves ply q) → q.turn ≡ other c.winner
+  turn_of {ply} {q} h = ((kept_lost c.winner c.position c.moves ply h.losers.left h.losers.before q).0 h.kept).1.0
 
-  from_set : (ply : ℕ) (q : Position) (o : Option Automaton) → claimed_at c ply (mask_of q) ≡ o → IsClaimed c ply q
+  from_set : {ply : ℕ} {q : Position} (o : Option Automaton) → claimed_at c ply (mask_of q) ≡ o → IsClaimed c ply q
       → IsSomeAnd o (λ a. IsAccepted a (tuple_of q)) → KeptByLoser c.winner c.position c.moves ply q
-  from_set ply q None e h there = absurd there
-  from_set ply q (Some a) e h there =
+  from_set None e h there = absurd there
+  from_set {ply} {q} (Some a) e h there =
       let losers = (is.only ply (mask_of q) a e).0 in
       let w = ((kept ply (mask_of q) a e).kept.same (tuple_of q)).0 there in
       let at_ply : KeptByLoser c.winner c.position c.moves ply w.position = record { losers = losers; kept = w.is_in } in
       let fits = fits_reached c.position is.sound is.few mean some_point ply w.position w.is_in.reached in
-      let one : w.position ≡ q = stock_unique c.position.men w.position q fits.stock h.stock (turn_of ply w.position at_ply ∙ sym h.turn) w.mask_is w.tuple_is in
+      let one : w.position ≡ q = stock_unique fits.stock h.stock (turn_of at_ply ∙ sym h.turn) w.mask_is w.tuple_is in
       subst (KeptByLoser c.winner c.position c.moves ply) one at_ply
 
   to_set : (ply : ℕ) (q : Position) (o : Option Automaton) → claimed_at c ply (mask_of q) ≡ o → (o ≡ None → ⊥) → IsKept ply q → IsSomeAnd o (λ a. IsAccepted a (tuple_of q))
@@ -122,8 +122,8 @@ module _ (c : Claim) (is : IsClaim c) (mean : RulesMean c.position) (some_point 
     λ h.
         let fits = fits_reached c.position is.sound is.few mean some_point ply q h.kept.reached in
         let game = mean.game.mask_is (turn_at c.position.turn ply) q fits in
-        record { stock = fits.stock; turn = turn_of ply q h; is_in = to_set ply q (claimed_at c ply (mask_of q)) refl (is.found ply (mask_of q) h.losers game) h.kept },
-    λ h. from_set ply q (claimed_at c ply (mask_of q)) refl h h.is_in,
+        record { stock = fits.stock; turn = turn_of h; is_in = to_set ply q (claimed_at c ply (mask_of q)) refl (is.found ply (mask_of q) h.losers game) h.kept },
+    λ h. from_set (claimed_at c ply (mask_of q)) refl h h.is_in,
   )
 
   pub kept_claim_won : Value c.winner c.moves c.position → Won c

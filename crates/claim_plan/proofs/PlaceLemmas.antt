@@ -35,5 +35,5 @@ plies_at White Black moves ply left e = even_ply moves ply left e
 plies_at Black White moves ply left e = even_ply moves ply left e
 
 -- each ply of the loser is among those that the plan goes through
-pub plies-have : (winner : Side) (p : Position) (moves ply : ℕ) → IsLosersPly winner p moves ply → Contains (losers_plies winner p.turn moves) ply
-plies-have winner p moves ply h = plies_at winner p.turn moves ply h.left h.before
+pub plies-have : {winner : Side} {p : Position} {moves ply : ℕ} → IsLosersPly winner p moves ply → Contains (losers_plies winner p.turn moves) ply
+plies-have {winner} {p} {moves} {ply} h = plies_at winner p.turn moves ply h.left h.before

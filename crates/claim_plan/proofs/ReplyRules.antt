@@ -39,11 +39,11 @@ module _ (c : Claim) (is : IsClaim c) (mean : RulesMean c.position) (apart : (pl
   abbrev loser : Side
   loser = other c.winner
 
-  fits_of : (ply : ℕ) (q : Position) → IsClaimed c ply q → Fits c.position (other c.winner) q
-  fits_of ply q h = claimed_fits c is ply q h (apart ply (mask_of q) q (record { claimed = h; mask_is = refl }))
+  fits_of : {ply : ℕ} {q : Position} → IsClaimed c ply q → Fits c.position (other c.winner) q
+  fits_of {ply} {q} h = claimed_fits c is h (apart ply (mask_of q) q (record { claimed = h; mask_is = refl }))
 
-  sound_of : (ply : ℕ) (q : Position) → IsClaimed c ply q → Sound q
-  sound_of ply q h = claimed_sound c is ply q h (apart ply (mask_of q) q (record { claimed = h; mask_is = refl })) (safe ply (mask_of q) q (record { claimed = h; mask_is = refl }))
+  sound_of : {ply : ℕ} {q : Position} → IsClaimed c ply q → Sound q
+  sound_of {ply} {q} h = claimed_sound c is h (apart ply (mask_of q) q (record { claimed = h; mask_is = refl })) (safe ply (mask_of q) q (record { claimed = h; mask_is = refl }))
 
   -- each tuple of a claimed set is that of a position that fits
   fitting : (ply m : ℕ) → HoldsFitting c.position (other c.winner) m (claimed_level c ply m)
@@ -53,31 +53,31 @@ module _ (c : Claim) (is : IsClaim c) (mean : RulesMean c.position) (apart : (pl
       let claimed = known.is_in in
       let mask = known.mask_is in
       let same = known.tuple_is in
-      (q, fits_of ply q claimed, mask, same)
+      (q, fits_of claimed, mask, same)
 
   -- what is reached by a reply from the claimed positions of a ply
   abbrev Replied : ℕ → Position → Type 0
   Replied ply = Safe (Image (IsClaimed c ply))
 
-  replied_from : (ply : ℕ) (r : Position) → Safe (Image (IsClaimed c ply)) r → (q : Position) × IsClaimed c ply q × Moves q r
-  replied_from ply r h = (h.is_in.from, h.is_in.is_in, Moves-safe h.is_in.from r h.is_in.step h.safe)
+  replied_from : (ply : ℕ) {r : Position} → Safe (Image (IsClaimed c ply)) r → (q : Position) × IsClaimed c ply q × Moves q r
+  replied_from ply {r} h = (h.is_in.from, h.is_in.is_in, Moves-safe h.is_in.from r h.is_in.step h.safe)
 
-  replied_to : (ply : ℕ) (q r : Position) → IsClaimed c ply q → Moves q r → Safe (Image (IsClaimed c ply)) r
-  replied_to ply q r h moves = record {
+  replied_to : {ply : ℕ} {q : Position} (r : Position) → IsClaimed c ply q → Moves q r → Safe (Image (IsClaimed c ply)) r
+  replied_to {q} r h moves = record {
     is_in = record { from = q; is_in = h; step = StepsTo-moves q r moves };
     safe = safe-moves q r moves;
   }
 
   -- a reply leads to a position that fits, with the winner to move
-  pub replied_fits : (ply : ℕ) (q r : Position) → IsClaimed c ply q → Moves q r → Fits c.position (other (other c.winner)) r
-  replied_fits ply q r h moves =
-      let fits = fits_of ply q h in
-      let (o, i, takes) = (mean.game.steps loser q r fits (sound_of ply q h)).0 (StepsTo-moves q r moves) in
+  pub replied_fits : {ply : ℕ} {q : Position} (r : Position) → IsClaimed c ply q → Moves q r → Fits c.position (other (other c.winner)) r
+  replied_fits {q} r h moves =
+      let fits = fits_of h in
+      let (o, i, takes) = (mean.game.steps loser q r fits (sound_of h)).0 (StepsTo-moves q r moves) in
       (mean.game.target loser o q r fits i takes).1
 
   -- a step of the winner into a claimed position is a move
-  pub answer_moves : (ply : ℕ) (r s : Position) → IsClaimed c ply s → StepsTo r s → Moves r s
-  answer_moves ply r s h step =
+  pub answer_moves : {ply : ℕ} (r : Position) {s : Position} → IsClaimed c ply s → StepsTo r s → Moves r s
+  answer_moves {ply} r {s} h step =
       let P : Side → Type 0 = λ t. InCheck s t → ⊥ in
       let his : other s.turn ≡ c.winner = ap other h.turn ∙ other_other c.winner in
       Moves-safe r s step (subst P (sym his) (safe ply (mask_of s) s (record { claimed = h; mask_is = refl })))
@@ -97,7 +97,7 @@ module _ (c : Claim) (is : IsClaim c) (mean : RulesMean c.position) (apart : (pl
         let Is : ℕ → SetOf → Type 0 = λ m s. (ys : Entries) × Takes (reach_of m) ys (Some s) in
         let (ys, made) = for_masks-level reach_of Is (masks_of p) (λ m i s zs h. (zs, h)) no_sets reached us reaches (mask_of r) (inr (in_masks p mean (other loser) r fits)) in
         reach_set-stands p mean loser (suc ply) (claimed_level c ply) (reached (mask_of r)) ys (IsClaimed c ply) r (fitting ply)
-        (claimed_stands c is mean ply) (λ q h. (fits_of ply q h, sound_of ply q h)) fits made
+        (claimed_stands c is mean ply) (λ q h. (fits_of h, sound_of h)) fits made
 
     reached_fitting : (m : ℕ) → HoldsFitting c.position (other (other c.winner)) m (reached m)
     reached_fitting m =
@@ -108,21 +108,21 @@ module _ (c : Claim) (is : IsClaim c) (mean : RulesMean c.position) (apart : (pl
     -- a reply leads to a sound position
     replied_sound : (r : Position) → Safe (Image (IsClaimed c ply)) r → Sound r
     replied_sound r h =
-        let (q, claimed, moves) = replied_from ply r h in
-        let fits = replied_fits ply q r claimed moves in
+        let (q, claimed, moves) = replied_from ply h in
+        let fits = replied_fits r claimed moves in
         record { kings = fits.kings; apart = fits.apart; other_safe = h.safe }
 
     -- left
-    left_means : (m : ℕ) (answer : SetOf) (vs : Entries) → IsGameMask c.position m
+    left_means : {m : ℕ} (answer : SetOf) (vs : Entries) → IsGameMask c.position m
         → Takes
         (union (rules_of c.position) (suc ply) m kind.Answer
         (pre_items (rules_of c.position) (other (other c.winner)) m (reached m) (claimed_level c (ply + 2))))
         vs (Some answer)
         → ((tuple : List ℤ) → Member (reached m) tuple → Member answer tuple) ↔ RuleHolds c rule.Left (suc ply) m
-    left_means m answer vs game t =
+    left_means {m} answer vs game t =
         let Into : ℕ → Type 0 = λ k. Takes (union rules (suc ply) k kind.Answer (pre_items rules (other loser) k (reached k) (claimed_level c (ply + 2)))) vs (Some answer) in
         let stands = λ (r : Position) (fits : Fits p (other loser) r) (e : mask_of r ≡ m).
-        pre-stands p mean (other loser) (suc ply) kind.Answer r (reached (mask_of r)) answer (claimed_level c (ply + 2)) vs
+        pre-stands p mean {side = other loser} (suc ply) kind.Answer {q = r} (reached (mask_of r)) answer (claimed_level c (ply + 2)) vs
         (Safe (Image (IsClaimed c ply))) (IsClaimed c (ply + 2)) fits (replied_sound r) (reached_stands r fits) (claimed_later (ply + 2))
         (subst Into (sym e) t) in
         let two : ply + 2 ≡ suc (suc ply) = omega arith in
@@ -131,18 +131,18 @@ module _ (c : Claim) (is : IsClaim c) (mean : RulesMean c.position) (apart : (pl
               let one = w.next in
               let same : ply ≡ w.before = omega (arith, one) in
               let claimed : IsClaimed c ply w.from = let P : ℕ → Type 0 = λ k. IsClaimed c k w.from in subst P (sym same) w.claimed in
-              let fits = replied_fits ply w.from r claimed w.moves in
+              let fits = replied_fits r claimed w.moves in
               let In : ℕ → Type 0 = λ k. Member (reached k) (tuple_of r) in
-              let member = subst In w.mask_is ((reached_stands r fits).1 (replied_to ply w.from r claimed w.moves)) in
+              let member = subst In w.mask_is ((reached_stands r fits).1 (replied_to r claimed w.moves)) in
               let pre = (stands r fits w.mask_is).0 (within (tuple_of r) member) in
               let P : ℕ → Type 0 = λ k. IsClaimed c k pre.next in
-              (pre.next, answer_moves (ply + 2) r pre.next pre.leads pre.step, subst P two pre.leads),
+              (pre.next, answer_moves r pre.leads pre.step, subst P two pre.leads),
           λ says tuple h.
               let (r, fits, mask, is_tuple) = reached_fitting m tuple h in
               let In : ℕ → Type 0 = λ k. Member (reached k) (tuple_of r) in
               let here : Member (reached m) (tuple_of r) = subst (Member (reached m)) (sym is_tuple) h in
               let replied = (reached_stands r fits).0 (subst In (sym mask) here) in
-              let (q, claimed, moves) = replied_from ply r replied in
+              let (q, claimed, moves) = replied_from ply replied in
               let (s, next, there) = says r (record { before = ply; next = refl; from = q; claimed = claimed; moves = moves; mask_is = mask }) in
               let P : ℕ → Type 0 = λ k. IsClaimed c k s in
               let member = (stands r fits mask).1 (record { is_in = replied; next = s; step = StepsTo-moves r s next; leads = subst P (sym two) there }) in
@@ -161,7 +161,7 @@ module _ (c : Claim) (is : IsClaim c) (mean : RulesMean c.position) (apart : (pl
         Takes-split (union rules (suc ply) m kind.Answer (pre_items rules (other loser) m (reached m) (claimed_level c (ply + 2))))
         (λ answer. is_within (mask_tracks p m) part (reached m) answer) xs b t in
         tells-same ((tuple : List ℤ) → Member (reached m) tuple → Member answer tuple) (KeepsRule c r) b
-        (left_means m answer us (game_mask p mean m i) first)
+        (left_means answer us (game_mask p mean m i) first)
         (is_within-tells (mask_tracks p m) part (reached m) answer vs b rest))
 
     -- stale
@@ -172,35 +172,35 @@ module _ (c : Claim) (is : IsClaim c) (mean : RulesMean c.position) (apart : (pl
       abbrev Quietly : Position → Type 0
       Quietly = Without (IsClaimed c ply) (Checked (IsClaimed c ply))
 
-      check_at : (q : Position) → Fits c.position (other c.winner) q → mask_of q ≡ m → Member check (tuple_of q) ↔ Checked (IsClaimed c ply) q
-      check_at q fits e =
+      check_at : {q : Position} → Fits c.position (other c.winner) q → mask_of q ≡ m → Member check (tuple_of q) ↔ Checked (IsClaimed c ply) q
+      check_at {q} fits e =
           let Into : ℕ → Type 0 = λ k. Takes (union rules ply k kind.Check (bear_items rules (other loser) k (claimed_level c ply k))) es (Some check) in
-          check-stands p mean loser ply q (claimed_level c ply (mask_of q)) check es (IsClaimed c ply) fits (claimed_stands c is mean ply q fits) (subst Into (sym e) checks)
+          check-stands p mean ply (claimed_level c ply (mask_of q)) check es (IsClaimed c ply) fits (claimed_stands c is mean ply q fits) (subst Into (sym e) checks)
 
-      quiet_at : (q : Position) → Fits c.position (other c.winner) q → mask_of q ≡ m → Member quiet (tuple_of q) ↔ Without (IsClaimed c ply) (Checked (IsClaimed c ply)) q
-      quiet_at q fits e =
+      quiet_at : {q : Position} → Fits c.position (other c.winner) q → mask_of q ≡ m → Member quiet (tuple_of q) ↔ Without (IsClaimed c ply) (Checked (IsClaimed c ply)) q
+      quiet_at {q} fits e =
           let Into : ℕ → Type 0 = λ k. Takes (difference rules ply k kind.Quiet (claimed_level c ply k) check) bs (Some quiet) in
           difference-stands p mean ply kind.Quiet q (claimed_level c ply (mask_of q)) check quiet bs (IsClaimed c ply) (Checked (IsClaimed c ply))
-          (claimed_over c is mean ply (mask_of q)) (claimed_stands c is mean ply q fits) (check_at q fits e) (subst Into (sym e) quiets)
+          (claimed_over c is mean ply (mask_of q)) (claimed_stands c is mean ply q fits) (check_at fits e) (subst Into (sym e) quiets)
 
-      reply_at : (q : Position) → Fits c.position (other c.winner) q → mask_of q ≡ m
+      reply_at : {q : Position} → Fits c.position (other c.winner) q → mask_of q ≡ m
           → Member reply (tuple_of q) ↔ Pre (Without (IsClaimed c ply) (Checked (IsClaimed c ply))) (Safe (Image (IsClaimed c ply))) q
-      reply_at q fits e =
+      reply_at fits e =
           let Into : ℕ → Type 0 = λ k. Takes (union rules ply k kind.Reply (pre_items rules loser k quiet reached)) cs (Some reply) in
-          pre-stands p mean loser ply kind.Reply q quiet reply reached cs Quietly (Safe (Image (IsClaimed c ply))) fits (λ h. sound_of ply q h.is_in)
-          (quiet_at q fits e) reached_stands (subst Into (sym e) replies)
+          pre-stands p mean ply kind.Reply quiet reply reached cs Quietly (Safe (Image (IsClaimed c ply))) fits (λ h. sound_of h.is_in)
+          (quiet_at fits e) reached_stands (subst Into (sym e) replies)
 
       stale_means : ((tuple : List ℤ) → Member quiet tuple → Member reply tuple) ↔ RuleHolds c rule.Stale ply m
       stale_means = (
         λ within q w.
             let h = w.claimed in
             let e = w.mask_is in
-            let fits = fits_of ply q h in
+            let fits = fits_of h in
             elim (in_check q q.turn) [
               | inl check ↦ inl check
               | inr none ↦
-                  let member = (quiet_at q fits e).1 (record { is_in = h; not_in = λ k. none k.check }) in
-                  let pre = (reply_at q fits e).0 (within (tuple_of q) member) in
+                  let member = (quiet_at fits e).1 (record { is_in = h; not_in = λ k. none k.check }) in
+                  let pre = (reply_at fits e).0 (within (tuple_of q) member) in
                   let (i, z, legal) = Moves-safe q pre.next pre.step pre.leads.safe in
                   inr (i, z, pre.next, legal)
             ],
@@ -211,13 +211,13 @@ module _ (c : Claim) (is : IsClaim c) (mean : RulesMean c.position) (apart : (pl
             let claimed = known.is_in in
             let mask = known.mask_is in
             let is_tuple = known.tuple_is in
-            let fits = fits_of ply q claimed in
-            let quietly = (quiet_at q fits mask).0 (subst (Member quiet) (sym is_tuple) h) in
+            let fits = fits_of claimed in
+            let quietly = (quiet_at fits mask).0 (subst (Member quiet) (sym is_tuple) h) in
             elim (says q (record { claimed = claimed; mask_is = mask })) [
               | inl check ↦ absurd (quietly.not_in (record { is_in = claimed; check = check }))
               | inr (i, z, r, legal) ↦
                   let moves : Moves q r = (i, z, legal) in
-                  subst (Member reply) is_tuple ((reply_at q fits mask).1 (record { is_in = quietly; next = r; step = StepsTo-moves q r moves; leads = replied_to ply q r claimed moves }))
+                  subst (Member reply) is_tuple ((reply_at fits mask).1 (record { is_in = quietly; next = r; step = StepsTo-moves q r moves; leads = replied_to r claimed moves }))
             ],
       )
 

@@ -64,12 +64,12 @@ module _ (p : Position) (w : Side) (n : ℕ) (xs ys : List ClaimedSet) (same : (
   pub end_along : (budget : ℕ) (found : Finding) → Ends (check_plan (record { position = p; winner = w; moves = n; sets = xs })) budget found
       → Ends (check_plan (record { position = p; winner = w; moves = n; sets = ys })) budget found
   end_along budget found h =
-      let (other_one, ends, is) = Ends-alike Same (check_plan c) (check_plan d) budget found (check_plan-alike p w n xs ys same) h in
+      let (other_one, ends, is) = Ends-alike Same (check_plan d) (check_plan-alike p w n xs ys same) h in
       subst (λ (o : Finding). Ends (check_plan d) budget o) (sym is) ends
 
   pub stop_along : (budget : ℕ) (x : StepName PartName) → Stops (check_plan (record { position = p; winner = w; moves = n; sets = xs })) budget x
       → Stops (check_plan (record { position = p; winner = w; moves = n; sets = ys })) budget x
-  stop_along budget x h = Stops-alike Same (check_plan c) (check_plan d) budget x (check_plan-alike p w n xs ys same) h
+  stop_along budget x h = Stops-alike Same (check_plan d) (check_plan-alike p w n xs ys same) h
 
   module _
       (positions : (ply : ℕ) (q : Position)
@@ -79,7 +79,7 @@ module _ (p : Position) (w : Side) (n : ℕ) (xs ys : List ClaimedSet) (same : (
     won_along h = record {
       sign = λ ply mask b e.
           let (a, there, sets) = some_there (claimed_in xs ply mask) (claimed_in ys ply mask) b (same ply mask) e in
-          (decides-same a b sets).0 (h.sign ply mask a there);
+          (decides-same sets).0 (h.sign ply mask a there);
       positions = won_same w p (IsClaimed c) (IsClaimed d) positions h.positions;
     }
 

@@ -92,10 +92,10 @@ module _ (c : Claim) (is : IsClaim c) (mean : RulesMean c.position) where
   abbrev tree_at : ℕ → Pair → Tree
   tree_at m w = twins_tree 8 m w.first w.second 0
 
-  any_twins : (ply m : ℕ) (game : IsGameMask c.position m) (i j : ℕ) (a b : Man) (z : Square) (q : Position) → IsClaimed c ply q → mask_of q ≡ m
+  any_twins : {ply m : ℕ} (game : IsGameMask c.position m) (i j : ℕ) (a b : Man) (z : Square) {q : Position} → IsClaimed c ply q → mask_of q ≡ m
       → i < j → man_at q i ≡ Some a → man_at q j ≡ Some b → StandsOn a z → StandsOn b z
       → AnyItem (map (twin_item (claimed_level c ply m)) (twins_of c.position m 0)) (tuple_of q)
-  any_twins ply m game i j a b z q h e less is_a is_b on_a on_b =
+  any_twins {ply} {m} game i j a b z {q} h e less is_a is_b on_a on_b =
       let w : Pair = record { first = i; second = j } in
       let (low_i, high_i) = numbered_low q i a is_a in
       let (low_j, high_j) = numbered_low q j b is_b in
@@ -108,13 +108,13 @@ module _ (c : Claim) (is : IsClaim c) (mean : RulesMean c.position) where
       let in_trees = (contains_map (tree_at m) (pairs_of c.position.men m) (tree_at m w)).1 (w, in_pairs, refl) in
       (any-map (twin_item (claimed_level c ply m)) (twins_of c.position m 0) (tuple_of q)).1 (tree_at m w, in_trees, member)
 
-  same_means : (ply m : ℕ) → IsGameMask c.position m → NoItem (map (twin_item (claimed_level c ply m)) (twins_of c.position m 0)) ↔ RuleHolds c rule.Same ply m
-  same_means ply m game = (
+  same_means : (ply : ℕ) {m : ℕ} → IsGameMask c.position m → NoItem (map (twin_item (claimed_level c ply m)) (twins_of c.position m 0)) ↔ RuleHolds c rule.Same ply m
+  same_means ply {m} game = (
     λ none q w i j a b z is_a is_b on_a on_b.
         elim (cases_order i j) [
           | inl same ↦ same
-          | inr (inl less) ↦ absurd (none (tuple_of q) (any_twins ply m game i j a b z q w.claimed w.mask_is less is_a is_b on_a on_b))
-          | inr (inr more) ↦ absurd (none (tuple_of q) (any_twins ply m game j i b a z q w.claimed w.mask_is more is_b is_a on_b on_a))
+          | inr (inl less) ↦ absurd (none (tuple_of q) (any_twins game i j a b z w.claimed w.mask_is less is_a is_b on_a on_b))
+          | inr (inr more) ↦ absurd (none (tuple_of q) (any_twins game j i b a z w.claimed w.mask_is more is_b is_a on_b on_a))
         ],
     λ says tuple h.
         let (f, in_trees, member) = (any-map (twin_item (claimed_level c ply m)) (twins_of c.position m 0) tuple).0 h in
@@ -137,16 +137,16 @@ module _ (c : Claim) (is : IsClaim c) (mean : RulesMean c.position) where
   )
 
   -- guard
-  guard_means : (ply m : ℕ) → IsGameMask c.position m → RuleHolds c rule.Same ply m
+  guard_means : (ply : ℕ) {m : ℕ} → IsGameMask c.position m → RuleHolds c rule.Same ply m
       → NoItem (bear_items (rules_of c.position) (other c.winner) m (claimed_level c ply m)) ↔ RuleHolds c rule.Guard ply m
-  guard_means ply m game apart =
+  guard_means ply {m} game apart =
       let s : SetOf = claimed_level c ply m in
       let any = λ (tuple : List ℤ). any-map (bear_item (rules_of c.position) m s) (bearings_of c.position.men m (other c.winner)) tuple in
       let there : ℕ → Bearing → Type 0 = λ k b. Contains (bearings_of c.position.men k (other c.winner)) b in
       let checks = λ (q : Position) (fits : Fits c.position (other c.winner) q). mean.game.checks (other c.winner) (other c.winner) q fits in
       let turned : Position → Side → Type 0 = λ q t. InCheck q t in (
         λ none q w check.
-            let fits = claimed_fits c is ply q w.claimed (apart q w) in
+            let fits = claimed_fits c is w.claimed (apart q w) in
             let (b, i, bears) = (checks q fits).0 (subst (turned q) (sym (other_other c.winner)) check) in
             let in_m = subst (λ k. there k b) w.mask_is i in
             let member = ((mean.bearings m (other c.winner) b game in_m).bear 0 (λ _. s) (other c.winner) q fits w.mask_is).1 (claimed_member c is ply m q w.claimed w.mask_is, bears) in
@@ -161,7 +161,7 @@ module _ (c : Claim) (is : IsClaim c) (mean : RulesMean c.position) where
             let mask = known.mask_is in
             let is_tuple = known.tuple_is in
             let w : IsClaimedWith c ply m q = record { claimed = claimed; mask_is = mask } in
-            let fits = claimed_fits c is ply q claimed (apart q w) in
+            let fits = claimed_fits c is claimed (apart q w) in
             let At : List ℤ → Type 0 = λ u. IsOf (bear_item (rules_of c.position) m s b) u in
             let bears = ((means.bear 0 (λ _. s) (other c.winner) q fits mask).0 (subst At (sym is_tuple) member)).1 in
             let i = subst (λ k. there k b) (sym mask) in_m in
@@ -169,8 +169,8 @@ module _ (c : Claim) (is : IsClaim c) (mean : RulesMean c.position) where
       )
 
   -- the rules of one claimed set
-  pub claimed-checks : (ply m : ℕ) → IsGameMask c.position m → Checks (KeepsRule c) (rule_at ply m rule.Sign ∷ rule_at ply m rule.Same ∷ rule_at ply m rule.Guard ∷ []) (check_set c ply m)
-  claimed-checks ply m game =
+  pub claimed-checks : (ply : ℕ) {m : ℕ} → IsGameMask c.position m → Checks (KeepsRule c) (rule_at ply m rule.Sign ∷ rule_at ply m rule.Same ∷ rule_at ply m rule.Guard ∷ []) (check_set c ply m)
+  claimed-checks ply {m} game =
       let H = KeepsRule c in
       let sign = rule_at ply m rule.Sign in
       let same = rule_at ply m rule.Same in
@@ -184,6 +184,6 @@ module _ (c : Claim) (is : IsClaim c) (mean : RulesMean c.position) where
       and_then-checks H (sign ∷ []) (same ∷ guard ∷ []) (check_sign ply m (claimed_at c ply m)) (and_then apart safe)
       (sign-checks c is mean ply m (claimed_at c ply m) refl)
       (λ signed. and_then-checks H (same ∷ []) (guard ∷ []) apart safe
-      (λ xs found t. one-checks H (NoItem twins) same found (same_means ply m game) (holds_by-told (NoItem twins) same no_twins (are_empty-tells (name ply m kind.Same) twins 1) xs found t))
-      (λ all xs found t. one-checks H (NoItem bears) guard found (guard_means ply m game all.0)
+      (λ xs found t. one-checks H (NoItem twins) same found (same_means ply game) (holds_by-told (NoItem twins) same no_twins (are_empty-tells (name ply m kind.Same) twins 1) xs found t))
+      (λ all xs found t. one-checks H (NoItem bears) guard found (guard_means ply game all.0)
       (holds_by-told (NoItem bears) guard no_bears (are_empty-tells (name ply m kind.Guard) bears 1) xs found t)))

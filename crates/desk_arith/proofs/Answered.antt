@@ -64,8 +64,8 @@ module _ (f : Tree) where
   holds_of : (truth : Truth) → IsTruth f truth → SaysTrue (truth_line truth) ↔ IsTrueFormula f
   holds_of truths.False h = (λ says. absurd (says_false says), λ holds. absurd (h holds))
   holds_of truths.True h = (λ says. h.0, λ holds. inl refl)
-  holds_of (truths.Witness w) (x, g, asks, near, within) = (λ says. asked_holds f x g w asks near.holds, λ holds. inr (inr (w, refl)))
-  holds_of truths.WitnessWide (x, g, asks, wide) = (λ says. asked_holds f x g wide.some.0 asks wide.some.1, λ holds. inr (inl refl))
+  holds_of (truths.Witness w) (x, g, asks, near, within) = (λ says. asked_holds w asks near.holds, λ holds. inr (inr (w, refl)))
+  holds_of truths.WitnessWide (x, g, asks, wide) = (λ says. asked_holds wide.some.0 asks wide.some.1, λ holds. inr (inl refl))
 
   true_fails : (truth : Truth) → SaysTrue (truth_line truth) → IsTrueFormula f → (truth_line truth ≡ codes "false\n") ↔ (¬ IsTrueFormula f)
   true_fails truth says holds = (λ e. absurd (not_false (truth_line truth) says e), λ fails. absurd (fails holds))
@@ -73,8 +73,8 @@ module _ (f : Tree) where
   fails_of : (truth : Truth) → IsTruth f truth → (truth_line truth ≡ codes "false\n") ↔ (¬ IsTrueFormula f)
   fails_of truths.False h = (λ e. h, λ fails. refl)
   fails_of truths.True h = true_fails truths.True (inl refl) h.0
-  fails_of (truths.Witness w) (x, g, asks, near, within) = true_fails (truths.Witness w) (inr (inr (w, refl))) (asked_holds f x g w asks near.holds)
-  fails_of truths.WitnessWide (x, g, asks, wide) = true_fails truths.WitnessWide (inr (inl refl)) (asked_holds f x g wide.some.0 asks wide.some.1)
+  fails_of (truths.Witness w) (x, g, asks, near, within) = true_fails (truths.Witness w) (inr (inr (w, refl))) (asked_holds w asks near.holds)
+  fails_of truths.WitnessWide (x, g, asks, wide) = true_fails truths.WitnessWide (inr (inl refl)) (asked_holds wide.some.0 asks wide.some.1)
 
   -- a number that is written is the one asked for
   written : (truth : Truth) → IsTruth f truth → (w : ℤ) → unsigned_abs w ≤ 2 ^ 64 → truth_line truth ≡ witness_line w → IsAskedFor f w

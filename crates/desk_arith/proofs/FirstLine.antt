@@ -38,8 +38,8 @@ module _ (budget : ℕ) (files : Files) where
   due_so_far line zero below = due_first
   due_so_far line (suc k) below = absurd (omega (arith, below))
 
-  one_taken : (bytes line pending : List ℕ) → IsLine line → bytes ≡ line ++ 10 ∷ pending → length pending ≤ 256 → TakesLines (IsDueBy Says) bytes pending
-  one_taken bytes line pending is_line is' few = record {
+  one_taken : (bytes : List ℕ) {line : List ℕ} (pending : List ℕ) → IsLine line → bytes ≡ line ++ 10 ∷ pending → length pending ≤ 256 → TakesLines (IsDueBy Says) bytes pending
+  one_taken bytes {line} pending is_line is' few = record {
     lines = line ∷ [];
     are_lines = All-push IsLine [] line (All-nil IsLine) is_line;
     due = due_so_far line;
@@ -73,7 +73,7 @@ module _ (budget : ℕ) (files : Files) where
           rest = rest;
           taken = took.taken;
           left = known_rest after;
-          takes = one_taken took.bytes line pending is_line took.keeps few;
+          takes = one_taken took.bytes pending is_line took.keeps few;
           ends =
               ends_as status reports (Says (lines_of (reported_on status took.bytes rest))) (Unit {0}) (IsBehindLine took.bytes) NeverMisses NeverMisses old new
               (λ report right. subst (λ (lines : Lines). Says lines report) (sym same) right)

@@ -44,8 +44,8 @@ use Rattle.desk_text.proofs.TextSteps.{known_rest}
 use Rattle.desk_report.proofs.Writing.{at_files, at_sink, ends_as, go_same}
 
 -- two claims that are the same as a third are the same
-same_set_between : (a b d : Automaton) → IsSameSet a b → IsSameSet a d → IsSameSet b d
-same_set_between a b d x y = record {
+same_set_between : {a b d : Automaton} → IsSameSet a b → IsSameSet a d → IsSameSet b d
+same_set_between x y = record {
   tracks = sym x.tracks ∙ y.tracks;
   words = record {
     same = λ word is'.
@@ -62,10 +62,10 @@ same_sets_between None None (Some d) x y = absurd y
 same_sets_between None (Some b) d x y = absurd x
 same_sets_between (Some a) None d x y = absurd x
 same_sets_between (Some a) (Some b) None x y = absurd y
-same_sets_between (Some a) (Some b) (Some d) x y = same_set_between a b d x y
+same_sets_between (Some a) (Some b) (Some d) x y = same_set_between x y
 
-same_between : (a b d : Claim) → IsSameClaim a b → IsSameClaim a d → IsSameClaim b d
-same_between a b d x y = record {
+same_between : {a b d : Claim} → IsSameClaim a b → IsSameClaim a d → IsSameClaim b d
+same_between {a} {b} {d} x y = record {
   position = sym x.position ∙ y.position;
   winner = sym x.winner ∙ y.winner;
   moves = sym x.moves ∙ y.moves;
@@ -77,12 +77,12 @@ module _ (reports : Claim → Report → Type 0) (budget : ℕ) (name : List ℕ
   of_bytes : (report : Report) (found : Option (List ℕ)) → files_map.get files name ≡ found → OfFound reports budget files found report → OfFile reports budget name files report
   of_bytes report found is right = let P : Option (List ℕ) → Type 0 = λ o. OfFound reports budget files o report in subst P (sym is) right
 
-  of_outcome : (report : Report) (outcome : Result Charts Refusal) → IsReadAs name files outcome → OfOutcome reports budget files outcome report → OfFile reports budget name files report
-  of_outcome report outcome r right = of_bytes report (Some r.bytes) r.found (inr (r.short, (outcome, r.file, right)))
+  of_outcome : (report : Report) {outcome : Result Charts Refusal} → IsReadAs name files outcome → OfOutcome reports budget files outcome report → OfFile reports budget name files report
+  of_outcome report {outcome} r right = of_bytes report (Some r.bytes) r.found (inr (r.short, (outcome, r.file, right)))
 
   -- of a claim that keeps all rules
-  pub of_claim : (s : Solution) (report : Report) (h : HasFileClaim budget name files s) → reports (claim_with h.charts) report → OfFile reports budget name files report
-  of_claim s report h right = of_outcome report (Ok h.charts) h.read (inr (inr (h.keeps_rules, right)))
+  pub of_claim : {s : Solution} (report : Report) (h : HasFileClaim budget name files s) → reports (claim_with h.charts) report → OfFile reports budget name files report
+  of_claim report h right = of_outcome report h.read (inr (inr (h.keeps_rules, right)))
 
   -- where there is none, the run ends with the reason
   pub refused_ends : (why : NoClaim) (may_lack : Type 0) (old new : Seen) → LacksClaim budget name files why → may_lack
@@ -98,19 +98,19 @@ module _ (reports : Claim → Report → Type 0) (budget : ℕ) (name : List ℕ
   refused_ends TooLong may_lack old new (bytes, found, long) lack kept same failed wrote =
       (_, of_bytes _ (Some bytes) found (inl (long, refl)), record { reported = refl; written = wrote; files = go_same files (λ before after. after ≡ files) old.files new.files same kept refl })
   refused_ends (Cut at) may_lack old new r lack kept same failed wrote =
-      (_, of_outcome _ (Err (layout.Cut at)) r refl, record { reported = refl; written = wrote; files = go_same files (λ before after. after ≡ files) old.files new.files same kept refl })
+      (_, of_outcome _ r refl, record { reported = refl; written = wrote; files = go_same files (λ before after. after ≡ files) old.files new.files same kept refl })
   refused_ends (Byte at why) may_lack old new r lack kept same failed wrote =
-      (_, of_outcome _ (Err (layout.Byte at why)) r refl, record { reported = refl; written = wrote; files = go_same files (λ before after. after ≡ files) old.files new.files same kept refl })
+      (_, of_outcome _ r refl, record { reported = refl; written = wrote; files = go_same files (λ before after. after ≡ files) old.files new.files same kept refl })
   refused_ends (Extra at) may_lack old new r lack kept same failed wrote =
-      (_, of_outcome _ (Err (layout.Extra at)) r refl, record { reported = refl; written = wrote; files = go_same files (λ before after. after ≡ files) old.files new.files same kept refl })
+      (_, of_outcome _ r refl, record { reported = refl; written = wrote; files = go_same files (λ before after. after ≡ files) old.files new.files same kept refl })
   refused_ends (NotKept rule) may_lack old new (charts, r, finds) lack kept same failed wrote = (
     _,
-    of_outcome _ (Ok charts) r (inl (rule, finds, refl)),
+    of_outcome _ r (inl (rule, finds, refl)),
     record { reported = refl; written = wrote; files = go_same files (λ before after. after ≡ files) old.files new.files same kept refl },
   )
   refused_ends (Over step) may_lack old new (charts, r, over) lack kept same failed wrote = (
     _,
-    of_outcome _ (Ok charts) r (inr (inl (step, over, refl))),
+    of_outcome _ r (inr (inl (step, over, refl))),
     record { reported = refl; written = wrote; files = go_same files (λ before after. after ≡ files) old.files new.files same kept refl },
   )
 
@@ -172,7 +172,7 @@ module _ (budget : ℕ) (name : List ℕ) (files : Files) where
         is_claim = alike.claims.0 (files_are_claims c has_file);
         keeps_rules = (alike.ends budget None).0 keeps;
         origin = is_checked.origin;
-        same = same_between c told (claim_of s) (read_is_same c) is_checked.same;
+        same = same_between (read_is_same c) is_checked.same;
       }
 
       pub checks : (r : Result Solution NoClaim) → TellsChecked c budget r → Fetches budget name files r
@@ -213,14 +213,14 @@ module _ (budget : ℕ) (name : List ℕ) (files : Files) (s : Solution) (h : Ha
       (report_by c played, subst P start other, is')
 
   says_game : (lines : Lines) (report : Report) → GameReports lines files (claim_of s) report → ResumeReports budget lines name files report
-  says_game lines report right = of_claim (GameReports lines files) budget name files s report h (same_game lines report right)
+  says_game lines report right = of_claim (GameReports lines files) budget name files report h (same_game lines report right)
 
   -- so `resume` ends as the game does
-  pub game_resumes : (status : Status) (pending : List ℕ) (old new : Seen) → IfSome old.files (λ told. told ≡ files) → Go old.files new.files (λ before after. after ≡ before)
+  pub game_resumes : {status : Status} {pending : List ℕ} (old new : Seen) → IfSome old.files (λ told. told ≡ files) → Go old.files new.files (λ before after. after ≡ before)
       → EndsByLines (λ lines. GameReports lines files (claim_of s)) LacksBefore (λ bytes. NeverMisses) status [] pending
       (of_streams files old.left old.written old.read_faults old.write_faults) (of_streams files new.left new.written new.read_faults new.write_faults)
       → ResumeEnds budget name files status pending old new
-  game_resumes status pending old new kept same p =
+  game_resumes {status} old new kept same p =
       let on = lines_of (reported_on status p.bytes p.rest) in
       record {
         bytes = p.bytes;
@@ -241,16 +241,16 @@ module _ (budget : ℕ) (name : List ℕ) (files : Files) (s : Solution) (h : Ha
       }
 
 -- `check` ends as its line is printed
-pub line_checks : (budget : ℕ) (name : List ℕ) (files : Files) (s : Solution) → HasFileClaim budget name files s
+pub line_checks : {budget : ℕ} {name : List ℕ} {files : Files} {s : Solution} → HasFileClaim budget name files s
     → (status : Status) (text : List ℕ) (old new : Seen) → text ≡ mate_line s.moves
     → IfSome old.files (λ told. told ≡ files) → Go old.files new.files (λ before after. after ≡ before)
     → Ends status (λ report. report ≡ done_with files text) ⊥ NeverMisses (of_sink files old.written old.write_faults) (of_sink files new.written new.write_faults)
     → Ends status (CheckReports budget name files) (Unit {0}) (MissesFetch []) old new
-line_checks budget name files s h status text old new line kept same ends =
+line_checks {budget} {name} {files} {s} h status text old new line kept same ends =
     let says : Claim → Report → Type 0 = λ c report. report ≡ done_with files (mate_line c.moves) in
     let moves : s.moves ≡ h.charts.moves = sym h.same.moves in
     ends_as status (λ report. report ≡ done_with files text) (CheckReports budget name files) ⊥ (Unit {0}) NeverMisses (MissesFetch []) old new
-    (λ report is'. of_claim says budget name files s report h (is' ∙ ap (done_with files) (line ∙ ap mate_line moves)))
+    (λ report is'. of_claim says budget name files report h (is' ∙ ap (done_with files) (line ∙ ap mate_line moves)))
     (λ none. absurd none) (λ keeping never. absurd never)
     (at_sink files old new kept same status (λ report. report ≡ done_with files text) ⊥ ends)
 

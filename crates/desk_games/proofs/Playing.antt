@@ -36,9 +36,9 @@ use Rattle.desk_text.proofs.TextSteps.{known_rest}
 use Rattle.desk_report.proofs.Writing.{at_sink, ends_as}
 
 -- a text, and a fault line behind it
-then_line : (text line : List ℕ) (before between after : Option (List ℕ)) (failed also : Type 0) → Appends before between text → (failed → also)
+then_line : (text : List ℕ) {line : List ℕ} (before : Option (List ℕ)) {between after : Option (List ℕ)} {failed : Type 0} (also : Type 0) → Appends before between text → (failed → also)
     → Writes [] line between after failed → Writes text line before after also
-then_line text line before between after failed also wrote more writes = record {
+then_line text {line} before {between} {after} {failed} also wrote more writes = record {
   count = writes.count;
   front = Appends-trans before between after text (take writes.count line) wrote writes.front;
   whole = either writes.whole;
@@ -74,9 +74,9 @@ seen_claimed s f g by is = ap seen is ∙ (λ i. record {
 })
 
 -- so it is the game that was played
-pub same_played : (number : ℕ) (answer : Result Ending GameError) (g first after : Match) (old new : Ports) → g ≡ first
+pub same_played : (number : ℕ) (answer : Result Ending GameError) (g first after : Match) {old new : Ports} → g ≡ first
     → IsPlayed answer number g after old new → IsPlayed answer number first after old new
-same_played number answer g first after old new is played = let P : Match → Type 0 = λ m. IsPlayed answer number m after old new in subst P is played
+same_played number answer g first after {old} {new} is played = let P : Match → Type 0 = λ m. IsPlayed answer number m after old new in subst P is played
 
 -- what is reported of lines, and where memory may be wanting and the shelf may fail after some bytes
 module _ (reports : Lines → Report → Type 0) (may_lack : List ℕ → Type 0) (may_miss : List ℕ → Option (List ℕ) → Type 0) (files : Files) where
@@ -149,7 +149,7 @@ module _ (reports : Lines → Report → Type 0) (may_lack : List ℕ → Type 0
       writes_both : (report : game.Report) (line : List ℕ) → Appends before between report.text → writes ≤ later_writes
           → Writes [] line between done (HasRisen later_writes last_writes) → Writes report.text line before done (HasRisen writes last_writes)
       writes_both report line wrote never_falls wrote_line =
-          then_line report.text line before between done (HasRisen later_writes last_writes) (HasRisen writes last_writes) wrote (later_risen writes later_writes last_writes never_falls) wrote_line
+          then_line report.text before (HasRisen writes last_writes) wrote (later_risen writes later_writes last_writes never_falls) wrote_line
 
       pub game_ends : (answer : Result Ending GameError) (status : Status) → Played answer → (IsErrOf answer Read → HasRisen reads later_reads)
           → (IsErrOf answer Write → HasRisen writes later_writes) → writes ≤ later_writes → later_writes ≤ last_writes

@@ -77,22 +77,22 @@ module _ (files : Files) (old new : Seen) (kept : IfSome old.files (λ told. tol
   told seen left reads = of_streams files left seen.written reads seen.write_faults
 
   module _ (left_old left_new : Option (List ℕ)) (reads later : ℕ) where
-    does : (status : Status) (report : Report) → DoesReport status report (told old left_old reads) (told new left_new later) → DoesReport status report old new
-    does status report d =
+    does : {status : Status} {report : Report} → DoesReport status report (told old left_old reads) (told new left_new later) → DoesReport status report old new
+    does {report} d =
         record { reported = d.reported; written = d.written; files = go_same files (λ before after. after ≡ report.files) old.files new.files same kept d.files }
 
     -- so the run ends as its command does
     pub at_files : (HasRisen reads later → HasRisen old.read_faults new.read_faults) → (status : Status) (reports : Report → Type 0) (may_lack : Type 0)
         → Ends status reports may_lack NeverMisses (told old left_old reads) (told new left_new later) → Ends status reports may_lack NeverMisses old new
-    at_files rises is.Done reports may_lack ends = (ends.0, ends.1, does is.Done ends.0 ends.2)
-    at_files rises is.Usage reports may_lack ends = (ends.0, ends.1, does is.Usage ends.0 ends.2)
-    at_files rises is.Text reports may_lack ends = (ends.0, ends.1, does is.Text ends.0 ends.2)
-    at_files rises is.Unsound reports may_lack ends = (ends.0, ends.1, does is.Unsound ends.0 ends.2)
-    at_files rises is.Budget reports may_lack ends = (ends.0, ends.1, does is.Budget ends.0 ends.2)
-    at_files rises is.Wide reports may_lack ends = (ends.0, ends.1, does is.Wide ends.0 ends.2)
-    at_files rises is.Ended reports may_lack ends = (ends.0, ends.1, does is.Ended ends.0 ends.2)
-    at_files rises is.TooMany reports may_lack ends = (ends.0, ends.1, does is.TooMany ends.0 ends.2)
-    at_files rises is.File reports may_lack ends = (ends.0, ends.1, does is.File ends.0 ends.2)
+    at_files rises is.Done reports may_lack ends = (ends.0, ends.1, does ends.2)
+    at_files rises is.Usage reports may_lack ends = (ends.0, ends.1, does ends.2)
+    at_files rises is.Text reports may_lack ends = (ends.0, ends.1, does ends.2)
+    at_files rises is.Unsound reports may_lack ends = (ends.0, ends.1, does ends.2)
+    at_files rises is.Budget reports may_lack ends = (ends.0, ends.1, does ends.2)
+    at_files rises is.Wide reports may_lack ends = (ends.0, ends.1, does ends.2)
+    at_files rises is.Ended reports may_lack ends = (ends.0, ends.1, does ends.2)
+    at_files rises is.TooMany reports may_lack ends = (ends.0, ends.1, does ends.2)
+    at_files rises is.File reports may_lack ends = (ends.0, ends.1, does ends.2)
     at_files rises is.ReadFault reports may_lack ends =
         let some = ends.2 in (
           ends.0,
@@ -115,11 +115,11 @@ module _ (files : Files) (old new : Seen) (kept : IfSome old.files (λ told. tol
       → Ends status reports may_lack NeverMisses old new
   at_sink status reports may_lack ends = at_files None None 0 0 (λ risen. absurd (omega (arith, risen))) status reports may_lack ends
 
-shelf_does : (status : Status) (report : Report) (old new : Seen)
+shelf_does : {status : Status} {report : Report} (old new : Seen)
     → DoesReport status report (of_shelf old.written old.files old.write_faults old.shelf_faults)
     (of_shelf new.written new.files new.write_faults new.shelf_faults)
     → DoesReport status report old new
-shelf_does status report old new d = record { reported = d.reported; written = d.written; files = d.files }
+shelf_does old new d = record { reported = d.reported; written = d.written; files = d.files }
 
 -- a command that has no source does not fail to read
 pub no_read_fault : (status : Status) (reports : Report → Type 0) (may_lack : Type 0) (may_miss : Option (List ℕ) → Type 0) (old new : Seen)
@@ -133,15 +133,15 @@ no_read_fault status reports may_lack may_miss old new before after ends same =
 pub with_source : (status : Status) (reports : Report → Type 0) (may_lack : Type 0) (may_miss : Option (List ℕ) → Type 0) (old new : Seen)
     → Ends status reports may_lack may_miss (of_shelf old.written old.files old.write_faults old.shelf_faults) (of_shelf new.written new.files new.write_faults new.shelf_faults)
     → Ends status reports may_lack may_miss old new
-with_source is.Done reports may_lack may_miss old new ends = (ends.0, ends.1, shelf_does is.Done ends.0 old new ends.2)
-with_source is.Usage reports may_lack may_miss old new ends = (ends.0, ends.1, shelf_does is.Usage ends.0 old new ends.2)
-with_source is.Text reports may_lack may_miss old new ends = (ends.0, ends.1, shelf_does is.Text ends.0 old new ends.2)
-with_source is.Unsound reports may_lack may_miss old new ends = (ends.0, ends.1, shelf_does is.Unsound ends.0 old new ends.2)
-with_source is.Budget reports may_lack may_miss old new ends = (ends.0, ends.1, shelf_does is.Budget ends.0 old new ends.2)
-with_source is.Wide reports may_lack may_miss old new ends = (ends.0, ends.1, shelf_does is.Wide ends.0 old new ends.2)
-with_source is.File reports may_lack may_miss old new ends = (ends.0, ends.1, shelf_does is.File ends.0 old new ends.2)
-with_source is.Ended reports may_lack may_miss old new ends = (ends.0, ends.1, shelf_does is.Ended ends.0 old new ends.2)
-with_source is.TooMany reports may_lack may_miss old new ends = (ends.0, ends.1, shelf_does is.TooMany ends.0 old new ends.2)
+with_source is.Done reports may_lack may_miss old new ends = (ends.0, ends.1, shelf_does old new ends.2)
+with_source is.Usage reports may_lack may_miss old new ends = (ends.0, ends.1, shelf_does old new ends.2)
+with_source is.Text reports may_lack may_miss old new ends = (ends.0, ends.1, shelf_does old new ends.2)
+with_source is.Unsound reports may_lack may_miss old new ends = (ends.0, ends.1, shelf_does old new ends.2)
+with_source is.Budget reports may_lack may_miss old new ends = (ends.0, ends.1, shelf_does old new ends.2)
+with_source is.Wide reports may_lack may_miss old new ends = (ends.0, ends.1, shelf_does old new ends.2)
+with_source is.File reports may_lack may_miss old new ends = (ends.0, ends.1, shelf_does old new ends.2)
+with_source is.Ended reports may_lack may_miss old new ends = (ends.0, ends.1, shelf_does old new ends.2)
+with_source is.TooMany reports may_lack may_miss old new ends = (ends.0, ends.1, shelf_does old new ends.2)
 with_source is.ReadFault reports may_lack may_miss old new ends = absurd (omega (arith, ends.2.failed))
 with_source is.WriteFault reports may_lack may_miss old new ends =
     let some = ends.2 in (ends.0, ends.1, record { failed = some.failed; written = some.written; files = some.files })

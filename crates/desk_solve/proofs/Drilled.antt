@@ -66,16 +66,16 @@ same_list (x ∷ xs) (y ∷ ys) long same =
 through : {A B C : Type 0} → A ↔ C → B ↔ C → A ↔ B
 through f g = (λ a. g.1 (f.0 a), λ b. f.1 (g.0 b))
 
-once_found : (seed count one other : ℕ) → DrillFinds seed count one → DrillFinds seed count other → one ≡ other
-once_found seed count one other a b =
+once_found : {seed count one other : ℕ} → DrillFinds seed count one → DrillFinds seed count other → one ≡ other
+once_found a b =
     let same : a.verdicts ≡ b.verdicts =
     same_list a.verdicts b.verdicts (a.are_verdicts.one_each ∙ sym b.are_verdicts.one_each)
     (λ k v w is so. same_bool v w (through (a.are_verdicts.right k v is) (b.are_verdicts.right k w so))) in
     a.counted ∙ ap won_of same ∙ sym b.counted
 
 -- the positions are gone through to one end
-found_stops : (seed count mates : ℕ) (step : StepName) → DrillFinds seed count mates → DrillStops seed count step → ⊥
-found_stops seed count mates step finds (n, within, before, over) = fits_exceeds (drilled seed n) DEFAULT_STATES 1 step (finds.fits n within) over
+found_stops : {seed count mates : ℕ} (step : StepName) → DrillFinds seed count mates → DrillStops seed count step → ⊥
+found_stops {seed} step finds (n, within, before, over) = fits_exceeds (drilled seed n) DEFAULT_STATES 1 step (finds.fits n within) over
 
 once_stop : (seed count : ℕ) (one other : StepName) → DrillStops seed count one → DrillStops seed count other → one ≡ other
 once_stop seed count one other a b = elim (number_cases a.0 b.0) [
@@ -86,7 +86,7 @@ once_stop seed count one other a b = elim (number_cases a.0 b.0) [
 
 pub once_drill : (files : Files) (one other : Report) (seed count : ℕ) → DrillReports seed count files one → DrillReports seed count files other → one ≡ other
 once_drill files one other seed count (inl (s, a, i)) (inl (t, b, j)) = i ∙ ap (over_budget files) (once_stop seed count s t a b) ∙ sym j
-once_drill files one other seed count (inl (s, a, i)) (inr (m, b, j)) = absurd (found_stops seed count m s b a)
-once_drill files one other seed count (inr (m, a, i)) (inl (t, b, j)) = absurd (found_stops seed count m t a b)
+once_drill files one other seed count (inl (s, a, i)) (inr (m, b, j)) = absurd (found_stops s b a)
+once_drill files one other seed count (inr (m, a, i)) (inl (t, b, j)) = absurd (found_stops t a b)
 once_drill files one other seed count (inr (m, a, i)) (inr (n, b, j)) =
-    i ∙ ap (λ mates. done_with files (drill_line mates count)) (once_found seed count m n a b) ∙ sym j
+    i ∙ ap (λ mates. done_with files (drill_line mates count)) (once_found a b) ∙ sym j

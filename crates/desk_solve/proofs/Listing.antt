@@ -58,9 +58,9 @@ module _ (winner : Side) (n : ℕ) (p : Position) where
 
   ray_once : (man ray : ℕ) (a b : List ℕ) → RayText winner n p man ray a → RayText winner n p man ray b → a ≡ b
   ray_once man ray a b (inl (none, is)) (inl (also, so)) = is ∙ sym so
-  ray_once man ray a b (inl (none, is)) (inr (line, h, so)) = let some = line_first all_squares winner n p man ray line h in absurd (none some.0 some.1)
-  ray_once man ray a b (inr (line, h, is)) (inl (none, so)) = let some = line_first all_squares winner n p man ray line h in absurd (none some.0 some.1)
-  ray_once man ray a b (inr (line, h, is)) (inr (other, j, so)) = is ∙ ap line_of (line_once all_squares winner n p man ray line other h j) ∙ sym so
+  ray_once man ray a b (inl (none, is)) (inr (line, h, so)) = let some = line_first h in absurd (none some.0 some.1)
+  ray_once man ray a b (inr (line, h, is)) (inl (none, so)) = let some = line_first h in absurd (none some.0 some.1)
+  ray_once man ray a b (inr (line, h, is)) (inr (other, j, so)) = is ∙ ap line_of (line_once h j) ∙ sym so
 
   man_once : (man : ℕ) (a b : List ℕ) → ManText winner n p man a → ManText winner n p man b → a ≡ b
   man_once man = listed_once (RayText winner n p man) (ray_once man) 8

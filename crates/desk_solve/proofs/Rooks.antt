@@ -41,12 +41,12 @@ record AreClear (king first second : Square) : Type 0 where
 two : {A : Type 0} (a b z : Square) → a.y ≢ b.y → a ≡ z → b ≡ z → A
 two a b z rows is so = absurd (rows (ap (λ (s : Square). s.y) (is ∙ sym so)))
 
-off_row : (a : Square) → IsOff a → a.y ≢ pos 0
-off_row a off same = off.row (ap (λ y. pos 0 -ℤ y) same)
+off_row : {a : Square} → IsOff a → a.y ≢ pos 0
+off_row off same = off.row (ap (λ y. pos 0 -ℤ y) same)
 
-off_line : (a : Square) → IsOff a → HasReach White Rook (pos 0 -ℤ a.x) (pos 0 -ℤ a.y) → ⊥
-off_line a off (inl reach) = off.column reach.0
-off_line a off (inr reach) = off.row reach.1
+off_line : {a : Square} → IsOff a → HasReach White Rook (pos 0 -ℤ a.x) (pos 0 -ℤ a.y) → ⊥
+off_line off (inl reach) = off.column reach.0
+off_line off (inr reach) = off.row reach.1
 
 white_is_black : {A : Type 0} → White ≡ Black → A
 white_is_black same = absurd (cc)
@@ -77,26 +77,26 @@ module _ (king first second : Square) (clear : AreClear king first second) where
   standing (suc (suc (suc (suc zero)))) m z is stands = as_black refl (same_Some corner z (as_man _ m (λ n. StandsOn n z) is stands))
   standing (suc (suc (suc (suc (suc i))))) m z is stands = absurd (cc)
 
-  one_number : (i j : ℕ) (z : Square) → Standing i z → Standing j z → i ≡ j
-  one_number i j z (as_king e a) (as_king f b) = e ∙ sym f
-  one_number i j z (as_king e a) (as_first f b) = two king first z clear.king_first a b
-  one_number i j z (as_king e a) (as_second f b) = two king second z clear.king_second a b
-  one_number i j z (as_king e a) (as_black f b) = two king corner z clear.king_row a b
-  one_number i j z (as_first e a) (as_king f b) = two king first z clear.king_first b a
-  one_number i j z (as_first e a) (as_first f b) = e ∙ sym f
-  one_number i j z (as_first e a) (as_second f b) = two first second z clear.first_second a b
-  one_number i j z (as_first e a) (as_black f b) = two first corner z (off_row first clear.first_off) a b
-  one_number i j z (as_second e a) (as_king f b) = two king second z clear.king_second b a
-  one_number i j z (as_second e a) (as_first f b) = two first second z clear.first_second b a
-  one_number i j z (as_second e a) (as_second f b) = e ∙ sym f
-  one_number i j z (as_second e a) (as_black f b) = two second corner z (off_row second clear.second_off) a b
-  one_number i j z (as_black e a) (as_king f b) = two king corner z clear.king_row b a
-  one_number i j z (as_black e a) (as_first f b) = two first corner z (off_row first clear.first_off) b a
-  one_number i j z (as_black e a) (as_second f b) = two second corner z (off_row second clear.second_off) b a
-  one_number i j z (as_black e a) (as_black f b) = e ∙ sym f
+  one_number : {i j : ℕ} {z : Square} → Standing i z → Standing j z → i ≡ j
+  one_number (as_king e a) (as_king f b) = e ∙ sym f
+  one_number {z} (as_king e a) (as_first f b) = two king first z clear.king_first a b
+  one_number {z} (as_king e a) (as_second f b) = two king second z clear.king_second a b
+  one_number {z} (as_king e a) (as_black f b) = two king corner z clear.king_row a b
+  one_number {z} (as_first e a) (as_king f b) = two king first z clear.king_first b a
+  one_number (as_first e a) (as_first f b) = e ∙ sym f
+  one_number {z} (as_first e a) (as_second f b) = two first second z clear.first_second a b
+  one_number {z} (as_first e a) (as_black f b) = two first corner z (off_row clear.first_off) a b
+  one_number {z} (as_second e a) (as_king f b) = two king second z clear.king_second b a
+  one_number {z} (as_second e a) (as_first f b) = two first second z clear.first_second b a
+  one_number (as_second e a) (as_second f b) = e ∙ sym f
+  one_number {z} (as_second e a) (as_black f b) = two second corner z (off_row clear.second_off) a b
+  one_number {z} (as_black e a) (as_king f b) = two king corner z clear.king_row b a
+  one_number {z} (as_black e a) (as_first f b) = two first corner z (off_row clear.first_off) b a
+  one_number {z} (as_black e a) (as_second f b) = two second corner z (off_row clear.second_off) b a
+  one_number (as_black e a) (as_black f b) = e ∙ sym f
 
   apart : IsApart p
-  apart i j m n z is_m is_n s t = one_number i j z (standing i m z is_m s) (standing j n z is_n t)
+  apart i j m n z is_m is_n s t = one_number (standing i m z is_m s) (standing j n z is_n t)
 
   only_white : (k : ℕ) (m : Man) → man_at p k ≡ Some m → m.side ≡ White → m.kind ≡ King → k ≡ 1
   only_white zero m is side kind = absurd (cc)
@@ -122,8 +122,8 @@ module _ (king first second : Square) (clear : AreClear king first second) where
   no_reach : (k : ℕ) (m : Man) → man_at p k ≡ Some m → m.side ≡ White → Bears p m corner → ⊥
   no_reach zero m is side bears = absurd (cc)
   no_reach (suc zero) m is side bears = clear.far ((as_man _ m (λ n. Bears p n corner) is bears).0)
-  no_reach (suc (suc zero)) m is side bears = off_line first clear.first_off ((as_man _ m (λ n. Bears p n corner) is bears).0)
-  no_reach (suc (suc (suc zero))) m is side bears = off_line second clear.second_off ((as_man _ m (λ n. Bears p n corner) is bears).0)
+  no_reach (suc (suc zero)) m is side bears = off_line clear.first_off ((as_man _ m (λ n. Bears p n corner) is bears).0)
+  no_reach (suc (suc (suc zero))) m is side bears = off_line clear.second_off ((as_man _ m (λ n. Bears p n corner) is bears).0)
   no_reach (suc (suc (suc (suc zero)))) m is side bears = white_is_black (sym (as_man _ m (λ n. n.side ≡ White) is side))
   no_reach (suc (suc (suc (suc (suc k))))) m is side bears = absurd (cc)
 
@@ -155,10 +155,10 @@ differ_from_one n is same = absurd (not_from_Decides (n == 1) (Decides-eqb n 1) 
 off : (a : Square) → differs (pos 0 -ℤ a.x) (pos 0) → differs (pos 0 -ℤ a.y) (pos 0) → IsOff a
 off a column row = record { column = differ (pos 0 -ℤ a.x) (pos 0) column; row = differ (pos 0 -ℤ a.y) (pos 0) row }
 
-tested : (king first second : Square) → (max (unsigned_abs (pos 0 -ℤ king.x)) (unsigned_abs (pos 0 -ℤ king.y)) == 1) ≡ false → differs king.y (pos 0)
+tested : (king : Square) {first second : Square} → (max (unsigned_abs (pos 0 -ℤ king.x)) (unsigned_abs (pos 0 -ℤ king.y)) == 1) ≡ false → differs king.y (pos 0)
     → IsOff first → IsOff second → differs king.y first.y → differs king.y second.y → differs first.y second.y
     → Sound (rooks_position (place_on king) (place_on first) (place_on second))
-tested king first second far king_row first_off second_off king_first king_second first_second = clear_sound king first second (record {
+tested king {first} {second} far king_row first_off second_off king_first king_second first_second = clear_sound king first second (record {
   far = differ_from_one (max (unsigned_abs (pos 0 -ℤ king.x)) (unsigned_abs (pos 0 -ℤ king.y))) far;
   king_row = differ king.y (pos 0) king_row;
   first_off = first_off;
@@ -180,14 +180,14 @@ above = at (pos 5) (pos 7)
 
 -- the case of each number
 case_sound : (k : ℕ) → k < 8 → Sound (case_position k)
-case_sound zero small = tested home right above refl refl (off right refl refl) (off above refl refl) refl refl refl
-case_sound (suc zero) small = tested (at (pos 100) (pos 98)) right above refl refl (off right refl refl) (off above refl refl) refl refl refl
-case_sound (suc (suc zero)) small = let r = at (pos 10) (pos 2) in tested home r above refl refl (off r refl refl) (off above refl refl) refl refl refl
-case_sound (suc (suc (suc zero))) small = let r = at (negsuc 4) (pos 7) in tested home right r refl refl (off right refl refl) (off r refl refl) refl refl refl
-case_sound (suc (suc (suc (suc zero)))) small = let r = at (pos 5) (pos 1) in tested home r above refl refl (off r refl refl) (off above refl refl) refl refl refl
-case_sound (suc (suc (suc (suc (suc zero))))) small = let r = at (pos 5) (negsuc 6) in tested home right r refl refl (off right refl refl) (off r refl refl) refl refl refl
-case_sound (suc (suc (suc (suc (suc (suc zero)))))) small = let r = at (negsuc 9) (pos 1) in tested home r above refl refl (off r refl refl) (off above refl refl) refl refl refl
-case_sound (suc (suc (suc (suc (suc (suc (suc zero))))))) small = let r = at (pos 1) (pos 7) in tested home right r refl refl (off right refl refl) (off r refl refl) refl refl refl
+case_sound zero small = tested home refl refl (off right refl refl) (off above refl refl) refl refl refl
+case_sound (suc zero) small = tested (at (pos 100) (pos 98)) refl refl (off right refl refl) (off above refl refl) refl refl refl
+case_sound (suc (suc zero)) small = let r = at (pos 10) (pos 2) in tested home refl refl (off r refl refl) (off above refl refl) refl refl refl
+case_sound (suc (suc (suc zero))) small = let r = at (negsuc 4) (pos 7) in tested home refl refl (off right refl refl) (off r refl refl) refl refl refl
+case_sound (suc (suc (suc (suc zero)))) small = let r = at (pos 5) (pos 1) in tested home refl refl (off r refl refl) (off above refl refl) refl refl refl
+case_sound (suc (suc (suc (suc (suc zero))))) small = let r = at (pos 5) (negsuc 6) in tested home refl refl (off right refl refl) (off r refl refl) refl refl refl
+case_sound (suc (suc (suc (suc (suc (suc zero)))))) small = let r = at (negsuc 9) (pos 1) in tested home refl refl (off r refl refl) (off above refl refl) refl refl refl
+case_sound (suc (suc (suc (suc (suc (suc (suc zero))))))) small = let r = at (pos 1) (pos 7) in tested home refl refl (off right refl refl) (off r refl refl) refl refl refl
 case_sound (suc (suc (suc (suc (suc (suc (suc (suc k)))))))) small = absurd (omega arith)
 
 pub drill_sound : (state : ℕ) → Sound (position_of state)

@@ -30,8 +30,8 @@ none_fits problem budget n h =
     subst P (sym last) (record { value = []; ends = Ends-give budget [] })
 
 -- and no mate
-pub none_mates : (problem : Problem) (n : ℕ) → HasNothingToPlay n problem → Value problem.winner n problem.position → ⊥
-none_mates problem n h value =
+pub none_mates : {problem : Problem} {n : ℕ} → HasNothingToPlay n problem → Value problem.winner n problem.position → ⊥
+none_mates {problem} h value =
     let Moves : ℕ → Type 0 = λ k. Value problem.winner k problem.position in
     no_win (subst Moves h.none value)
   where

@@ -46,11 +46,11 @@ free_append : (a b : List ℕ) → HasNoLf a → HasNoLf b → HasNoLf (a ++ b)
 free_append [] b fa fb = fb
 free_append (x ∷ a) b fa fb = (fa.0, free_append a b fa.1 fb)
 
-joined : (a b : List ℕ) (m n : ℕ) → IsShort a m → IsShort b n → IsShort (a ++ b) (m + n)
-joined a b m n ha hb = record { free = free_append a b ha.free hb.free; short = omega (arith, ha.short, hb.short, length-append a b) }
+joined : {a b : List ℕ} {m n : ℕ} → IsShort a m → IsShort b n → IsShort (a ++ b) (m + n)
+joined {a} {b} ha hb = record { free = free_append a b ha.free hb.free; short = omega (arith, ha.short, hb.short, length-append a b) }
 
-one_more : (x : ℕ) (a : List ℕ) (m : ℕ) → x ≢ 10 → IsShort a m → IsShort (x ∷ a) (m + 1)
-one_more x a m ne h = record { free = (ne, h.free); short = omega (arith, h.short) }
+one_more : (x : ℕ) {a : List ℕ} {m : ℕ} → x ≢ 10 → IsShort a m → IsShort (x ∷ a) (m + 1)
+one_more x ne h = record { free = (ne, h.free); short = omega (arith, h.short) }
 
 digit_free : (d : ℕ) → HasNoLf ((48 + d) ∷ [])
 digit_free d = (omega arith, tt)
@@ -67,12 +67,12 @@ decimal_short n h = record { free = decimal_free n h; short = decimal_length n h
 
 signed_short : (z : ℤ) → FitsSigned w64 z → IsShort (signed_decimal z) 21
 signed_short (pos n) fits = let h = decimal_short n (omega (arith, fits)) in record { free = h.free; short = omega (arith, h.short) }
-signed_short (negsuc n) fits = one_more 45 (decimal (suc n)) 20 (omega arith) (decimal_short (suc n) (omega (arith, fits)))
+signed_short (negsuc n) fits = one_more 45 (omega arith) (decimal_short (suc n) (omega (arith, fits)))
 
 place_short : (place : Place) → FitsPlace place → IsShort (place_text place) 43
 place_short Gone fits = record { free = all_free (codes "gone") refl; short = omega arith }
 place_short (At x y) fits =
-    let h = joined (signed_decimal x) (32 ∷ signed_decimal y) 21 22 (signed_short x fits.0) (one_more 32 (signed_decimal y) 21 (omega arith) (signed_short y fits.1)) in
+    let h = joined (signed_short x fits.0) (one_more 32 (omega arith) (signed_short y fits.1)) in
     record { free = h.free; short = omega (arith, h.short) }
 
 side_free : (s : Side) → side_letter s ≢ 10
@@ -129,11 +129,11 @@ men_lines [] fit = All-cons IsLine end_line [] (record { free = all_free end_lin
 men_lines (m ∷ men) fit =
     All-cons IsLine (man_text m) (map man_text men ++ end_line ∷ []) (man_line m (All-head (λ k. FitsPlace k.place) m men fit)) (men_lines men (All-tail (λ k. FitsPlace k.place) m men fit))
 
-all_lines : (p : Position) → IsWritable p → All IsLine (position_lines p)
-all_lines p h =
+all_lines : {p : Position} → IsWritable p → All IsLine (position_lines p)
+all_lines {p} h =
     let men = men_lines p.men h.fit in
     All-cons IsLine header (turn_text p.turn ∷ (map man_text p.men ++ end_line ∷ [])) (record { free = all_free header refl; short = omega arith })
     (All-cons IsLine (turn_text p.turn) (map man_text p.men ++ end_line ∷ []) (turn_line p.turn) men)
 
 pub text_is_read : TextIsRead
-text_is_read p rest h = read_lines p rest (length (position_lines p)) Header 1 (position_lines p) (all_lines p h) (omega arith) (spelled_is_accepted p h)
+text_is_read p rest h = read_lines p rest (length (position_lines p)) Header 1 (position_lines p) (all_lines h) (omega arith) (spelled_is_accepted p h)

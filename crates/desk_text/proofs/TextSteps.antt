@@ -108,8 +108,8 @@ pub with_line : (lines : List (List ℕ)) (line : List ℕ) → text_of_lines (l
 with_line [] line = append-nil (line ++ 10 ∷ [])
 with_line (l ∷ lines) line = ap (λ bytes. (l ++ 10 ∷ []) ++ bytes) (with_line lines line) ∙ sym (append_assoc (l ++ 10 ∷ []) (text_of_lines lines) (line ++ 10 ∷ []))
 
-all_lines : (lines : List (List ℕ)) (line : List ℕ) → All IsLine lines → IsLine line → All IsLine (lines ++ line ∷ [])
-all_lines lines line are is = All-push IsLine lines line are is
+all_lines : (lines : List (List ℕ)) {line : List ℕ} → All IsLine lines → IsLine line → All IsLine (lines ++ line ∷ [])
+all_lines lines {line} are is = All-push IsLine lines line are is
 
 -- a whole line that a reader gives is one
 pub line_read : (len : ℕ) (old new : List ℕ) → KeepsLine (Ok (Full len)) old new → IsLine new
@@ -175,7 +175,7 @@ module _ (stage : Stage) (number : ℕ) (pending : List ℕ) (before mid after :
     ]
 
     takes_now : (few : length rest ≤ 256) → TakesLines IsMissing (text_of_lines now ++ rest) rest
-    takes_now few = record { lines = now; are_lines = all_lines lines line so_far.are_lines is_line; due = due_now; bytes = refl; few = few }
+    takes_now few = record { lines = now; are_lines = all_lines lines so_far.are_lines is_line; due = due_now; bytes = refl; few = few }
 
     text_full : (more : List ℕ) (t : Text) (turnout : Turnout) → Feeds stage line turnout
         → AfterLine turnout number (lines_of more) t (λ next. ReadsLines next (number + 1) (lines_of more) t) → TextAt (text_of_lines now ++ more) t
@@ -200,7 +200,7 @@ module _ (stage : Stage) (number : ℕ) (pending : List ℕ) (before mid after :
     pub goes_on : (next : Stage) → Feeds stage line (turnouts.more next) → SoFar next (number + 1) rest before after
     goes_on next feeds = record {
       lines = now;
-      are_lines = all_lines lines line so_far.are_lines is_line;
+      are_lines = all_lines lines so_far.are_lines is_line;
       due = due_now;
       count = omega (arith, so_far.count, length-append lines (line ∷ []));
       taken = consumed;

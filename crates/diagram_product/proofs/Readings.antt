@@ -77,27 +77,27 @@ module _ (from : List Shape) (tracks : List ℕ) (ascending : IsStrictlyIncreasi
     most = get_or_past tracks 20 20 few_tracks;
   }
 
-read_shapes-grows : (reading : Reading) (old new : List Shape) → Grows old new → Grows (read_shapes reading old) (read_shapes reading new)
-read_shapes-grows None old new grows = grows
-read_shapes-grows (Some lent) old new grows = Grows-refl lent.shapes
+read_shapes-grows : (reading : Reading) {old new : List Shape} → Grows old new → Grows (read_shapes reading old) (read_shapes reading new)
+read_shapes-grows None grows = grows
+read_shapes-grows (Some lent) grows = Grows-refl lent.shapes
 
 -- what is read stays as nodes are added
 module _ (reading : Reading) (old new : List Shape) (node : ℕ) (grows : Grows old new) (read : CanBeRead reading old node) where
   pub CanBeRead-grows : CanBeRead reading new node
   CanBeRead-grows =
-      let more = read_shapes-grows reading old new grows in
+      let more = read_shapes-grows reading grows in
       let known = read.known in
       let longer = more.longer in
       record {
         known = omega (arith, known, longer);
-        narrow = λ few. LooksBelow-grows _ _ node (read_tracks reading) read.known more (read.narrow few);
+        narrow = λ few. LooksBelow-grows read.known more (read.narrow few);
       }
 
   pub read_at-grows : (letter : ℕ) → read_at reading new node letter ≡ read_at reading old node letter
-  read_at-grows letter = (read_shapes-grows reading old new grows).map node (read_letter reading letter) read.known
+  read_at-grows letter = (read_shapes-grows reading grows).map node (read_letter reading letter) read.known
 
   pub read_top-grows : read_top reading new node ≡ read_top reading old node
-  read_top-grows = ap (read_track reading) ((read_shapes-grows reading old new grows).top node read.known)
+  read_top-grows = ap (read_track reading) ((read_shapes-grows reading grows).top node read.known)
 
 module _ (reading : Reading) (law : IsReading reading) (shapes : List Shape) (is : IsDiagram (read_shapes reading shapes)) (node : ℕ) where
   pub LooksFrom-read : node < length (read_shapes reading shapes) → LooksFrom (read_at reading shapes node) (read_top reading shapes node)
@@ -146,7 +146,7 @@ module _ (reading : Reading) (law : IsReading reading) (shapes : List Shape) (is
   }
 
 -- nodes as they are have the shapes that they have
-pub IsRead-here : (shapes : List Shape) → IsDiagram shapes → (node : ℕ) → CanBeRead None shapes node → (shape : Shape) → IsAt shapes node shape → FitsBelow shapes node shape
+pub IsRead-here : {shapes : List Shape} → IsDiagram shapes → {node : ℕ} → CanBeRead None shapes node → {shape : Shape} → IsAt shapes node shape → FitsBelow shapes node shape
     → IsRead None shapes node shape
-IsRead-here shapes is node read (Leaf value) at fits = IsReadLeaf-at None IsReading-here shapes is node value at
-IsRead-here shapes is node read (Test track low high) at fits = IsReadTest-at None IsReading-here shapes is node track low high read at fits
+IsRead-here {shapes} is {node} read {shape = Leaf value} at fits = IsReadLeaf-at None IsReading-here shapes is node value at
+IsRead-here {shapes} is {node} read {shape = Test track low high} at fits = IsReadTest-at None IsReading-here shapes is node track low high read at fits

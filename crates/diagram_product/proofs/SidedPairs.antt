@@ -58,11 +58,11 @@ pub RemembersPaired-insert : {S : Type 0} {sides : Sides} {shapes : List Shape} 
 RemembersPaired-insert {sides} {shapes} {pairs} {memo} {new} {a} {b} {r} all updates is = record { paired = pair_answers-insert (IsPaired sides shapes pairs) memo new a b r all.paired updates is }
 
 -- one pair at each letter
-pub IsPaired-leaf : (sides : Sides) (old new : List Shape) (pairs : List (ℕ × ℕ)) (a b r number : ℕ) (pair : ℕ × ℕ) → CanBePaired sides old a b → Grows old new → r < length new
+pub IsPaired-leaf : {sides : Sides} {old new : List Shape} (pairs : List (ℕ × ℕ)) {a b : ℕ} (r number : ℕ) (pair : ℕ × ℕ) → CanBePaired sides old a b → Grows old new → r < length new
     → ((letter : ℕ) → pair_at sides old a b letter ≡ pair) → slice_get pairs number ≡ Some pair
     → ((letter : ℕ) → map_at new r letter ≡ number) → top_track new r ≡ 20 → pair_top sides old a b ≤ 20
     → IsPaired sides new pairs a b r
-IsPaired-leaf sides old new pairs a b r number pair read grows known one at map top small = record {
+IsPaired-leaf pairs r number pair read grows known one at map top small = record {
   read = CanBePaired-grows grows read;
   known = known;
   map = λ letter. ap (λ n. slice_get pairs n) (map letter) ∙ at ∙ ap Some (sym (pair_at-grows grows read letter ∙ one letter));

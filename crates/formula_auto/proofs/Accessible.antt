@@ -23,8 +23,8 @@ accessible-merged (Ok m) a reached fewer = λ budget h. record { reached = reach
 accessible-merged (Err why) a reached fewer = reached
 
 -- the complement has the same states and the same ways to them
-reached-turned : (a n : Automaton) (state : ℕ) → n.tracks ≡ a.tracks → n.first ≡ a.first → n.next ≡ a.next → IsReachedState a state → IsReachedState n state
-reached-turned a n state tracks first next h = record {
+reached-turned : {a : Automaton} (n : Automaton) {state : ℕ} → n.tracks ≡ a.tracks → n.first ≡ a.first → n.next ≡ a.next → IsReachedState a state → IsReachedState n state
+reached-turned n tracks first next h = record {
   word = h.word;
   is_word = rw tracks h.is_word;
   leads = rw (tracks, first, next) h.leads;
@@ -34,7 +34,7 @@ pub AllReached-turned : {E : Type 0} (r : Result Automaton E) (a : Automaton) �
     → IfOk r (λ n. n.accept ≡ map not a.accept) → AllReached a → IfOk r AllReached
 AllReached-turned (Ok n) a tracks first next accept reached = λ state within.
     let size : length n.accept ≡ length a.accept = ap length accept ∙ length-map a.accept not in
-    reached-turned a n state tracks first next (reached state (omega (arith, size, within)))
+    reached-turned n tracks first next (reached state (omega (arith, size, within)))
 AllReached-turned (Err why) a tracks first next accept reached = tracks
 
 pub no_larger-turned : {E : Type 0} (r : Result Automaton E) (a : Automaton) → IfOk r (λ n. n.accept ≡ map not a.accept) → IfOk r (λ n. length n.accept ≤ length a.accept)
@@ -43,17 +43,17 @@ no_larger-turned (Err why) a accept = accept
 
 -- words whose lifts lead a reduced automaton to different sets of states are not alike
 module _ (x : Var) (a : Automaton) (valid : IsAutomaton a) (reduced : IsReduced a) where
-  leads_too : (v w : List ℕ) (state : ℕ) → LiftsInto (without_var x a.tracks) a.tracks (Accepts a) v w
+  leads_too : {v : List ℕ} (w : List ℕ) (state : ℕ) → LiftsInto (without_var x a.tracks) a.tracks (Accepts a) v w
       → LiftLeads a (without_var x a.tracks) v state → LiftLeads a (without_var x a.tracks) w state
-  leads_too v w state into h =
+  leads_too w state into h =
       let other = into h.lift h.is in
-      let same = same_state a valid reduced h.lift other.0 h.is.is_word.nonempty other.1.is_word.nonempty other.2 in
+      let same = same_state valid reduced h.is.is_word.nonempty other.1.is_word.nonempty other.2 in
       record { lift = other.0; is = other.1; leads = sym same ∙ h.leads }
 
-  pub ExSpreadExceeds-from_sets : (budget : ℕ) → MoreSets a (without_var x a.tracks) budget → ExSpreadExceeds x a.tracks (Accepts a) budget
-  ExSpreadExceeds-from_sets budget more = record {
+  pub ExSpreadExceeds-from_sets : {budget : ℕ} → MoreSets a (without_var x a.tracks) budget → ExSpreadExceeds x a.tracks (Accepts a) budget
+  ExSpreadExceeds-from_sets more = record {
     words = more.words;
     count = more.count;
     are_words = more.are_words;
-    apart = λ i j d less within alike. more.apart i j d less within (λ state. (leads_too _ _ state alike.forth, leads_too _ _ state alike.back));
+    apart = λ i j d less within alike. more.apart i j d less within (λ state. (leads_too _ state alike.forth, leads_too _ state alike.back));
   }

@@ -69,13 +69,13 @@ vals-at before (suc k) v w e (suc t) within =
     ap (λ n. val v n) at ∙ (vals-at (suc before) k v w rest t (omega arith) ∙ ap (λ n. val w n) (sym at))
 
 -- an automaton that decides a set of integers accepts a word just if it accepts some word of the same values
-pub accepted-values : (a : Automaton) (word : List ℕ) → DecidesIntegers a → Apart a.tracks → IsWord (length a.tracks) word
+pub accepted-values : {a : Automaton} {word : List ℕ} → DecidesIntegers a → Apart a.tracks → IsWord (length a.tracks) word
     → Accepts a word ↔ IsAccepted a (values_at a.tracks (word_values a.tracks word))
-accepted-values a word integers apart is = (
+accepted-values {a} {word} integers apart is = (
   λ h. record { word = word; is_word = is; values = refl; accepts = h },
   λ r.
       let same : vals_from 0 (length a.tracks) r.word ≡ vals_from 0 (length a.tracks) word = sym (track-values a.tracks r.word apart) ∙ (r.values ∙ track-values a.tracks word apart) in
-      accepts-same a r.word word integers r.is_word is
+      accepts-same integers r.is_word is
       (λ t within. let sum : t ≡ 0 + t = omega arith in ap (λ n. val r.word n) sum ∙ (vals-at 0 (length a.tracks) r.word word same t within ∙ ap (λ n. val word n) (sym sum)))
       r.accepts,
 )
@@ -106,16 +106,16 @@ pub values-part : (all vars tracks : List Var) (word : List ℕ) → Apart track
 values-part all vars tracks word apart size =
     track-values tracks (part_of all vars word) apart ∙ (ap (λ k. vals_from 0 k (part_of all vars word)) (sym size) ∙ part-vals all vars word)
 
-pub Decides-Among : (e : ℕ → SetOf) (number : ℕ) (vars : List Var) (a r : Automaton) → e number ≡ Table a → DecidesIntegers a → Apart a.tracks → length vars ≡ length a.tracks
+pub Decides-Among : (e : ℕ → SetOf) (number : ℕ) (vars : List Var) {a : Automaton} (r : Automaton) → e number ≡ Table a → DecidesIntegers a → Apart a.tracks → length vars ≡ length a.tracks
     → r.tracks ≡ with_vars vars [] → ((word : List ℕ) → IsWord (length r.tracks) word → Accepts r word ↔ Accepts a (part_of r.tracks vars word))
     → Decides r (Among number vars) (members e)
-Decides-Among e number vars a r is integers apart size tracks words = record {
+Decides-Among e number vars {a} r is integers apart size tracks words = record {
   tracks = tracks;
   words = λ word is_word.
       let there : IsWord (length r.tracks) word = subst (λ t. IsWord (length t) word) (sym tracks) is_word in
       let w = words word there in
-      let part : IsWord (length a.tracks) (part_of r.tracks vars word) = subst (λ k. IsWord k (part_of r.tracks vars word)) size (IsWord-part r.tracks vars word there) in
-      let accepted = accepted-values a (part_of r.tracks vars word) integers apart part in
+      let part : IsWord (length a.tracks) (part_of r.tracks vars word) = subst (λ k. IsWord k (part_of r.tracks vars word)) size (IsWord-part r.tracks vars there) in
+      let accepted = accepted-values integers apart part in
       let same : values_at a.tracks (word_values a.tracks (part_of r.tracks vars word)) ≡ values_at vars (word_values (with_vars vars []) word) =
       values-part r.tracks vars a.tracks word apart size ∙ ap (λ t. values_at vars (word_values t word)) tracks in (
         λ h. subst (λ s. Member s (values_at vars (word_values (with_vars vars []) word))) (sym is) (subst (IsAccepted a) same (accepted.0 (w.0 h))),
@@ -142,12 +142,12 @@ own-vars (x ∷ y ∷ ys) ascending =
     ap (with_var x) rest ∙ before-is x y ys less
 
 -- a set decides membership of its own tracks
-pub Decides-itself : (e : ℕ → SetOf) (number : ℕ) (a : Automaton) → e number ≡ Table a → DecidesIntegers a → IsAscending a.tracks → Decides a (Among number a.tracks) (members e)
-Decides-itself e number a is integers ascending = record {
+pub Decides-itself : (e : ℕ → SetOf) (number : ℕ) {a : Automaton} → e number ≡ Table a → DecidesIntegers a → IsAscending a.tracks → Decides a (Among number a.tracks) (members e)
+Decides-itself e number {a} is integers ascending = record {
   tracks = sym own;
   words = λ word is_word.
       let there : IsWord (length a.tracks) word = subst (λ t. IsWord (length t) word) own is_word in
-      let accepted = accepted-values a word integers (apart-ascending a.tracks ascending) there in
+      let accepted = accepted-values integers (apart-ascending a.tracks ascending) there in
       let same : values_at a.tracks (word_values a.tracks word) ≡ values_at a.tracks (word_values (with_vars a.tracks []) word) =
       ap (λ t. values_at a.tracks (word_values t word)) (sym own) in (
         λ h. subst (λ s. Member s (values_at a.tracks (word_values (with_vars a.tracks []) word))) (sym is) (subst (IsAccepted a) same (accepted.0 h)),

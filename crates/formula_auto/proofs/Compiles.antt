@@ -53,8 +53,8 @@ module _ (e : ℕ → SetOf) (budget before : ℕ) where
         with_last answer h =
             whole answer (FirstOver-append (steps f ++ steps g) (connect connective f g ∷ []) (members e) budget (before + 1) answer (of_both None right.within) h)
 
-        pub made_both : (c : Automaton) → Decides c (connect connective f g) (members e) → (StepExceeds a b budget → ⊥) → IsMade (connect connective f g) e before budget c
-        made_both c decides none = record {
+        pub made_both : {c : Automaton} → Decides c (connect connective f g) (members e) → (StepExceeds a b budget → ⊥) → IsMade (connect connective f g) e before budget c
+        made_both decides none = record {
           decides = decides;
           within = with_last None (inr (λ over. none ((Exceeds-connect (members e) f g a b budget left.decides right.decides connective).1 over), refl));
         }
@@ -66,8 +66,8 @@ module _ (e : ℕ → SetOf) (budget before : ℕ) where
         step_both grown.Memory over = tt
 
   module _ (x : Var) (f : Tree) (a : Automaton) (part : IsMade f e before budget a) where
-    pub made_ex : (c : Automaton) → Decides c (Ex x f) (members e) → (ForgettingExceeds x a budget → ⊥) → IsMade (Ex x f) e before budget c
-    made_ex c decides none = record {
+    pub made_ex : {c : Automaton} → Decides c (Ex x f) (members e) → (ForgettingExceeds x a budget → ⊥) → IsMade (Ex x f) e before budget c
+    made_ex decides none = record {
       decides = decides;
       within = FirstOver-append (steps f) (Ex x f ∷ []) (members e) budget (before + 1) None part.within
           (inr (λ over. none ((Exceeds-Ex (members e) x f a budget part.decides).1 over), refl));

@@ -21,11 +21,11 @@ stable-accepts : (a : Automaton) (word : List ℕ) → ((Accepts a word → ⊥)
 stable-accepts a word h = stable_true (is_final a (state_of a word)) h
 
 -- an automaton decides, so what it does not accept has the residuals of what it accepts
-SameResidual-not : (k : ℕ) (F : List ℕ → Type 0) (v w : List ℕ) → SameResidual k F v w → SameResidual k (λ word. ¬ F word) v w
-SameResidual-not k F v w h = record { same = λ letters are. let s = h.same letters are in (λ none p. none (s.1 p), λ none p. none (s.0 p)) }
+SameResidual-not : {k : ℕ} {F : List ℕ → Type 0} {v w : List ℕ} → SameResidual k F v w → SameResidual k (λ word. ¬ F word) v w
+SameResidual-not {F = F} h = record { same = λ letters are. let s = h.same letters are in (λ none p. none (s.1 p), λ none p. none (s.0 p)) }
 
-SameResidual-from_not : (k : ℕ) (a : Automaton) (v w : List ℕ) → SameResidual k (λ word. ¬ Accepts a word) v w → SameResidual k (Accepts a) v w
-SameResidual-from_not k a v w h = record {
+SameResidual-from_not : {k : ℕ} (a : Automaton) {v w : List ℕ} → SameResidual k (λ word. ¬ Accepts a word) v w → SameResidual k (Accepts a) v w
+SameResidual-from_not a {v} {w} h = record {
   same = λ letters are. let s = h.same letters are in (
     λ p. stable-accepts a (w ++ letters) (λ none. s.1 none p),
     λ p. stable-accepts a (v ++ letters) (λ none. s.0 none p),
@@ -36,12 +36,12 @@ module _ (fs gs : List Var) (F : List ℕ → Type 0) (b : Automaton) (budget : 
   BothSpread-not : BothSpreadExceeds fs gs F (Accepts b) budget → BothSpreadExceeds fs gs F (λ word. ¬ Accepts b word) budget
   BothSpread-not =
       more_classes (length (with_vars fs gs)) (AlikeInBoth (with_vars fs gs) fs gs F (Accepts b)) (AlikeInBoth (with_vars fs gs) fs gs F (λ word. ¬ Accepts b word)) budget
-      (λ v w is_v is_w alike. record { left = alike.left; right = SameResidual-from_not (length gs) b _ _ alike.right })
+      (λ v w is_v is_w alike. record { left = alike.left; right = SameResidual-from_not b alike.right })
 
   BothSpread-from_not : BothSpreadExceeds fs gs F (λ word. ¬ Accepts b word) budget → BothSpreadExceeds fs gs F (Accepts b) budget
   BothSpread-from_not =
       more_classes (length (with_vars fs gs)) (AlikeInBoth (with_vars fs gs) fs gs F (λ word. ¬ Accepts b word)) (AlikeInBoth (with_vars fs gs) fs gs F (Accepts b)) budget
-      (λ v w is_v is_w alike. record { left = alike.left; right = SameResidual-not (length gs) (Accepts b) _ _ alike.right })
+      (λ v w is_v is_w alike. record { left = alike.left; right = SameResidual-not alike.right })
 
 module _ (e : Sets) (f g : Tree) (a b : Automaton) (budget : ℕ) (left : Decides a f e) (right : Decides b g e) where
   says_left : SameWords (length (free_vars f)) (Says f e) (Accepts a)

@@ -43,13 +43,13 @@ same_number x y is = eq-eqb y.0 x.0 (ap (λ (v : Var). v.0) (sym is))
 same_var : (x y : Var) → y.0 == x.0 ≡ true → x ≡ y
 same_var x y e = ap (λ n. record { 0 = n }) (sym (eqb-true y.0 x.0 e))
 
-at_once : (x y : Var) (ys : List Var) (letter bit : ℕ) → bit < 2 → IsOneOf x (y ∷ ys) → Cases x y
+at_once : {x y : Var} (ys : List Var) (letter bit : ℕ) → bit < 2 → IsOneOf x (y ∷ ys) → Cases x y
     → (IsOneOf x ys → bit_at (inserted x ys (letter / 2) bit) (place ys x) ≡ bit) → bit_at (inserted x (y ∷ ys) letter bit) (place (y ∷ ys) x) ≡ bit
-at_once x y ys letter bit less h (Same is) rest =
+at_once {x} {y} ys letter bit less h (Same is) rest =
     inserted_cases (λ n. bit_at n (place (y ∷ ys) x) ≡ bit) x y ys letter bit
     (λ e. ap (λ k. bit_at (bit + 2 * inserted x ys letter bit) k) (place-here x y ys is) ∙ bit_at-first bit (inserted x ys letter bit) less)
     (λ e. let t = same_number x y is in absurd (cc))
-at_once x y ys letter bit less h (Other other) rest =
+at_once {x} {y} ys letter bit less h (Other other) rest =
     inserted_cases (λ n. bit_at n (place (y ∷ ys) x) ≡ bit) x y ys letter bit
     (λ e. absurd (other (same_var x y e)))
     (λ e. ap (λ k. bit_at (letter % 2 + 2 * inserted x ys (letter / 2) bit) k) (place-later x y ys other)
@@ -58,7 +58,7 @@ at_once x y ys letter bit less h (Other other) rest =
 -- the track x has the bit
 pub bit_at-inserted : (x : Var) (ys : List Var) (letter bit : ℕ) → bit < 2 → IsOneOf x ys → bit_at (inserted x ys letter bit) (place ys x) ≡ bit
 bit_at-inserted x [] letter bit less h = absurd h
-bit_at-inserted x (y ∷ ys) letter bit less h = at_once x y ys letter bit less h (cases_of x y) (bit_at-inserted x ys (letter / 2) bit less)
+bit_at-inserted x (y ∷ ys) letter bit less h = at_once ys letter bit less h (cases_of x y) (bit_at-inserted x ys (letter / 2) bit less)
 
 -- tracks that come later look at the later bits alone
 restrict-later : (g : Var) (gs ys : List Var) (bit rest : ℕ) → bit < 2 → (IsOneOf g ys → ⊥) → restrict (g ∷ gs) ys (bit + 2 * rest) ≡ restrict gs ys rest
@@ -194,8 +194,8 @@ pub record Joins (x : Var) (gs : List Var) (word : List ℕ) (n : ℤ) (lift : L
   pub is_lift : IsLift (without_var x gs) gs word lift
   pub value : IsOneOf x gs → val lift (place gs x) ≡ n
 
-pub joined-joins : (x : Var) (gs : List Var) (word : List ℕ) (n : ℤ) → Apart gs → IsWord (length (without_var x gs)) word → Joins x gs word n (joined x gs n (repeated (size_of n) word))
-joined-joins x gs word n apart is =
+pub joined-joins : (x : Var) (gs : List Var) {word : List ℕ} (n : ℤ) → Apart gs → IsWord (length (without_var x gs)) word → Joins x gs word n (joined x gs n (repeated (size_of n) word))
+joined-joins x gs {word} n apart is =
     let more = repeated_some word (size_of n) is.nonempty in
     let letters = repeated-letters (2 ^ length (without_var x gs)) word (size_of n) is.letters in
     record {

@@ -69,7 +69,7 @@ module _ (f : Tree) (e : ℕ → SetOf) (before budget : ℕ) (a : Automaton) wh
     plain = plain;
     reduced = reduced;
     few = few;
-    decides = λ d. Decides-no_set f (members e) (members d) a (plain-no_set f plain) made.decides;
+    decides = λ d. Decides-no_set (members d) (plain-no_set f plain) made.decides;
     within = λ d. FirstOver-no_set (steps f) (members e) (members d) budget (before + 1) 1 (steps-no_set f (plain-no_set f plain)) made.within;
   }
 
@@ -109,9 +109,9 @@ module _ {course : Course} {f : Tree} {old new : MemoState} where
   }
 
   -- it was to be entered, and nothing of its parts was looked up
-  pub stopped-inside : (e : ℕ → SetOf) (why : CompileError) → is_recalled course.recall f ≡ true → IsCompileError f e course.before old.budget why
+  pub stopped-inside : (e : ℕ → SetOf) {why : CompileError} → is_recalled course.recall f ≡ true → IsCompileError f e course.before old.budget why
       → IsStopped f (record course { recall = Nothing }) old new why → IsStopped f course old new why
-  stopped-inside e (Over step) recalled error h =
+  stopped-inside e {why = Over step} recalled error h =
       let number = FirstOver-number (steps f) (members e) old.budget (course.before + 1) step error in
       let at = h.number step refl in
       record {
@@ -120,7 +120,7 @@ module _ {course : Course} {f : Tree} {old new : MemoState} where
         number = h.number;
         after = subst (IsMemoAfter old new) (sym (recalled-later course.recall f h.done recalled (omega (arith, number, at)))) h.after;
       }
-  stopped-inside e Memory recalled error h = stopped-memory h.after
+  stopped-inside e {why = Memory} recalled error h = stopped-memory h.after
 
 -- a formula that is known
 pub after-known : (m : MemoState) (f : Tree) → Contains (known m) f → IsMemoAfter m (record m { found = counted m.found }) (f ∷ [])
@@ -171,8 +171,8 @@ module _ (budget found : ℕ) (items fields : List Entry) (m : MemoState) (same_
   view : state_of budget items found ≡ m
   view = subst (λ l. state_of budget l found ≡ m) (sym same_items) view_is
 
-  one_found : (f : Tree) (k : ℕ) → IsMemo (state_of budget fields found) → IsPlaceOf items f k → IsEntryAt m f k
-  one_found f k memo_fields at =
+  one_found : {f : Tree} {k : ℕ} → IsMemo (state_of budget fields found) → IsPlaceOf items f k → IsEntryAt m f k
+  one_found {k} memo_fields at =
       let memo : IsMemo (state_of budget items found) = subst (λ l. IsMemo (state_of budget l found)) (sym same_items) memo_fields in
       let here : IsEntryAt (state_of budget items found) (tree_of at.entry.formula) k = record {
         formula = at.entry.formula;
@@ -186,7 +186,7 @@ module _ (budget found : ℕ) (items fields : List Entry) (m : MemoState) (same_
   pub found_or_not : (f : Tree) (place : Option ℕ) → IsMemo (state_of budget fields found) → IfNone place (None_of f items) → IfSome place (IsPlaceOf items f)
       → MatchOption place (Contains (known m) f → ⊥) (IsEntryAt m f)
   found_or_not f None memo none some = λ there. not_known items f none (subst (λ n. Contains (known n) f) (sym view) there)
-  found_or_not f (Some k) memo none some = one_found f k memo some
+  found_or_not f (Some k) memo none some = one_found memo some
 
 module _ (budget found : ℕ) (items longer : List Entry) (m : MemoState) (en : Entry) (f : Tree) (view : state_of budget items found ≡ m) (pushed : longer ≡ items ++ en ∷ [])
     (some_room : length m.entries < 2 ^ 32 - 1) (tree : tree_of en.formula ≡ f) where

@@ -36,8 +36,8 @@ Holds-no_set (Ex x f) e d v none (n, h) = (n, Holds-no_set f e d (with_value v x
 says-no_set : (f : Tree) (e d : Sets) → symbols f ≡ [] → SameWords (length (free_vars f)) (Says f e) (Says f d)
 says-no_set f e d none word is = (Holds-no_set f e d _ none, Holds-no_set f d e _ none)
 
-pub Decides-no_set : (f : Tree) (e d : Sets) (a : Automaton) → symbols f ≡ [] → Decides a f e → Decides a f d
-Decides-no_set f e d a none h = record {
+pub Decides-no_set : {f : Tree} {e : Sets} (d : Sets) {a : Automaton} → symbols f ≡ [] → Decides a f e → Decides a f d
+Decides-no_set {f} {e} d none h = record {
   tracks = h.tracks;
   words = λ word is.
       let w = h.words word is in

@@ -59,10 +59,10 @@ same_letters k (l ∷ ls) (m ∷ ms) p q size h =
     let rest : ls ≡ ms = same_letters k ls ms (All-tail (λ l. l < 2 ^ k) l ls p) (All-tail (λ l. l < 2 ^ k) m ms q) less (λ t within. (parts t within).1) in
     ap (λ n. n ∷ ls) first ∙ ap (λ r. m ∷ r) rest
 
-same_word : (k : ℕ) (ps qs : List ℕ) → IsWord k ps → IsWord k qs → length ps ≡ length qs → ((t : ℕ) → t < k → val ps t ≡ val qs t) → ps ≡ qs
-same_word k [] qs p q size h = absurd (p.nonempty refl)
-same_word k (l ∷ ls) [] p q size h = absurd (q.nonempty refl)
-same_word k (l ∷ ls) (m ∷ ms) p q size h =
+same_word : {k : ℕ} {ps qs : List ℕ} → IsWord k ps → IsWord k qs → length ps ≡ length qs → ((t : ℕ) → t < k → val ps t ≡ val qs t) → ps ≡ qs
+same_word {ps = []} p q size h = absurd (p.nonempty refl)
+same_word {ps = l ∷ ls} {qs = []} p q size h = absurd (q.nonempty refl)
+same_word {k} {ps = l ∷ ls} {qs = m ∷ ms} p q size h =
     let less = shorter l m ls ms size in
     let parts : (t : ℕ) → t < k → (bit_at l t ≡ bit_at m t) × (low_value ls t ≡ low_value ms t) = λ t within.
     split_signed (low_value ls t) (bit_at l t) (low_value ms t) (bit_at m t) (2 ^ length ls) (bit_at-lt l t) (bit_at-lt m t) (low_value-below ls t) (rw (power_is ls ms less) (low_value-below ms t))
@@ -72,20 +72,20 @@ same_word k (l ∷ ls) (m ∷ ms) p q size h =
     ap (λ n. n ∷ ls) first ∙ ap (λ r. m ∷ r) rest
 
 -- an automaton that decides a set of integers takes no heed of how often a first letter stands
-accepts-repeated : (a : Automaton) (word : List ℕ) (n : ℕ) → DecidesIntegers a → IsWord (length a.tracks) word → Accepts a word ↔ Accepts a (repeated n word)
-accepts-repeated a word zero integers is = (λ h. h, λ h. h)
-accepts-repeated a word (suc n) integers is =
-    let rest = accepts-repeated a word n integers is in
-    let more = integers.stable (repeated n word) (IsWord-repeated (length a.tracks) word n is) in
+accepts-repeated : {a : Automaton} {word : List ℕ} (n : ℕ) → DecidesIntegers a → IsWord (length a.tracks) word → Accepts a word ↔ Accepts a (repeated n word)
+accepts-repeated zero integers is = (λ h. h, λ h. h)
+accepts-repeated {word} (suc n) integers is =
+    let rest = accepts-repeated n integers is in
+    let more = integers.stable (repeated n word) (IsWord-repeated n is) in
     (λ h. more.0 (rest.0 h), λ h. rest.1 (more.1 h))
 
 -- it accepts both or neither of two words that spell the same integers
-pub accepts-same : (a : Automaton) (v w : List ℕ) → DecidesIntegers a → IsWord (length a.tracks) v → IsWord (length a.tracks) w
+pub accepts-same : {a : Automaton} {v w : List ℕ} → DecidesIntegers a → IsWord (length a.tracks) v → IsWord (length a.tracks) w
     → ((t : ℕ) → t < length a.tracks → val v t ≡ val w t) → Accepts a v → Accepts a w
-accepts-same a v w integers is_v is_w values accepts =
+accepts-same {a} {v} {w} integers is_v is_w values accepts =
     let long_v = repeated_some v (length w) is_v.nonempty in
     let long_w = repeated_some w (length v) is_w.nonempty in
     let one : repeated (length w) v ≡ repeated (length v) w =
-    same_word (length a.tracks) (repeated (length w) v) (repeated (length v) w) (IsWord-repeated (length a.tracks) v (length w) is_v) (IsWord-repeated (length a.tracks) w (length v) is_w)
+    same_word (IsWord-repeated (length w) is_v) (IsWord-repeated (length v) is_w)
     (omega (arith, long_v.0, long_w.0)) (λ t within. val-repeated v t (length w) ∙ (values t within ∙ sym (val-repeated w t (length v)))) in
-    (accepts-repeated a w (length v) integers is_w).1 (subst (Accepts a) one ((accepts-repeated a v (length w) integers is_v).0 accepts))
+    (accepts-repeated (length v) integers is_w).1 (subst (Accepts a) one ((accepts-repeated (length w) integers is_v).0 accepts))

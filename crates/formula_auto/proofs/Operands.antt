@@ -28,22 +28,22 @@ use Rattle.formula_auto.proofs.PartLemmas.{one_automaton, part-after, same_few}
 use Rattle.formula_auto.proofs.WithMemo.{remembered_both}
 
 -- a product serves as the step
-pub step-And : (a b m : Automaton) (budget : ℕ) → IsProductWithin a b product.And budget m → IsStepWithin And a b budget m
-step-And a b m budget made = record {
+pub step-And : {a b m : Automaton} {budget : ℕ} → IsProductWithin a b product.And budget m → IsStepWithin And a b budget m
+step-And {a} {b} {m} made = record {
   decides = λ f g e left right. Decides-And (members e) f g a b m left right made.tracks made.words;
   few = made.few;
   within = made.within;
 }
 
-pub step-Or : (a b m : Automaton) (budget : ℕ) → IsProductWithin a b product.Or budget m → IsStepWithin Or a b budget m
-step-Or a b m budget made = record {
+pub step-Or : {a b m : Automaton} {budget : ℕ} → IsProductWithin a b product.Or budget m → IsStepWithin Or a b budget m
+step-Or {a} {b} {m} made = record {
   decides = λ f g e left right. Decides-Or (members e) f g a b m left right made.tracks made.words;
   few = made.few;
   within = made.within;
 }
 
-pub step-AndNot : (a b m : Automaton) (budget : ℕ) → IsProductWithin a b product.AndNot budget m → IsStepWithin AndNot a b budget m
-step-AndNot a b m budget made = record {
+pub step-AndNot : {a b m : Automaton} {budget : ℕ} → IsProductWithin a b product.AndNot budget m → IsStepWithin AndNot a b budget m
+step-AndNot {a} {b} {m} made = record {
   decides = λ f g e left right. Decides-AndNot (members e) f g a b m left right made.tracks made.words;
   few = made.few;
   within = made.within;

@@ -30,26 +30,26 @@ module _ (e : Sets) (f g : Tree) (a b m : Automaton) (left : Decides a f e) (rig
   tracks_is = tracks ∙ (ap (λ t. with_vars t b.tracks) left.tracks ∙ ap (λ t. with_vars (free_vars f) t) right.tracks)
 
   -- what an automaton of a part accepts of the part of a word
-  part_says : (h : Tree) (c : Automaton) → Decides c h e → (word : List ℕ) → IsWord (length (with_vars (free_vars f) (free_vars g))) word
+  part_says : {h : Tree} {c : Automaton} → Decides c h e → {word : List ℕ} → IsWord (length (with_vars (free_vars f) (free_vars g))) word
       → Accepts c (part_of m.tracks c.tracks word) ↔ Holds h e (word_values (with_vars (free_vars f) (free_vars g)) word)
-  part_says h c decides word is =
+  part_says {h} {c} decides {word} is =
       let all = with_vars (free_vars f) (free_vars g) in
       let same : part_of m.tracks c.tracks word ≡ part_of all (free_vars h) word =
       ap (λ t. part_of t c.tracks word) tracks_is ∙ ap (λ t. part_of all t word) decides.tracks in
       let holds = Holds-part h e all word in
-      let says = decides.words (part_of all (free_vars h) word) (IsWord-part all (free_vars h) word is) in
+      let says = decides.words (part_of all (free_vars h) word) (IsWord-part all (free_vars h) is) in
       (λ k. holds.1 (says.0 (subst (Accepts c) same k)), λ k. subst (Accepts c) (sym same) (says.1 (holds.0 k)))
 
-  over_tracks : (word : List ℕ) → IsWord (length (with_vars (free_vars f) (free_vars g))) word → IsWord (length m.tracks) word
-  over_tracks word is = subst (λ t. IsWord (length t) word) (sym tracks_is) is
+  over_tracks : {word : List ℕ} → IsWord (length (with_vars (free_vars f) (free_vars g))) word → IsWord (length m.tracks) word
+  over_tracks {word} is = subst (λ t. IsWord (length t) word) (sym tracks_is) is
 
   pub Decides-And : AcceptsBoth a b m → Decides m (And f g) e
   Decides-And words = record {
     tracks = tracks_is;
     words = λ word is.
-        let w = words word (over_tracks word is) in
-        let l = part_says f a left word is in
-        let r = part_says g b right word is in
+        let w = words word (over_tracks is) in
+        let l = part_says left is in
+        let r = part_says right is in
         (λ h. let p = w.0 h in (l.0 p.0, r.0 p.1), λ h. w.1 (l.1 h.0, r.1 h.1));
   }
 
@@ -57,9 +57,9 @@ module _ (e : Sets) (f g : Tree) (a b m : Automaton) (left : Decides a f e) (rig
   Decides-Or words = record {
     tracks = tracks_is;
     words = λ word is.
-        let w = words word (over_tracks word is) in
-        let l = part_says f a left word is in
-        let r = part_says g b right word is in
+        let w = words word (over_tracks is) in
+        let l = part_says left is in
+        let r = part_says right is in
         (λ h. elim (w.0 h) [ inl p ↦ inl (l.0 p) | inr p ↦ inr (r.0 p) ], λ h. w.1 (elim h [ inl p ↦ inl (l.1 p) | inr p ↦ inr (r.1 p) ]));
   }
 
@@ -67,15 +67,15 @@ module _ (e : Sets) (f g : Tree) (a b m : Automaton) (left : Decides a f e) (rig
   Decides-AndNot words = record {
     tracks = tracks_is;
     words = λ word is.
-        let w = words word (over_tracks word is) in
-        let l = part_says f a left word is in
-        let r = part_says g b right word is in
+        let w = words word (over_tracks is) in
+        let l = part_says left is in
+        let r = part_says right is in
         (λ h. let p = w.0 h in (l.0 p.0, λ holds. p.1 (r.1 holds)), λ h. w.1 (l.1 h.0, λ accepts. h.1 (r.0 accepts)));
   }
 
-pub Decides-Not : (e : Sets) (f : Tree) (a n : Automaton) → Decides a f e → n.tracks ≡ a.tracks
+pub Decides-Not : {e : Sets} {f : Tree} {a : Automaton} (n : Automaton) → Decides a f e → n.tracks ≡ a.tracks
     → ((word : List ℕ) → IsWord (length a.tracks) word → Accepts n word ↔ (¬ Accepts a word)) → Decides n (Not f) e
-Decides-Not e f a n decides tracks words = record {
+Decides-Not n decides tracks words = record {
   tracks = tracks ∙ decides.tracks;
   words = λ word is.
       let w = words word (subst (λ t. IsWord (length t) word) (sym decides.tracks) is) in

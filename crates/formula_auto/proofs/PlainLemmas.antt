@@ -104,8 +104,8 @@ Passes-append fs gs hs n m k (x ∷ xs) ys h further =
       | inr (unknown, rest) ↦ inr (unknown, Passes-append (with_entry fs x) gs hs n m k xs ys rest further)
     ]
 
-pub after-append : (a b c : MemoState) (xs ys : List Tree) → IsMemoAfter a b xs → IsMemoAfter b c ys → IsMemoAfter a c (xs ++ ys)
-after-append a b c xs ys first second = record {
+pub after-append : {a b c : MemoState} {xs ys : List Tree} → IsMemoAfter a b xs → IsMemoAfter b c ys → IsMemoAfter a c (xs ++ ys)
+after-append {a} {b} {c} {xs} {ys} first second = record {
   budget = second.budget ∙ first.budget;
   added = first.added ++ second.added;
   entries = second.entries ∙ (ap (λ l. l ++ second.added) first.entries ∙ append_assoc a.entries first.added second.added);
@@ -199,10 +199,10 @@ module _ {r : Recall} {h f g : Tree} (two : IsOfTwo r h f g) where
     -- the memo after so many steps of the second part
     after_some : (n : ℕ) → IsMemoAfter b c (recalled_within r g n) → IsMemoAfter a c (recalled_within r h (length (steps f) + n))
     after_some n right =
-        subst (IsMemoAfter a c) (two_right n (length (steps f) + n) refl) (after-append a b c (recalled_parts r f) (recalled_within r g n) left right)
+        subst (IsMemoAfter a c) (two_right n (length (steps f) + n) refl) (after-append left right)
 
     pub after_two : IsMemoAfter b c (recalled_parts r g) → IsMemoAfter a c (recalled_parts r h)
-    after_two right = subst (IsMemoAfter a c) two_all (after-append a b c (recalled_parts r f) (recalled_parts r g) left right)
+    after_two right = subst (IsMemoAfter a c) two_all (after-append left right)
 
 module _ {course : Course} {h f g : Tree} (two : IsOfTwo course.recall h f g) where
   pub stopped_left : {a b : MemoState} {why : CompileError} → IsStopped f course a b why → IsStopped h course a b why

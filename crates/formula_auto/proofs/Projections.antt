@@ -54,20 +54,20 @@ module _ (x : Var) (gs : List Var) (word lift : List ℕ) (is_lift : IsLift (wit
       sym (val-repeated word (place (without_var x gs) y) is_lift.times)
       ∙ (ap (λ w. val w (place (without_var x gs) y)) (sym is_lift.repeats) ∙ val-part gs (without_var x gs) y lift there)
 
-  at_track : (n : ℤ) → (IsOneOf x gs → val lift (place gs x) ≡ n) → (y : Var) → IsOneOf y gs → Cases y x
+  at_track : (n : ℤ) → (IsOneOf x gs → val lift (place gs x) ≡ n) → {y : Var} → IsOneOf y gs → Cases y x
       → with_value (word_values (without_var x gs) word) x n y.0 ≡ word_values gs lift y.0
-  at_track n value y one (Same is) =
+  at_track n value {y} one (Same is) =
       let same : y.0 == x.0 ≡ true = eq-eqb y.0 x.0 (ap (λ (v : Var). v.0) is) in
       let there : IsOneOf x gs = subst (λ v. IsOneOf v gs) is one in
       rw same (sym (value there) ∙ ap (λ v. val lift (place gs v)) (sym is))
-  at_track n value y one (Other other) =
+  at_track n value {y} one (Other other) =
       pick (y.0 == x.0) n (val word (place (without_var x gs) y)) (val lift (place gs y))
       (λ e. absurd (other (ap (λ n. record { 0 = n }) (eqb-true y.0 x.0 e))))
       (λ e. other_track y other one)
 
   -- a lift has the word's values with the one on x
   pub lift_values : (n : ℤ) → (IsOneOf x gs → val lift (place gs x) ≡ n) → (y : Var) → IsOneOf y gs → with_value (word_values (without_var x gs) word) x n y.0 ≡ word_values gs lift y.0
-  lift_values n value y one = at_track n value y one (cases_of y x)
+  lift_values n value y one = at_track n value one (cases_of y x)
 
 module _ (e : Sets) (x : Var) (g : Tree) (word lift : List ℕ) (n : ℤ) (is_lift : IsLift (without_var x (free_vars g)) (free_vars g) word lift)
     (value : IsOneOf x (free_vars g) → val lift (place (free_vars g) x) ≡ n) where
@@ -81,27 +81,27 @@ module _ (e : Sets) (x : Var) (g : Tree) (word lift : List ℕ) (n : ℤ) (is_li
   )
 
 -- some lift of the word is one of which the body holds
-pub Says-Ex : (e : Sets) (x : Var) (g : Tree) (word : List ℕ) → IsWord (length (without_var x (free_vars g))) word
+pub Says-Ex : (e : Sets) (x : Var) (g : Tree) {word : List ℕ} → IsWord (length (without_var x (free_vars g))) word
     → Says (Ex x g) e word ↔ ((lift : List ℕ) × IsLift (without_var x (free_vars g)) (free_vars g) word lift × Says g e lift)
-Says-Ex e x g word is = (
+Says-Ex e x g {word} is = (
   λ (n, h).
       let lift = joined x (free_vars g) n (repeated (size_of n) word) in
-      let joins = joined-joins x (free_vars g) word n (apart-free g) is in
+      let joins = joined-joins x (free_vars g) n (apart-free g) is in
       (lift, joins.is_lift, (says_lift e x g word lift n joins.is_lift joins.value).0 h),
   λ (lift, is_lift, says).
       (val lift (place (free_vars g) x), (says_lift e x g word lift (val lift (place (free_vars g) x)) is_lift (λ one. refl)).1 says),
 )
 
-pub Decides-Ex : (e : Sets) (x : Var) (g : Tree) (a m : Automaton) → Decides a g e → m.tracks ≡ without_var x a.tracks
+pub Decides-Ex : {e : Sets} (x : Var) {g : Tree} {a : Automaton} (m : Automaton) → Decides a g e → m.tracks ≡ without_var x a.tracks
     → AcceptsLifted a m
     → Decides m (Ex x g) e
-Decides-Ex e x g a m decides tracks words =
+Decides-Ex {e} x {g} {a} m decides tracks words =
     let tracks_is : m.tracks ≡ without_var x (free_vars g) = tracks ∙ ap (λ t. without_var x t) decides.tracks in
     record {
       tracks = tracks_is;
       words = λ word is.
           let w = words word (subst (λ t. IsWord (length t) word) (sym tracks_is) is) in
-          let says = Says-Ex e x g word is in (
+          let says = Says-Ex e x g is in (
             λ h. let (lift, is_lift, accepts) = w.0 h in
                 let there : IsLift (without_var x (free_vars g)) (free_vars g) word lift =
                 subst (λ t. IsLift t (free_vars g) word lift) tracks_is (subst (λ t. IsLift m.tracks t word lift) decides.tracks is_lift) in

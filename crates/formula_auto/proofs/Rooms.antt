@@ -60,22 +60,22 @@ record Fits (f : Tree) (sets : List Automaton) : Type 0 where
   pub few : (vars : List Var) → Apart vars → ((x : Var) → IsOneOf x vars → IsOneOf x (vars_of f)) → length vars ≤ MOST_TRACKS
   pub has_sets : HasSets sets f
 
-fits : (f : Tree) (sets : List Automaton) → IsCompilable f sets → Fits f sets
-fits f sets h = record {
+fits : {f : Tree} {sets : List Automaton} → IsCompilable f sets → Fits f sets
+fits {f} h = record {
   well_made = h.well_made;
   few = λ vars apart among. let less = length-among vars (vars_of f) apart among in omega (arith, less, h.few_vars);
   has_sets = h.has_sets;
 }
 
-fits-left : (f g : Tree) (sets : List Automaton) → Fits (And f g) sets → Fits f sets
-fits-left f g sets h = record {
+fits-left : (f g : Tree) {sets : List Automaton} → Fits (And f g) sets → Fits f sets
+fits-left f g {sets} h = record {
   well_made = h.well_made.0;
   few = λ vars apart among. h.few vars apart (λ z one. (one_of-with_vars z (vars_of f) (vars_of g)).1 (inl (among z one)));
   has_sets = All-left (λ m. IsSetFor sets m.0 (length m.1)) (memberships f) (memberships g) h.has_sets;
 }
 
-fits-right : (f g : Tree) (sets : List Automaton) → Fits (And f g) sets → Fits g sets
-fits-right f g sets h = record {
+fits-right : (f g : Tree) {sets : List Automaton} → Fits (And f g) sets → Fits g sets
+fits-right f g {sets} h = record {
   well_made = h.well_made.1;
   few = λ vars apart among. h.few vars apart (λ z one. (one_of-with_vars z (vars_of f) (vars_of g)).1 (inr (among z one)));
   has_sets = All-right (λ m. IsSetFor sets m.0 (length m.1)) (memberships f) (memberships g) h.has_sets;
@@ -95,27 +95,27 @@ free_among (Or f g) z h =
     (elim ((one_of-with_vars z (free_vars f) (free_vars g)).0 h) [ inl l ↦ inl (free_among f z l) | inr r ↦ inr (free_among g z r) ])
 free_among (Ex x f) z h = (one_of-with_var z x (vars_of f)).1 (inr (free_among f z ((one_of-without_var z x (free_vars f)).0 h).1))
 
-few_tracks : (f g : Tree) (sets : List Automaton) → Fits (And f g) sets → length (with_vars (free_vars f) (free_vars g)) ≤ MOST_TRACKS
-few_tracks f g sets h = h.few (with_vars (free_vars f) (free_vars g)) (apart-free (And f g)) (free_among (And f g))
+few_tracks : (f g : Tree) {sets : List Automaton} → Fits (And f g) sets → length (with_vars (free_vars f) (free_vars g)) ≤ MOST_TRACKS
+few_tracks f g h = h.few (with_vars (free_vars f) (free_vars g)) (apart-free (And f g)) (free_among (And f g))
 
-fits-ready : (f : Tree) (sets : List Automaton) → Fits f sets → IsReady f sets
-fits-ready (Lin terms rel bound) sets h = h.well_made
-fits-ready (Value x n) sets h = tt
-fits-ready (Among number vars) sets h = h.has_sets 0 (number, vars) (omega arith)
-fits-ready (Not f) sets h = fits-ready f sets (record { well_made = h.well_made; few = h.few; has_sets = h.has_sets })
-fits-ready (And f g) sets h = (few_tracks f g sets h, fits-ready f sets (fits-left f g sets h), fits-ready g sets (fits-right f g sets h))
-fits-ready (Or f g) sets h =
+fits-ready : {f : Tree} {sets : List Automaton} → Fits f sets → IsReady f sets
+fits-ready {f = Lin terms rel bound} h = h.well_made
+fits-ready {f = Value x n} h = tt
+fits-ready {f = Among number vars} h = h.has_sets 0 (number, vars) (omega arith)
+fits-ready {f = Not f} {sets} h = fits-ready {f = f} {sets = sets} (record { well_made = h.well_made; few = h.few; has_sets = h.has_sets })
+fits-ready {f = And f g} h = (few_tracks f g h, fits-ready (fits-left f g h), fits-ready (fits-right f g h))
+fits-ready {f = Or f g} {sets} h =
     let both : Fits (And f g) sets = record { well_made = h.well_made; few = h.few; has_sets = h.has_sets } in
-    (few_tracks f g sets both, fits-ready f sets (fits-left f g sets both), fits-ready g sets (fits-right f g sets both))
-fits-ready (Ex x f) sets h = fits-ready f sets (record {
+    (few_tracks f g both, fits-ready (fits-left f g both), fits-ready (fits-right f g both))
+fits-ready {f = Ex x f} {sets} h = fits-ready {f = f} {sets = sets} (record {
   well_made = h.well_made;
   few = λ vars apart among. h.few vars apart (λ z one. (one_of-with_var z x (vars_of f)).1 (inr (among z one)));
   has_sets = h.has_sets;
 })
 
 -- what may be compiled has parts that may
-pub ready : (f : Tree) (sets : List Automaton) → IsCompilable f sets → IsReady f sets
-ready f sets h = fits-ready f sets (fits f sets h)
+pub ready : {f : Tree} {sets : List Automaton} → IsCompilable f sets → IsReady f sets
+ready h = fits-ready (fits h)
 
 module _ (sets : List Automaton) (number : ℕ) (vars : List Var) (named : IsSetFor sets number (length vars)) where
   -- the set that is named has a track for each variable, and decides a set of integers

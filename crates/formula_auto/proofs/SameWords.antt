@@ -13,8 +13,8 @@ use Rattle.auto_reduce.proofs.Leads as leads
 pub IsWord-append : (k : ℕ) (v letters : List ℕ) → IsWord k v → All (λ l. l < 2 ^ k) letters → IsWord k (v ++ letters)
 IsWord-append = leads.IsWord-append
 
-pub IsWord-part : (all some : List Var) (v : List ℕ) → IsWord (length all) v → IsWord (length some) (part_of all some v)
-IsWord-part all some v is = record {
+pub IsWord-part : (all some : List Var) {v : List ℕ} → IsWord (length all) v → IsWord (length some) (part_of all some v)
+IsWord-part all some {v} is = record {
   nonempty = not_nil-map (restrict all some) v is.nonempty;
   letters = All-map (λ l. l < 2 ^ length some) (restrict all some) v
       (All-weaker (λ l. l < 2 ^ length all) (λ l. restrict all some l < 2 ^ length some) (λ l h. restrict-below all some l) v is.letters);
@@ -24,8 +24,8 @@ IsWord-part all some v is = record {
 abbrev pub SameWords : ℕ → (List ℕ → Type 0) → (List ℕ → Type 0) → Type 0
 SameWords k F G = (word : List ℕ) → IsWord k word → F word ↔ G word
 
-pub SameResidual-same : (k : ℕ) (F G : List ℕ → Type 0) (v w : List ℕ) → SameWords k F G → IsWord k v → IsWord k w → SameResidual k G v w → SameResidual k F v w
-SameResidual-same k F G v w same is_v is_w h = record {
+pub SameResidual-same : {k : ℕ} (F : List ℕ → Type 0) {G : List ℕ → Type 0} {v w : List ℕ} → SameWords k F G → IsWord k v → IsWord k w → SameResidual k G v w → SameResidual k F v w
+SameResidual-same {k} F {G = G} {v} {w} same is_v is_w h = record {
   same = λ letters are.
       let at_v = same (v ++ letters) (IsWord-append k v letters is_v are) in
       let at_w = same (w ++ letters) (IsWord-append k w letters is_w are) in
@@ -46,14 +46,14 @@ pub BothSpread-same : (fs gs : List Var) (F F' G G' : List ℕ → Type 0) (budg
 BothSpread-same fs gs F F' G G' budget same_f same_g h =
     more_classes (length (with_vars fs gs)) (AlikeInBoth (with_vars fs gs) fs gs F G) (AlikeInBoth (with_vars fs gs) fs gs F' G') budget
     (λ v w is_v is_w alike. record {
-      left = SameResidual-same (length fs) F F' _ _ same_f (IsWord-part (with_vars fs gs) fs v is_v) (IsWord-part (with_vars fs gs) fs w is_w) alike.left;
-      right = SameResidual-same (length gs) G G' _ _ same_g (IsWord-part (with_vars fs gs) gs v is_v) (IsWord-part (with_vars fs gs) gs w is_w) alike.right;
+      left = SameResidual-same F same_f (IsWord-part (with_vars fs gs) fs is_v) (IsWord-part (with_vars fs gs) fs is_w) alike.left;
+      right = SameResidual-same G same_g (IsWord-part (with_vars fs gs) gs is_v) (IsWord-part (with_vars fs gs) gs is_w) alike.right;
     }) h
 
 lifts_same : (some gs : List Var) (G G' : List ℕ → Type 0) (v w : List ℕ) → SameWords (length gs) G G' → LiftsInto some gs G' v w → LiftsInto some gs G v w
 lifts_same some gs G G' v w same h x lift =
     let (y, lifts, alike) = h x lift in
-    (y, lifts, SameResidual-same (length gs) G G' x y same lift.is_word lifts.is_word alike)
+    (y, lifts, SameResidual-same G same lift.is_word lifts.is_word alike)
 
 pub ExSpread-same : (x : Var) (gs : List Var) (G G' : List ℕ → Type 0) (budget : ℕ) → SameWords (length gs) G G' → ExSpreadExceeds x gs G budget → ExSpreadExceeds x gs G' budget
 ExSpread-same x gs G G' budget same h =

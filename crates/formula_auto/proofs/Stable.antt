@@ -18,12 +18,12 @@ says-again f e word = (
   coincide f e (word_values (free_vars f) (repeat_first word)) (word_values (free_vars f) word) (λ x is. val-repeated word (place (free_vars f) x) 1),
 )
 
-pub Decides-integers : (f : Tree) (e : Sets) (a : Automaton) → Decides a f e → DecidesIntegers a
-Decides-integers f e a decides = record {
+pub Decides-integers : {f : Tree} {e : Sets} {a : Automaton} → Decides a f e → DecidesIntegers a
+Decides-integers {f} {e} decides = record {
   stable = λ word is.
       let over : IsWord (length (free_vars f)) word = subst (λ t. IsWord (length t) word) decides.tracks is in
       let once = decides.words word over in
-      let twice = decides.words (repeat_first word) (IsWord-again (length (free_vars f)) word over) in
+      let twice = decides.words (repeat_first word) (IsWord-again over) in
       let says = says-again f e word in
       (λ h. twice.1 (says.0 (once.0 h)), λ h. once.1 (says.1 (twice.0 h)));
 }

@@ -70,13 +70,13 @@ cases_at x y false e = Other (λ is. let t : x.0 == y.0 ≡ true = eq-eqb x.0 y.
 pub cases_of : (x y : Var) → Cases x y
 cases_of x y = cases_at x y (x.0 == y.0) refl
 
-restrict_cases : (all : List Var) (x : Var) (some : List Var) (y : Var) (letter : ℕ) → IsOneOf y (x ∷ some) → Cases y x
+restrict_cases : (all : List Var) {x : Var} (some : List Var) {y : Var} (letter : ℕ) → IsOneOf y (x ∷ some) → Cases y x
     → (IsOneOf y some → bit_at (restrict all some letter) (place some y) ≡ bit_at letter (place all y))
     → bit_at (restrict all (x ∷ some) letter) (place (x ∷ some) y) ≡ bit_at letter (place all y)
-restrict_cases all x some y letter h (Same is) rest =
+restrict_cases all {x} some {y} letter h (Same is) rest =
     ap (λ k. bit_at (restrict all (x ∷ some) letter) k) (place-here y x some is)
     ∙ (bit_at-first (bit_at letter (place all x)) (restrict all some letter) (bit_at-lt letter (place all x)) ∙ ap (λ v. bit_at letter (place all v)) (sym is))
-restrict_cases all x some y letter h (Other other) rest =
+restrict_cases all {x} some {y} letter h (Other other) rest =
     ap (λ k. bit_at (restrict all (x ∷ some) letter) k) (place-later y x some other)
     ∙ (bit_at-rest (bit_at letter (place all x)) (restrict all some letter) (place some y) (bit_at-lt letter (place all x))
     ∙ rest (elim h [ inl is ↦ absurd (other is) | inr k ↦ k ]))
@@ -84,7 +84,7 @@ restrict_cases all x some y letter h (Other other) rest =
 -- a letter over some tracks has the bits of the letter over all
 pub bit_at-restrict : (all some : List Var) (y : Var) (letter : ℕ) → IsOneOf y some → bit_at (restrict all some letter) (place some y) ≡ bit_at letter (place all y)
 bit_at-restrict all [] y letter h = absurd h
-bit_at-restrict all (x ∷ some) y letter h = restrict_cases all x some y letter h (cases_of y x) (bit_at-restrict all some y letter)
+bit_at-restrict all (x ∷ some) y letter h = restrict_cases all some letter h (cases_of y x) (bit_at-restrict all some y letter)
 
 same_bits-part : (all some : List Var) (y : Var) (word : List ℕ) → IsOneOf y some → SameBits (part_of all some word) (place some y) word (place all y)
 same_bits-part all some y [] h = tt

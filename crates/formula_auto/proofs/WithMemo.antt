@@ -70,7 +70,7 @@ module _ {e : ℕ → SetOf} {course : Course} {f : Tree} {m0 m1 : MemoState} wh
       pub remembered_ex : {c : Automaton} → DecidesEx x a c → (ForgettingExceeds x a m1.budget → ⊥) → IsRemembered (Ex x f) e course m0 m1 c (last + 1)
       remembered_ex {c = c} decides none = record {
         counts = omega (arith, part.counts, length-append (steps f) (Ex x f ∷ []));
-        made = made_ex e m0.budget course.before x f a part.made c (decides f e part.made.decides)
+        made = made_ex e m0.budget course.before x f a part.made (decides f e part.made.decides)
             (subst (λ b. ForgettingExceeds x a b → ⊥) part.after.budget none);
         after = after_one (of_one-ex course.recall x f outside) part.after;
       }
@@ -121,7 +121,7 @@ module _ (pair : Pair) {e : ℕ → SetOf} {course : Course} {m0 m1 : MemoState}
       pub remembered_both : {c : Automaton} → DecidesBoth pair.connective a b c → (StepExceeds a b m2.budget → ⊥) → IsRemembered (connected pair) e course m0 m2 c (end + 1)
       remembered_both {c = c} decides none = record {
         counts = omega (arith, left.counts, right.counts, size-connect pair.connective (left_of pair) (right_of pair));
-        made = made_both e m0.budget course.before pair.connective (left_of pair) (right_of pair) a last left.counts left.made b end right.counts right_made c
+        made = made_both e m0.budget course.before pair.connective (left_of pair) (right_of pair) a last left.counts left.made b end right.counts right_made
             (decides (left_of pair) (right_of pair) e left.made.decides right.made.decides) (subst (λ n. StepExceeds a b n → ⊥) same_budget none);
         after = after_two (of_pair course.recall pair outside one) left.after right.after;
       }
@@ -163,14 +163,14 @@ module _ {e : ℕ → SetOf} {course : Course} {f : Tree} {m : MemoState} where
 -- nothing of its parts was looked up, and it is to be entered
 module _ (course : Course) {e : ℕ → SetOf} {f : Tree} {m m1 : MemoState} (recalled : is_recalled course.recall f ≡ true) where
   pub interrupted_inside : {why : CompileError} → IsInterrupted f e (record course { recall = Nothing }) m m1 why → IsInterrupted f e course m m1 why
-  interrupted_inside {why = why} part = record { error = part.error; stopped = stopped-inside e why recalled part.error part.stopped }
+  interrupted_inside {why = why} part = record { error = part.error; stopped = stopped-inside e recalled part.error part.stopped }
 
   module _ {a : Automaton} {last : ℕ} (made : IsRemembered f e (record course { recall = Nothing }) m m1 a last) where
     pub remembered_entered : {new : MemoState} {c : Automaton} → AcceptSame a c → IsMemoAfter m1 new (f ∷ []) → IsRemembered f e course m new c last
     remembered_entered {new = new} same entered = record {
       counts = made.counts;
       made = made_same same made.made;
-      after = subst (IsMemoAfter m new) (sym (recalled-itself course.recall f recalled)) (after-append m m1 new [] (f ∷ []) made.after entered);
+      after = subst (IsMemoAfter m new) (sym (recalled-itself course.recall f recalled)) (after-append made.after entered);
     }
 
     pub may_enter : {c : Automaton} → AcceptSame a c → IsReduced c → length c.accept ≤ m.budget → IsEntry m1.budget f c
@@ -182,8 +182,8 @@ module _ (course : Course) {e : ℕ → SetOf} {f : Tree} {m m1 : MemoState} (re
     unknown_still unknown there = unknown (subst (λ fs. Contains fs f) made.after.passes.0 there)
 
 -- counted from the first step
-pub stopped-first : (f : Tree) (old new : MemoState) (why : CompileError) → IsStopped f (start Plain) old new why → IsMemoStopped old new f why
-stopped-first f old new (Over step) h =
+pub stopped-first : {f : Tree} {old new : MemoState} {why : CompileError} → IsStopped f (start Plain) old new why → IsMemoStopped old new f why
+stopped-first {f} {old} {new} {why = Over step} h =
     let at : h.done ≡ step - 1 = (let number = h.number step refl in omega (arith, number)) in
     subst (λ n. IsMemoAfter old new (plain_within f n)) at h.after
-stopped-first f old new Memory h = (h.done, h.after)
+stopped-first {why = Memory} h = (h.done, h.after)

@@ -163,7 +163,7 @@ module _ (p : Position) (c : IsChecked p) (i : ℕ) (z : Square) (q : Position) 
       (λ flat. steps_distance b c.square r.dx r.dy d t (sym e ∙ one.on.leads.leads))
   far_answer far (inr h) other_man =
       let d = (ray_is l.step.man.side l.step.man.kind one.number r one.on.is_ray).direction far in
-      let w : IsOnWay c.square c.king_square z = on_way c.square c.king_square z h.1 in
+      let w : IsOnWay c.square c.king_square z = on_way h.1 in
       ap (λ f. steps_to f (off_line r.dx r.dy c.square c.king_square) (off_line (b.x -ℤ c.square.x) (b.y -ℤ c.square.y) c.square c.king_square) (distance b c.square)) far
       ∙ steps_are _ _ _ t
       (off_is c.square c.king_square b z r.dx r.dy t w.part d line_direction one.on.leads.leads w.is)
@@ -183,7 +183,7 @@ module _ (p : Position) (c : IsChecked p) (i : ℕ) (z : Square) (q : Position) 
       elim (true_or_not r.far) [
         | inl far ↦
             let other_man = not_king (slider_not_king (far_slider l.step.man.side l.step.man.kind one.number r one.on.is_ray far)) in
-            far_answer far (answers p c i z q sound l other_man) other_man
+            far_answer far (answers c sound l other_man) other_man
         | inr near ↦
             ap (λ f. steps_to f (off_line r.dx r.dy c.square c.king_square) (off_line (b.x -ℤ c.square.x) (b.y -ℤ c.square.y) c.square c.king_square) (distance b c.square)) near
             ∙ sym (one.on.leads.one near)
@@ -196,8 +196,8 @@ any_ray : (P : Ray → Type 0) (k : Kind) (s : Side) (n : ℕ) (r : Ray) → ray
 any_ray P k s n r is h = (n, r, slice_get_within (rays_of k s) n r is, get_or_from_slice_get (rays_of k s) n r r is, h)
 
 -- a legal move in check goes to one of the few squares
-pub answer_found : (p : Position) (c : IsChecked p) (i : ℕ) (z : Square) (q : Position) → Sound p → Legal p i z q → HasAnswer p c.square c.king_square i
-answer_found p c i z q sound l =
+pub answer_found : {p : Position} (c : IsChecked p) {i : ℕ} {z : Square} {q : Position} → Sound p → Legal p i z q → HasAnswer p c.square c.king_square i
+answer_found {p} c {i} {z} {q} sound l =
     let w = some_and (square_of l.step.man) _ (step_one p i z q l.step) in
     let one : IsOnOneRay p l.step.man w.0 z = w.2 in
     there_of p i l.step.man w.0 (λ m b. Any (λ r. CanGo p i (answer_square c.square c.king_square b r)) (rays_of m.kind m.side)) l.step.is_man w.1
@@ -269,6 +269,6 @@ module _ (p : Position) (a k : Square) (h : IsCheckFrom p a k) where
       check = in_check;
       stuck = λ i z q l.
           let c = checked_from in
-          none i (subst (λ a. HasAnswer p a k i) c.1 (subst (λ k. HasAnswer p c.0.square k i) c.2 (answer_found p c.0 i z q sound l)));
+          none i (subst (λ a. HasAnswer p a k i) c.1 (subst (λ k. HasAnswer p c.0.square k i) c.2 (answer_found c.0 sound l)));
     },
   )

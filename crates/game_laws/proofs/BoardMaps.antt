@@ -184,10 +184,10 @@ exchange_undone =
     }
 
 pub shift_keeps : (dx dy : ℤ) → KeepsGame (shift dx dy)
-shift_keeps dx dy = keeps_game (shift dx dy) (shift (negated dx) (negated dy)) (shift_undone dx dy)
+shift_keeps dx dy = keeps_game (shift_undone dx dy)
 
 pub reflection_keeps : KeepsGame reflection
-reflection_keeps = keeps_game reflection reflection reflection_undone
+reflection_keeps = keeps_game reflection_undone
 
 pub exchange_keeps : KeepsGame colour_exchange
-exchange_keeps = keeps_game colour_exchange colour_exchange exchange_undone
+exchange_keeps = keeps_game exchange_undone

@@ -66,7 +66,7 @@ module _ (p : Position) (c : IsChecked p) (i : ℕ) (z : Square) (q : Position) 
   king_stays : i ≢ c.king_number → man_at q c.king_number ≡ Some c.king
   king_stays ne =
       let k = at_same p q c.king_number c.king l.step.after.same_count c.king_is in
-      let f : Fate i z c.king_number c.king k.0 = fate p i z q l.step.after c.king_number c.king k.0 c.king_is k.1 in
+      let f : Fate i z c.king_number c.king k.0 = fate l.step.after c.king_number c.king k.0 c.king_is k.1 in
       elim f [
         | moved e is ↦ absurd (ne (sym e))
         | taken e s is ↦ absurd (king_not_taken p i z q sound l.step c.king_number c.king c.king_is c.king_kind s)
@@ -83,7 +83,7 @@ module _ (p : Position) (c : IsChecked p) (i : ℕ) (z : Square) (q : Position) 
   checker_stays : z ≢ c.square → man_at q c.number ≡ Some c.checker
   checker_stays ne =
       let k = at_same p q c.number c.checker l.step.after.same_count c.checker_is in
-      let f : Fate i z c.number c.checker k.0 = fate p i z q l.step.after c.number c.checker k.0 c.checker_is k.1 in
+      let f : Fate i z c.number c.checker k.0 = fate l.step.after c.number c.checker k.0 c.checker_is k.1 in
       elim f [
         | moved e is ↦ absurd (not_checker e)
         | taken e s is ↦ absurd (ne (one_square c.checker c.square z c.there s))
@@ -94,7 +94,7 @@ module _ (p : Position) (c : IsChecked p) (i : ℕ) (z : Square) (q : Position) 
   stays_open a k clear off =
       λ j d within.
       let before : j < length p.men = omega (arith, within, l.step.after.same_count) in
-      after_each p i z q l.step.after j d before (λ m. IsLiveAnd m (IsBetween a k) → ⊥) (λ e. off) (λ ne s h. h) (λ ne s. clear j d before)
+      after_each l.step.after j d before (λ m. IsLiveAnd m (IsBetween a k) → ⊥) (λ e. off) (λ ne s h. h) (λ ne s. clear j d before)
 
   -- a legal move of another man than the king is to the checker's square or between
   pub not_elsewhere : i ≢ c.king_number → z ≢ c.square → (IsSlider c.checker.kind → IsBetween c.square c.king_square z → ⊥) → ⊥

@@ -146,7 +146,7 @@ is_on_way a b z =
 pub between : (a b z : Square) → Decided (IsBetween a b z)
 between a b z =
     map_decided (IsAligned a b × IsOnWay a b z) (IsBetween a b z)
-    (λ h. way_between a b z h.0 h.1) (λ h. (aligned a b z h, on_way a b z h))
+    (λ h. way_between h.0 h.1) (λ h. (aligned h, on_way h))
     (both _ _ (square_same b (toward a b (distance a b))) (is_on_way a b z))
 
 pub is_open : (p : Position) (a b : Square) → Decided (IsOpen p a b)
@@ -264,18 +264,18 @@ is_after p j z =
 
 -- a legal move of this man to z leads to the position after
 module _ (p : Position) (j : ℕ) (z : Square) (m : Man) (is : slice_get p.men j ≡ Some m) where
-  his_man : (q : Position) (l : Legal p (suc j) z q) → l.step.man ≡ m
-  his_man q l = same_Some l.step.man m (sym l.step.is_man ∙ is)
+  his_man : {q : Position} (l : Legal p (suc j) z q) → l.step.man ≡ m
+  his_man l = same_Some l.step.man m (sym l.step.is_man ∙ is)
 
   abbrev Parts : Type 0
   Parts = (m.side ≡ p.turn) × (IsHeldBy p p.turn z → ⊥) × Goes p m z × (InCheck (position_after p j z) p.turn → ⊥)
 
   parts_of : CanGo p (suc j) z → Parts
   parts_of (q, l) = (
-    subst (λ n. n.side ≡ p.turn) (his_man q l) l.step.his_turn,
+    subst (λ n. n.side ≡ p.turn) (his_man l) l.step.his_turn,
     l.step.not_own,
-    subst (λ n. Goes p n z) (his_man q l) l.step.goes,
-    subst (λ r. InCheck r p.turn → ⊥) (same_after p (suc j) z q (position_after p j z) l.step.after (is_after p j z)) l.safe,
+    subst (λ n. Goes p n z) (his_man l) l.step.goes,
+    subst (λ r. InCheck r p.turn → ⊥) (same_after l.step.after (is_after p j z)) l.safe,
   )
 
   of_parts : Parts → CanGo p (suc j) z

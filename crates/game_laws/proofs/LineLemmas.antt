@@ -88,8 +88,8 @@ pub record IsOnWay (a b z : Square) : Type 0 where
   pub fewer : part < distance a b
   pub is : z ≡ toward a b part
 
-pub on_way : (a b z : Square) → IsBetween a b z → IsOnWay a b z
-on_way a b z h =
+pub on_way : {a b z : Square} → IsBetween a b z → IsOnWay a b z
+on_way {a} {b} h =
     record {
       part = h.part;
       begun = h.begun;
@@ -101,8 +101,8 @@ on_way a b z h =
 abbrev pub IsAligned : Square → Square → Type 0
 IsAligned a b = b ≡ toward a b (distance a b)
 
-pub aligned : (a b z : Square) → IsBetween a b z → IsAligned a b
-aligned a b z h =
+pub aligned : {a b z : Square} → IsBetween a b z → IsAligned a b
+aligned {a} {b} h =
     h.to_b
     ∙ steps_toward a b h.dx h.dy h.direction h.whole h.to_b (omega (arith, h.begun, h.fewer)) h.whole
     ∙ ap (toward a b) (sym (steps_distance a b h.dx h.dy h.direction h.whole h.to_b))
@@ -122,8 +122,8 @@ toward_direction a b far = sign_direction (b.x -ℤ a.x) (b.y -ℤ a.y) far
     sign_direction (negsuc m) (pos (suc n)) h = omega arith
     sign_direction (negsuc m) (negsuc n) h = omega arith
 
-pub way_between : (a b z : Square) → IsAligned a b → IsOnWay a b z → IsBetween a b z
-way_between a b z line h =
+pub way_between : {a b z : Square} → IsAligned a b → IsOnWay a b z → IsBetween a b z
+way_between {a} {b} line h =
     record {
       dx = toward_x a b;
       dy = toward_y a b;

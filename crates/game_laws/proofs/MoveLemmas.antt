@@ -47,11 +47,11 @@ module _ (p : Position) (i : ℕ) (z : Square) (q : Position) (after : IsAfter p
       after.others (suc k) (get_or p.men k d) (get_or q.men k d) ne (slice_get-get_or p.men k d within) (slice_get-get_or q.men k d there)
 
 -- a property of each man after a move, by the three cases
-pub after_each : (p : Position) (i : ℕ) (z : Square) (q : Position) → IsAfter p i z q → (k : ℕ) (d : Man) → k < length p.men → (P : Man → Type 0)
+pub after_each : {p : Position} {i : ℕ} {z : Square} {q : Position} → IsAfter p i z q → (k : ℕ) (d : Man) → k < length p.men → (P : Man → Type 0)
     → (suc k ≡ i → P (record (get_or p.men k d) { place = At z.x z.y }))
     → (suc k ≢ i → StandsOn (get_or p.men k d) z → P (record (get_or p.men k d) { place = Gone }))
     → (suc k ≢ i → (StandsOn (get_or p.men k d) z → ⊥) → P (get_or p.men k d)) → P (get_or q.men k d)
-after_each p i z q after k d within P mover taken kept =
+after_each {p} {i} {z} {q} after k d within P mover taken kept =
     elim (eqb_tells (suc k) i) [
       | inl e ↦ subst P (sym (after_mover p i z q after k d within e.1)) (mover e.1)
       | inr e ↦ elim (stands_or_not (get_or p.men k d) z) [
@@ -61,11 +61,11 @@ after_each p i z q after k d within P mover taken kept =
     ]
 
 -- a move leads to one position
-pub same_after : (p : Position) (i : ℕ) (z : Square) (q r : Position) → IsAfter p i z q → IsAfter p i z r → q ≡ r
-same_after p i z q r to_q to_r =
+pub same_after : {p : Position} {i : ℕ} {z : Square} {q r : Position} → IsAfter p i z q → IsAfter p i z r → q ≡ r
+same_after {p} {i} {z} {q} {r} to_q to_r =
     let men : q.men ≡ r.men = same_lists q.men r.men (to_q.same_count ∙ sym to_r.same_count) (λ k d h.
     let within : k < length p.men = omega (arith, to_q.same_count, h) in
-    after_each p i z q to_q k d within (λ m. m ≡ get_or r.men k d)
+    after_each to_q k d within (λ m. m ≡ get_or r.men k d)
     (λ e. sym (after_mover p i z r to_r k d within e))
     (λ ne s. sym ((after_other p i z r to_r k d within ne).taken s))
     (λ ne n. sym ((after_other p i z r to_r k d within ne).kept n))) in

@@ -24,8 +24,8 @@ is_offset : (a z d : ℤ) → z -ℤ a ≡ d → z ≡ a +ℤ d
 is_offset a z d h = omega (arith, ints, h)
 
 -- where a ray reaches an offset, it leads there
-pub reached_at : (s : Side) (k : Kind) (a z : Square) (r : IsReached s k (z.x -ℤ a.x) (z.y -ℤ a.y)) → IsAt r.ray r.times a z
-reached_at s k a z r =
+pub reached_at : {s : Side} {k : Kind} (a z : Square) (r : IsReached s k (z.x -ℤ a.x) (z.y -ℤ a.y)) → IsAt r.ray r.times a z
+reached_at a z r =
     record {
       begun = r.begun;
       one = r.one;
@@ -40,9 +40,9 @@ pub slider_far : (s : Side) (k : Kind) (n : ℕ) (r : Ray) → ray_of k s n ≡ 
 slider_far s k n r is slider = elim (true_or_not r.far) [ inl far ↦ far | inr near ↦ absurd ((ray_is s k n r is).leaper near slider) ]
 
 -- a man reaches what his rays of captures lead to
-pub reach_at : (s : Side) (k : Kind) (n : ℕ) (r : Ray) (t : ℕ) (a z : Square) → ray_of k s n ≡ Some r
+pub reach_at : (s : Side) (k : Kind) (n : ℕ) {r : Ray} {t : ℕ} {a z : Square} → ray_of k s n ≡ Some r
     → IsTrue (serves_captures k n) → IsAt r t a z → HasReach s k (z.x -ℤ a.x) (z.y -ℤ a.y)
-reach_at s k n r t a z is serves h =
+reach_at s k n {r} {t} {a} {z} is serves h =
     subst (λ d. HasReach s k d (z.y -ℤ a.y)) (sym (offset_of a.x z.x (pos t *ℤ r.dx) (ap (λ b. b.x) h.leads)))
     (subst (λ d. HasReach s k (pos t *ℤ r.dx) d) (sym (offset_of a.y z.y (pos t *ℤ r.dy) (ap (λ b. b.y) h.leads))) ((ray_is s k n r is).reaches serves t h.begun h.one))
 
@@ -106,7 +106,7 @@ borne p m a z reach clear =
       ray = r.ray;
       is_ray = r.is_ray;
       serves = r.serves;
-      along = (r.times, reached_at m.side m.kind a z r);
+      along = (r.times, reached_at a z r);
       clear = λ far. clear (far_slider m.side m.kind r.number r.ray r.is_ray far);
     }
 
@@ -120,7 +120,7 @@ borne_bears p m z h =
     let w = some_and (square_of m) _ h in
     let b : IsBorneAlong p m w.0 z = w.2 in
     live_at m w.0 (λ a. HasReach m.side m.kind (z.x -ℤ a.x) (z.y -ℤ a.y) × (IsSlider m.kind → IsOpen p a z)) w.1
-    (reach_at m.side m.kind b.number b.ray b.along.0 w.0 z b.is_ray b.serves b.along.1, λ slider. b.clear (slider_far m.side m.kind b.number b.ray b.is_ray slider))
+    (reach_at m.side m.kind b.number b.is_ray b.serves b.along.1, λ slider. b.clear (slider_far m.side m.kind b.number b.ray b.is_ray slider))
 
 -- a square is not both held and empty
 held_empty : (p : Position) (s : Side) (z : Square) → IsHeldBy p s z → IsEmptySquare p z → ⊥

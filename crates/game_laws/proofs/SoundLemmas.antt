@@ -30,8 +30,8 @@ at_same p q (suc k) m same is =
     let within : k < length q.men = omega (arith, same, slice_get_within p.men k m is) in
     (get_or q.men k m, slice_get-get_or q.men k m within)
 
-pub fate : (p : Position) (i : ℕ) (z : Square) (q : Position) → IsAfter p i z q → (k : ℕ) (m n : Man) → man_at p k ≡ Some m → man_at q k ≡ Some n → Fate i z k m n
-fate p i z q after k m n was is =
+pub fate : {p : Position} {i : ℕ} {z : Square} {q : Position} → IsAfter p i z q → (k : ℕ) (m n : Man) → man_at p k ≡ Some m → man_at q k ≡ Some n → Fate i z k m n
+fate {p} {i} {z} {q} after k m n was is =
     elim (eqb_tells k i) [
       | inl e ↦
           let here : man_at q k ≡ Some (record m { place = At z.x z.y }) =
@@ -97,9 +97,9 @@ king_not_taken p i z q sound step k m is king s =
 pub stands_moved : (m : Man) (z w : Square) → StandsOn (record m { place = At z.x z.y }) w → z ≡ w
 stands_moved m z w s = cc
 
-apart_after : (p : Position) (i : ℕ) (z : Square) → Sound p → (a b : ℕ) (ma mb m n : Man) (w : Square) → man_at p a ≡ Some ma → man_at p b ≡ Some mb
+apart_after : {p : Position} (i : ℕ) (z : Square) → Sound p → (a b : ℕ) (ma mb m n : Man) (w : Square) → man_at p a ≡ Some ma → man_at p b ≡ Some mb
     → Fate i z a ma m → Fate i z b mb n → StandsOn m w → StandsOn n w → a ≡ b
-apart_after p i z sound a b ma mb m n w is_a is_b fa fb s t =
+apart_after i z sound a b ma mb m n w is_a is_b fa fb s t =
     elim fa [
       | moved e is ↦ elim fb [
         | moved e' is' ↦ e ∙ sym e'
@@ -118,11 +118,11 @@ apart_after p i z sound a b ma mb m n w is_a is_b fa fb s t =
       ]
     ]
 
-kings_after : (p : Position) (i : ℕ) (z : Square) (q : Position) → Sound p → Legal p i z q → (s : Side) → HasOneKing q s
-kings_after p i z q sound l s =
+kings_after : {p : Position} {i : ℕ} {z : Square} {q : Position} → Sound p → Legal p i z q → (s : Side) → HasOneKing q s
+kings_after {p} {i} {z} {q} sound l s =
     let had : HasOneKing p s = sound.kings s in
     let has = at_same p q had.number had.king l.step.after.same_count had.is_man in
-    let f : Fate i z had.number had.king has.0 = fate p i z q l.step.after had.number had.king has.0 had.is_man has.1 in
+    let f : Fate i z had.number had.king has.0 = fate l.step.after had.number had.king has.0 had.is_man has.1 in
     record {
       number = had.number;
       king = has.0;
@@ -135,20 +135,20 @@ kings_after p i z q sound l s =
       ];
       only = λ j n is side kind.
           let was = at_same q p j n (sym l.step.after.same_count) is in
-          let g : Fate i z j was.0 n = fate p i z q l.step.after j was.0 n was.1 is in
+          let g : Fate i z j was.0 n = fate l.step.after j was.0 n was.1 is in
           had.only j was.0 was.1 (fate_side g ∙ side) (fate_kind g ∙ kind);
     }
 
 pub legal_sound : (p : Position) (i : ℕ) (z : Square) (q : Position) → Sound p → Legal p i z q → Sound q
 legal_sound p i z q sound l =
     record {
-      kings = kings_after p i z q sound l;
+      kings = kings_after sound l;
       apart = λ a b m n w is_m is_n s t.
           let wm = at_same q p a m (sym l.step.after.same_count) is_m in
           let wn = at_same q p b n (sym l.step.after.same_count) is_n in
-          apart_after p i z sound a b wm.0 wn.0 m n w wm.1 wn.1
-          (fate p i z q l.step.after a wm.0 m wm.1 is_m)
-          (fate p i z q l.step.after b wn.0 n wn.1 is_n) s t;
+          apart_after i z sound a b wm.0 wn.0 m n w wm.1 wn.1
+          (fate l.step.after a wm.0 m wm.1 is_m)
+          (fate l.step.after b wn.0 n wn.1 is_n) s t;
       other_safe = λ check.
           l.safe (subst (InCheck q) (ap other l.step.after.turn ∙ other_other p.turn) check);
     }

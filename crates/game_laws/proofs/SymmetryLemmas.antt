@@ -183,8 +183,8 @@ module _ (f g : BoardMap) (u : IsUndone f g) where
   goes_to Pawn p m z (inr h) =
       inr (subst (StandsOn (mapped_man f m)) (u.carrier.behind m.side z) (stands_to f m (record { x = z.x; y = z.y -ℤ forward m.side }) h.0), empty_to p z h.1)
 
-  left_to : (z : Square) (m n : Man) → IsLeftBy z m n → IsLeftBy (f.square z) (mapped_man f m) (mapped_man f n)
-  left_to z m n left =
+  left_to : {z : Square} {m n : Man} → IsLeftBy z m n → IsLeftBy (f.square z) (mapped_man f m) (mapped_man f n)
+  left_to {z} {m} left =
       record {
         taken = λ s. ap (mapped_man f) (left.taken (stands_from m z s));
         kept = λ off. ap (mapped_man f) (left.kept (λ s. off (stands_to f m z s)));
@@ -202,7 +202,7 @@ module _ (f g : BoardMap) (u : IsUndone f g) where
         let a = man_from f p k m was in
         let b = man_from f q k n is in
         subst (λ c. IsLeftBy (f.square z) c n) a.2
-        (subst (IsLeftBy (f.square z) (mapped_man f a.0)) b.2 (left_to z a.0 b.0 (after.others k a.0 b.0 ne a.1 b.1)))
+        (subst (IsLeftBy (f.square z) (mapped_man f a.0)) b.2 (left_to (after.others k a.0 b.0 ne a.1 b.1)))
 
     after_to : IsAfter (mapped f p) i (f.square z) (mapped f q)
     after_to =
@@ -213,8 +213,8 @@ module _ (f g : BoardMap) (u : IsUndone f g) where
           turn = ap f.side after.turn ∙ u.carrier.opponent p.turn;
         }
 
-  step_to : (p : Position) (i : ℕ) (z : Square) (q : Position) → Step p i z q → Step (mapped f p) i (f.square z) (mapped f q)
-  step_to p i z q step =
+  step_to : {p : Position} {i : ℕ} {z : Square} {q : Position} → Step p i z q → Step (mapped f p) i (f.square z) (mapped f q)
+  step_to {p} {i} {z} {q} step =
       record {
         man = mapped_man f step.man;
         is_man = man_to f p i step.man step.is_man;
@@ -242,29 +242,29 @@ module _ (f g : BoardMap) (u : IsUndone f g) where
       subst (λ r. InCheck r s) (again f g u p)
       (subst (InCheck (mapped g (mapped f p))) (u.side s) (check_to g f (undone_back u) (mapped f p) (f.side s) h))
 
-  pub legal_to : (p : Position) (i : ℕ) (z : Square) (q : Position) → Legal p i z q → Legal (mapped f p) i (f.square z) (mapped f q)
-  legal_to p i z q l = record { step = step_to f g u p i z q l.step; safe = λ h. l.safe (check_from q p.turn h) }
+  pub legal_to : {p : Position} {i : ℕ} {z : Square} {q : Position} → Legal p i z q → Legal (mapped f p) i (f.square z) (mapped f q)
+  legal_to {p} {q} l = record { step = step_to f g u l.step; safe = λ h. l.safe (check_from q p.turn h) }
 
 module _ (f g : BoardMap) (u : IsUndone f g) where
-  legal_from : (p : Position) (i : ℕ) (z : Square) (r : Position) → Legal (mapped f p) i z r → Legal p i (g.square z) (mapped g r)
-  legal_from p i z r l =
-      subst (λ a. Legal a i (g.square z) (mapped g r)) (again f g u p) (legal_to g f (undone_back u) (mapped f p) i z r l)
+  legal_from : (p : Position) {i : ℕ} {z : Square} {r : Position} → Legal (mapped f p) i z r → Legal p i (g.square z) (mapped g r)
+  legal_from p {i} {z} {r} l =
+      subst (λ a. Legal a i (g.square z) (mapped g r)) (again f g u p) (legal_to g f (undone_back u) l)
 
   legal_same : (p : Position) (i : ℕ) (z : Square) (q : Position) → Legal (mapped f p) i (f.square z) (mapped f q) → Legal p i z q
   legal_same p i z q l =
       subst (λ w. Legal p i w q) (u.square z)
-      (subst (Legal p i (g.square (f.square z))) (again f g u q) (legal_from p i (f.square z) (mapped f q) l))
+      (subst (Legal p i (g.square (f.square z))) (again f g u q) (legal_from p l))
 
-  mate_to : (p : Position) → Mate p → Mate (mapped f p)
-  mate_to p mate =
+  mate_to : {p : Position} → Mate p → Mate (mapped f p)
+  mate_to {p} mate =
       record {
         check = check_to f g u p p.turn mate.check;
-        stuck = λ i z q l. mate.stuck i (g.square z) (mapped g q) (legal_from p i z q l);
+        stuck = λ i z q l. mate.stuck i (g.square z) (mapped g q) (legal_from p l);
       }
 
   -- the only king of a side is that of the side that becomes it
-  king_to : (p : Position) (s t : Side) → f.side t ≡ s → HasOneKing p t → HasOneKing (mapped f p) s
-  king_to p s t e one =
+  king_to : {p : Position} (s : Side) {t : Side} → f.side t ≡ s → HasOneKing p t → HasOneKing (mapped f p) s
+  king_to {p} s {t} e one =
       record {
         number = one.number;
         king = mapped_man f one.king;
@@ -290,18 +290,18 @@ module _ (f g : BoardMap) (u : IsUndone f g) where
   sound_to : (p : Position) → Sound p → Sound (mapped f p)
   sound_to p sound =
       record {
-        kings = λ s. king_to p s (g.side s) (u.side_back s) (sound.kings (g.side s));
+        kings = λ s. king_to s (u.side_back s) (sound.kings (g.side s));
         apart = apart_to p sound.apart;
         other_safe = λ h. sound.other_safe (check_from f g u p (other p.turn) (subst (InCheck (mapped f p)) (sym (u.carrier.opponent p.turn)) h));
       }
 
   lost_into_to : (winner : Side) (W V : Position → Type 0) → ((r : Position) → W r → V (mapped f r)) → (q : Position) → LostInto winner W q → LostInto (f.side winner) V (mapped f q)
-  lost_into_to winner W V to q (turn, inl mate) = (ap f.side turn ∙ u.carrier.opponent winner, inl (mate_to q mate))
+  lost_into_to winner W V to q (turn, inl mate) = (ap f.side turn ∙ u.carrier.opponent winner, inl (mate_to mate))
   lost_into_to winner W V to q (turn, inr (move, each)) = (
     ap f.side turn ∙ u.carrier.opponent winner,
     inr (
-      (move.0, f.square move.1, mapped f move.2, legal_to f g u q move.0 move.1 move.2 move.3),
-      λ i z r l. subst V (again g f (undone_back u) r) (to (mapped g r) (each i (g.square z) (mapped g r) (legal_from q i z r l))),
+      (move.0, f.square move.1, mapped f move.2, legal_to f g u move.3),
+      λ i z r l. subst V (again g f (undone_back u) r) (to (mapped g r) (each i (g.square z) (mapped g r) (legal_from q l))),
     ),
   )
 
@@ -313,7 +313,7 @@ module _ (f g : BoardMap) (u : IsUndone f g) where
       i,
       f.square z,
       mapped f q,
-      legal_to f g u p i z q l,
+      legal_to f g u l,
       lost_into_to winner (Win winner n) (Win (f.side winner) n) (λ r. win_to winner n r) q lost,
     ),
   )
@@ -323,12 +323,12 @@ module _ (f g : BoardMap) (u : IsUndone f g) where
   value_to winner n p (inr h) = inr (lost_into_to winner (Win winner n) (Win (f.side winner) n) (λ r. win_to winner n r) p h)
 
 -- what the map keeps, and the one that undoes it, is one with what was
-pub keeps_game : (f g : BoardMap) → IsUndone f g → KeepsGame f
-keeps_game f g u =
+pub keeps_game : {f g : BoardMap} → IsUndone f g → KeepsGame f
+keeps_game {f} {g} u =
     record {
-      legal = λ p i z q. (legal_to f g u p i z q, legal_same f g u p i z q);
+      legal = λ p i z q. (legal_to f g u {p = p} {i = i} {z = z} {q = q}, legal_same f g u p i z q);
       sound = λ p. (sound_to f g u p, λ h. subst Sound (again f g u p) (sound_to g f (undone_back u) (mapped f p) h));
-      mate = λ p. (mate_to f g u p, λ h. subst Mate (again f g u p) (mate_to g f (undone_back u) (mapped f p) h));
+      mate = λ p. (mate_to f g u {p = p}, λ h. subst Mate (again f g u p) (mate_to g f (undone_back u) h));
       value = λ winner n p. (
         value_to f g u winner n p,
         λ h.

@@ -201,28 +201,28 @@ bishop_diagonal : (s : Side) → HasDiagonal s Bishop
 bishop_diagonal s =
     record { serves = λ n. refl; north_east = 0; is_north_east = refl; north_west = 1; is_north_west = refl; south_west = 2; is_south_west = refl; south_east = 3; is_south_east = refl }
 
-straight_to : (s : Side) (k : Kind) → HasStraight s k → (dx dy : ℤ) → IsStraight dx dy → IsReached s k dx dy
-straight_to s k t (pos zero) (pos zero) (inl h) = absurd (h.1 refl)
-straight_to s k t (pos zero) (pos zero) (inr h) = absurd (h.0 refl)
-straight_to s k t (pos zero) (pos (suc m)) h = slide_to s k t.north _ _ m _ _ t.is_north (t.serves t.north) (omega (arith, ints)) (omega (arith, ints))
-straight_to s k t (pos zero) (negsuc m) h = slide_to s k t.south _ _ m _ _ t.is_south (t.serves t.south) (omega (arith, ints)) (omega (arith, ints))
-straight_to s k t (pos (suc m)) (pos zero) h = slide_to s k t.east _ _ m _ _ t.is_east (t.serves t.east) (omega (arith, ints)) (omega (arith, ints))
-straight_to s k t (negsuc m) (pos zero) h = slide_to s k t.west _ _ m _ _ t.is_west (t.serves t.west) (omega (arith, ints)) (omega (arith, ints))
-straight_to s k t (pos (suc m)) (pos (suc n)) (inl h) = absurd (omega (arith, ints, h.0))
-straight_to s k t (pos (suc m)) (pos (suc n)) (inr h) = absurd (omega (arith, ints, h.1))
-straight_to s k t (pos (suc m)) (negsuc n) (inl h) = absurd (omega (arith, ints, h.0))
-straight_to s k t (pos (suc m)) (negsuc n) (inr h) = absurd (omega (arith, ints, h.1))
-straight_to s k t (negsuc m) (pos (suc n)) (inl h) = absurd (omega (arith, ints, h.0))
-straight_to s k t (negsuc m) (pos (suc n)) (inr h) = absurd (omega (arith, ints, h.1))
-straight_to s k t (negsuc m) (negsuc n) (inl h) = absurd (omega (arith, ints, h.0))
-straight_to s k t (negsuc m) (negsuc n) (inr h) = absurd (omega (arith, ints, h.1))
+straight_to : {s : Side} {k : Kind} → HasStraight s k → (dx dy : ℤ) → IsStraight dx dy → IsReached s k dx dy
+straight_to t (pos zero) (pos zero) (inl h) = absurd (h.1 refl)
+straight_to t (pos zero) (pos zero) (inr h) = absurd (h.0 refl)
+straight_to {s} {k} t (pos zero) (pos (suc m)) h = slide_to s k t.north _ _ m _ _ t.is_north (t.serves t.north) (omega (arith, ints)) (omega (arith, ints))
+straight_to {s} {k} t (pos zero) (negsuc m) h = slide_to s k t.south _ _ m _ _ t.is_south (t.serves t.south) (omega (arith, ints)) (omega (arith, ints))
+straight_to {s} {k} t (pos (suc m)) (pos zero) h = slide_to s k t.east _ _ m _ _ t.is_east (t.serves t.east) (omega (arith, ints)) (omega (arith, ints))
+straight_to {s} {k} t (negsuc m) (pos zero) h = slide_to s k t.west _ _ m _ _ t.is_west (t.serves t.west) (omega (arith, ints)) (omega (arith, ints))
+straight_to t (pos (suc m)) (pos (suc n)) (inl h) = absurd (omega (arith, ints, h.0))
+straight_to t (pos (suc m)) (pos (suc n)) (inr h) = absurd (omega (arith, ints, h.1))
+straight_to t (pos (suc m)) (negsuc n) (inl h) = absurd (omega (arith, ints, h.0))
+straight_to t (pos (suc m)) (negsuc n) (inr h) = absurd (omega (arith, ints, h.1))
+straight_to t (negsuc m) (pos (suc n)) (inl h) = absurd (omega (arith, ints, h.0))
+straight_to t (negsuc m) (pos (suc n)) (inr h) = absurd (omega (arith, ints, h.1))
+straight_to t (negsuc m) (negsuc n) (inl h) = absurd (omega (arith, ints, h.0))
+straight_to t (negsuc m) (negsuc n) (inr h) = absurd (omega (arith, ints, h.1))
 
-diagonal_to : (s : Side) (k : Kind) → HasDiagonal s k → (dx dy : ℤ) → IsDiagonal dx dy → IsReached s k dx dy
-diagonal_to s k t (pos zero) dy h = absurd (omega (arith, h.1))
-diagonal_to s k t (pos (suc m)) (pos n) h = slide_to s k t.north_east _ _ m _ _ t.is_north_east (t.serves t.north_east) (omega (arith, ints)) (omega (arith, ints, h.0))
-diagonal_to s k t (pos (suc m)) (negsuc n) h = slide_to s k t.south_east _ _ m _ _ t.is_south_east (t.serves t.south_east) (omega (arith, ints)) (omega (arith, ints, h.0))
-diagonal_to s k t (negsuc m) (pos n) h = slide_to s k t.north_west _ _ m _ _ t.is_north_west (t.serves t.north_west) (omega (arith, ints)) (omega (arith, ints, h.0))
-diagonal_to s k t (negsuc m) (negsuc n) h = slide_to s k t.south_west _ _ m _ _ t.is_south_west (t.serves t.south_west) (omega (arith, ints)) (omega (arith, ints, h.0))
+diagonal_to : {s : Side} {k : Kind} → HasDiagonal s k → (dx dy : ℤ) → IsDiagonal dx dy → IsReached s k dx dy
+diagonal_to t (pos zero) dy h = absurd (omega (arith, h.1))
+diagonal_to {s} {k} t (pos (suc m)) (pos n) h = slide_to s k t.north_east _ _ m _ _ t.is_north_east (t.serves t.north_east) (omega (arith, ints)) (omega (arith, ints, h.0))
+diagonal_to {s} {k} t (pos (suc m)) (negsuc n) h = slide_to s k t.south_east _ _ m _ _ t.is_south_east (t.serves t.south_east) (omega (arith, ints)) (omega (arith, ints, h.0))
+diagonal_to {s} {k} t (negsuc m) (pos n) h = slide_to s k t.north_west _ _ m _ _ t.is_north_west (t.serves t.north_west) (omega (arith, ints)) (omega (arith, ints, h.0))
+diagonal_to {s} {k} t (negsuc m) (negsuc n) h = slide_to s k t.south_west _ _ m _ _ t.is_south_west (t.serves t.south_west) (omega (arith, ints)) (omega (arith, ints, h.0))
 
 abs_cases : (d : ℤ) (n : ℕ) → unsigned_abs d ≡ suc n → (d ≡ pos (suc n)) ⊎ (d ≡ negsuc n)
 abs_cases (pos m) n h = inl (omega (arith, ints, h))
@@ -271,10 +271,10 @@ knight_to s dx dy (inr h) =
 -- what a man bears on lies on a ray of the table
 pub reached : (s : Side) (k : Kind) (dx dy : ℤ) → HasReach s k dx dy → IsReached s k dx dy
 reached s King dx dy h = king_to s dx dy h
-reached s Queen dx dy (inl h) = straight_to s Queen (queen_straight s) dx dy h
-reached s Queen dx dy (inr h) = diagonal_to s Queen (queen_diagonal s) dx dy h
-reached s Rook dx dy h = straight_to s Rook (rook_straight s) dx dy h
-reached s Bishop dx dy h = diagonal_to s Bishop (bishop_diagonal s) dx dy h
+reached s Queen dx dy (inl h) = straight_to (queen_straight s) dx dy h
+reached s Queen dx dy (inr h) = diagonal_to (queen_diagonal s) dx dy h
+reached s Rook dx dy h = straight_to (rook_straight s) dx dy h
+reached s Bishop dx dy h = diagonal_to (bishop_diagonal s) dx dy h
 reached s Knight dx dy h = knight_to s dx dy h
 reached s Pawn dx dy h =
     elim (abs_cases dx 0 h.0) [ inl x ↦ leap_to s Pawn 2 _ _ _ _ refl refl x h.1 | inr x ↦ leap_to s Pawn 1 _ _ _ _ refl refl x h.1 ]

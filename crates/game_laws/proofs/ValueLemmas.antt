@@ -24,10 +24,10 @@ lost_flat winner W q (turn, inl mate) = (turn, inl mate.check, λ i z r l. absur
 lost_flat winner W q (turn, inr h) = (turn, inr h.0, h.1)
 
 -- in check, there is mate or a legal move
-pub flat_lost : (winner : Side) (W : Position → Type 0) (q : Position) → Sound q → FlatLostInto winner W q → LostInto winner W q
-flat_lost winner W q sound (turn, inl check, each) =
+pub flat_lost : (winner : Side) (W : Position → Type 0) {q : Position} → Sound q → FlatLostInto winner W q → LostInto winner W q
+flat_lost winner W {q} sound (turn, inl check, each) =
     (turn, elim (mate_or_move q sound check) [ inl mate ↦ inl mate | inr go ↦ inr (go, each) ])
-flat_lost winner W q sound (turn, inr go, each) = (turn, inr (go, each))
+flat_lost winner W sound (turn, inr go, each) = (turn, inr (go, each))
 
 -- who has a legal move is not mated at once
 pub at_once : (winner : Side) (q : Position) → Lost winner 0 q → (q.turn ≡ other winner) × Mate q

@@ -37,8 +37,8 @@ abbrev pub report_by : Claim → Report → Report
 report_by c r = record { text = r.text; games = map (by_claim c) r.games; ending = r.ending; left = r.left }
 
 module _ (S T : Position → Type 0) (same : (q : Position) → S q ↔ T q) (f : Frame) (p : Position) where
-  leads_alike : (c : Choice) (q : Position) → Leads S f p c q → Leads T f p c q
-  leads_alike c q h = record {
+  leads_alike : {c : Choice} {q : Position} → Leads S f p c q → Leads T f p c q
+  leads_alike {q} h = record {
     man = h.man;
     from = h.from;
     is_man = h.is_man;
@@ -55,8 +55,8 @@ pick_alike S T same f p None none = λ i z q legal inside is_in. none i z q lega
 pick_alike S T same f p (Some c) h = record {
   has = tt;
   position = h.position;
-  leads = leads_alike S T same f p c h.position h.leads;
-  first = λ d q has leads before. h.first d q tt (leads_alike T S (λ x. ((same x).1, (same x).0)) f p d q leads) before;
+  leads = leads_alike S T same f p h.leads;
+  first = λ d q has leads before. h.first d q tt (leads_alike T S (λ x. ((same x).1, (same x).0)) f p leads) before;
 }
 
 module _ (c d : Claim) (same : (ply : ℕ) (q : Position) → IsClaimed c ply q ↔ IsClaimed d ply q) where

@@ -189,7 +189,7 @@ module _ (At : Lines → Report → Type 0) (before read : ℕ) (g now : Match) 
     writes_so text longer wrote =
         let rest = unwrap_or left [] in
         let w = longer (lines_of (pending ++ rest)) in
-        let whole : AppendsFront old.written last (so_far.text ++ text) = front_behind old.written written last so_far.text text so_far.written wrote in
+        let whole : AppendsFront old.written last (so_far.text ++ text) = front_behind old.written so_far.text so_far.written wrote in
         record {
           bytes = so_far.bytes;
           rest = rest;
@@ -199,7 +199,7 @@ module _ (At : Lines → Report → Type 0) (before read : ℕ) (g now : Match) 
           ends = (
             told_before so_far.text so_far.games w.0,
             reported rest w.0 w.1,
-            subst (AppendsFront old.written last) (append_assoc so_far.text text w.2 ∙ ap (λ bytes. so_far.text ++ bytes) (sym w.3)) (front_more old.written last (so_far.text ++ text) w.2 whole),
+            subst (AppendsFront old.written last) (append_assoc so_far.text text w.2 ∙ ap (λ bytes. so_far.text ++ bytes) (sym w.3)) (front_more w.2 whole),
           );
         }
 

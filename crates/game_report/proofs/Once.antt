@@ -35,7 +35,7 @@ module _ (On : Match → Report → Type 0) (once : (g : Match) (a b : Report) �
   at_winner left g a b (inr (c, q, later, pick, legal, goes, is)) (inr (d, r, after, picked, safe, on, too)) =
       let choice : c ≡ d = same_Some c d (pick_once (IsHeldBy g.strategy g (suc g.ply)) all_squares g.position (Some c) (Some d) pick picked) in
       let to : Legal g.position d.mv.man (target d.mv) q = subst (λ (e : Choice). Legal g.position e.mv.man (target e.mv) q) choice legal in
-      let position : q ≡ r = same_after g.position d.mv.man (target d.mv) q r to.step.after safe.step.after in
+      let position : q ≡ r = same_after to.step.after safe.step.after in
       let rest : later ≡ after = at_loser left (moved g r) later after (subst (λ p. AtLoser On left (moved g p) later) position goes) on in
       is ∙ (ap (λ (e : Choice). plays e.mv (moved g q) later) choice
       ∙ (ap (λ p. plays d.mv (moved g p) later) position ∙ (ap (plays d.mv (moved g r)) rest ∙ sym too)))
@@ -48,7 +48,7 @@ module _ (On : Match → Report → Type 0) (once : (g : Match) (a b : Report) �
   at_typed left g a b (Some (typed.Move mv)) (inl (one, no_move, h, is)) (inr (q, legal, k)) = absurd (no_move q legal)
   at_typed left g a b (Some (typed.Move mv)) (inr (q, legal, h)) (inl (two, none, k, too)) = absurd (none q legal)
   at_typed left g a b (Some (typed.Move mv)) (inr (q, legal, h)) (inr (r, safe, k)) =
-      let position : q ≡ r = same_after g.position mv.man (target mv) q r legal.step.after safe.step.after in
+      let position : q ≡ r = same_after legal.step.after safe.step.after in
       at_winner left (moved g r) a b (subst (λ p. AtWinner On left (moved g p) a) position h) k
 
   at_line : (line : List ℕ) (left : Lines) (g : Match) (a b : Report) → AtLine On line left g a → AtLine On line left g b → a ≡ b

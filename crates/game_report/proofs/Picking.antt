@@ -48,8 +48,8 @@ between low at high m h k = omega (arith, ints, h, k)
 sum_of : (m n t a b c d : ℕ) → max m n ≡ t → m ≤ a + b → n ≤ c + d → t < a + b + c + d + 2
 sum_of m n t a b c d h x y = omega (arith, h, x, y)
 
-stays_near : (f : Frame) (a : Square) (r : Ray) (t : ℕ) (z : Square) → (r.far ≡ true → IsDirection r.dx r.dy) → IsAt r t a z → IsInside f z → t < stretch f a
-stays_near f a r t z stepwise at framed = elim (true_or_not r.far) [
+stays_near : {f : Frame} {a : Square} {r : Ray} {t : ℕ} {z : Square} → (r.far ≡ true → IsDirection r.dx r.dy) → IsAt r t a z → IsInside f z → t < stretch f a
+stays_near {f} {a} {r} {t} stepwise at framed = elim (true_or_not r.far) [
   | inl far ↦
       let steps = far_steps r.dx r.dy (stepwise far) t in
       let x = between f.x_low a.x f.x_high (pos t *ℤ r.dx) (subst (λ (w : Square). f.x_low ≤ℤ w.x) at.leads framed.left) (subst (λ (w : Square). w.x ≤ℤ f.x_high) at.leads framed.right) in
@@ -77,20 +77,20 @@ module _ (Set : Position → Type 0) (f : Frame) (p : Position) (decided : (i : 
     far : choice.distance ≡ t
     leads : Leads Set f p choice position
 
-  is_led : (c : Choice) (q : Position) → Leads Set f p c q → Led c.mv.man c.ray c.distance
-  is_led c q h = record { choice = c; position = q; man = refl; ray = refl; far = refl; leads = h }
+  is_led : {c : Choice} {q : Position} → Leads Set f p c q → Led c.mv.man c.ray c.distance
+  is_led {c} {q} h = record { choice = c; position = q; man = refl; ray = refl; far = refl; leads = h }
 
   -- a legal move to the square leads into the set
   abbrev Lands : ℕ → Square → Type 0
   Lands i z = (q : Position) × Legal p i z q × Set q
 
-  lands_from : (i : ℕ) (z : Square) (q : Position) → Legal p i z q → Decided (Set q) → Decided (Lands i z)
-  lands_from i z q legal (inl h) = inl (q, legal, h)
-  lands_from i z q legal (inr off) = inr (λ k. off (subst Set (same_after p i z k.0 q k.1.step.after legal.step.after) k.2))
+  lands_from : {i : ℕ} {z : Square} {q : Position} → Legal p i z q → Decided (Set q) → Decided (Lands i z)
+  lands_from {q} legal (inl h) = inl (q, legal, h)
+  lands_from legal (inr off) = inr (λ k. off (subst Set (same_after k.1.step.after legal.step.after) k.2))
 
   lands : (i : ℕ) (z : Square) → Decided (Lands i z)
   lands i z = elim (can_go p i z) [
-    | inl go ↦ lands_from i z go.0 go.1 (decided i z go.0 go.1)
+    | inl go ↦ lands_from go.1 (decided i z go.0 go.1)
     | inr none ↦ inr (λ h. none (h.0, h.1))
   ]
 
@@ -150,7 +150,7 @@ module _ (Set : Position → Type 0) (f : Frame) (p : Position) (decided : (i : 
       )
 
       within : t < stretch f a
-      within = stays_near f a r t (target led.choice.mv) (ray_stepwise m.kind m.side n r is_ray) along led.leads.inside
+      within = stays_near (ray_stepwise m.kind m.side n r is_ray) along led.leads.inside
 
     led_or_not : (t : ℕ) → Decided (Led i n t)
     led_or_not t =
@@ -219,22 +219,22 @@ module _ (Set : Position → Type 0) (f : Frame) (p : Position) (decided : (i : 
       let d : Choice = record { mv = record { man = i; x = z.x; y = z.y }; ray = one.number; distance = one.distance } in
       let into : Leads Set f p d q =
       record { man = step.man; from = w.0; is_man = step.is_man; stands = w.1; on = one.on; inside = framed; legal = legal; is_in = is_in } in
-      none i (one.number, (one.distance, is_led d q into))
+      none i (one.number, (one.distance, is_led into))
 
   module _ (man : IsFirstWith OfMan) (ray : IsFirstWith (OnRay man.number)) (far : IsFirstWith (Led man.number ray.number)) where
-    before : (d : Choice) (q : Position) → Leads Set f p d q → IsBefore d far.has.choice → ⊥
-    before d q into (inl low) = let is = far.has.man in man.least d.mv.man (omega (arith, low, is)) (d.ray, (d.distance, is_led d q into))
-    before d q into (inr (same, inl low)) =
+    before : {d : Choice} {q : Position} → Leads Set f p d q → IsBefore d far.has.choice → ⊥
+    before {d} into (inl low) = let is = far.has.man in man.least d.mv.man (omega (arith, low, is)) (d.ray, (d.distance, is_led into))
+    before {d} {q} into (inr (same, inl low)) =
         let is = far.has.ray in
         ray.least d.ray (omega (arith, low, is))
         (d.distance, record { choice = d; position = q; man = same ∙ far.has.man; ray = refl; far = refl; leads = into })
-    before d q into (inr (same, inr (on, low))) =
+    before {d} {q} into (inr (same, inr (on, low))) =
         let is = far.has.far in
         far.least d.distance (omega (arith, low, is))
         (record { choice = d; position = q; man = same ∙ far.has.man; ray = on ∙ far.has.ray; far = refl; leads = into })
 
     picked : Pick Set f p (Some far.has.choice)
-    picked = record { has = tt; position = far.has.position; leads = far.has.leads; first = λ d q has into is. before d q into is }
+    picked = record { has = tt; position = far.has.position; leads = far.has.leads; first = λ d q has into is. before into is }
 
   abbrev Found : Type 0
   Found = (o : Option Choice) × Pick Set f p o

@@ -117,8 +117,8 @@ module _ (s : Solution) where
   none_yet : (g : Game) (r : Report) → r.games ≡ [] → made_in g < s.moves → IsInTime g r
   none_yet g r is low = let none : length r.games ≡ 0 = ap length is in record { few = omega (arith, none, low); fewer = inr (omega (arith, none, low)) }
 
-  same_time : (g : Game) (r later : Report) → r.games ≡ later.games → r.ending ≡ later.ending → IsInTime g later → IsInTime g r
-  same_time g r later games ending h =
+  same_time : {g : Game} (r : Report) {later : Report} → r.games ≡ later.games → r.ending ≡ later.ending → IsInTime g later → IsInTime g r
+  same_time r {later} games ending h =
       let count : length r.games ≡ length later.games = ap length games in
       let low = h.few in
       record {
@@ -149,7 +149,7 @@ module _ (s : Solution) where
         let more = winner_ply (at s p ply) game turn in
         none_yet (at s p ply) r (ap (λ x. x.games) is) (omega (arith, count, more))
     winner_time left p ply r game turn (inr (c, q, later, pick, legal, goes, is)) =
-        let next = picked_game (at s p ply) (at s q (suc ply)) c game turn (record { pick = (pick_told (at s p ply) (Some c)).1 pick; legal = legal; is_after = refl }) in
+        let next = picked_game (at s q (suc ply)) c game turn (record { pick = (pick_told (at s p ply) (Some c)).1 pick; legal = legal; is_after = refl }) in
         let h = loser_time left q (suc ply) later (next.0, next.2) goes in
         let one : made_in (at s q (suc ply)) ≡ made_in (at s p ply) + 1 = next.3 in
         let count : length r.games ≡ suc (length later.games) = ap (λ x. length x.games) is in
@@ -162,12 +162,12 @@ module _ (s : Solution) where
     typed_time : (left : Lines) (p : Position) (ply : ℕ) (r : Report) (reply : Option Typed) → Loser p ply
         → (Mate p → ⊥) → AtTyped On left (seen (at s p ply)) r reply → IsInTime (at s p ply) r
     typed_time left p ply r None loses none (later, on, is) =
-        same_time (at s p ply) r later (ap (λ x. x.games) is) (ap (λ x. x.ending) is) (go p ply later loses none on)
+        same_time r (ap (λ x. x.games) is) (ap (λ x. x.ending) is) (go p ply later loses none on)
     typed_time left p ply r (Some typed.Quit) loses none is = none_yet (at s p ply) r (ap (λ x. x.games) is) (moves_to_make p ply loses none)
     typed_time left p ply r (Some (typed.Move mv)) loses none (inl (later, stuck, on, is)) =
-        same_time (at s p ply) r later (ap (λ x. x.games) is) (ap (λ x. x.ending) is) (go p ply later loses none on)
+        same_time r (ap (λ x. x.games) is) (ap (λ x. x.ending) is) (go p ply later loses none on)
     typed_time left p ply r (Some (typed.Move mv)) (game, turn) none (inr (q, legal, goes)) =
-        let next = held_reply (at s p ply) game turn mv.man (target mv) q legal in
+        let next = held_reply (at s p ply) game turn legal in
         let his : q.turn ≡ s.winner = legal.step.after.turn ∙ (ap other turn ∙ other_other s.winner) in
         let h = winner_time left q (suc ply) r next his goes in
         let same : one_if_same s.winner (turn_at s.position.turn ply) ≡ 0 =
@@ -194,8 +194,8 @@ module _ (s : Solution) where
       let low = moves_to_make p ply loses none in
       unless (IsInTime (at s p ply)) (read == most_lines) long r _ (λ is. none_yet (at s p ply) r is low) (λ is. none_yet (at s p ply) r (ap (λ x. x.games) is) low) h
 
-  from_start : (r : Report) → IsInTime (start_of s all_squares) r → (length r.games ≤ s.moves) × ((r.ending ≡ Mated) ⊎ (length r.games < s.moves))
-  from_start r h =
+  from_start : {r : Report} → IsInTime (start_of s all_squares) r → (length r.games ≤ s.moves) × ((r.ending ≡ Mated) ⊎ (length r.games < s.moves))
+  from_start h =
       let low = h.few in
       (omega (arith, low), elim (h.fewer) [ inl mate ↦ inl mate | inr less ↦ inr (omega (arith, less)) ])
 
@@ -203,8 +203,8 @@ module _ (s : Solution) where
     pub report_in_time : (before : ℕ) (lines : Lines) (r : Report) → IsReport before lines (first_seen s) r
         → (length r.games ≤ s.moves) × ((r.ending ≡ Mated) ⊎ (length r.games < s.moves))
     report_in_time before lines r (inl (turn, goes)) =
-        from_start r (winner_time (AtLines before 0 lines) (λ q n x his more on. lines_time before 0 lines q n x his more on) lines s.position 0 r
+        from_start (winner_time (AtLines before 0 lines) (λ q n x his more on. lines_time before 0 lines q n x his more on) lines s.position 0 r
         (first_game s all_squares valid value) turn goes)
     report_in_time before lines r (inr (turn, goes)) =
-        from_start r (loser_time (AtLines before 0 lines) (λ q n x his more on. lines_time before 0 lines q n x his more on) lines s.position 0 r
+        from_start (loser_time (AtLines before 0 lines) (λ q n x his more on. lines_time before 0 lines q n x his more on) lines s.position 0 r
         (first_game s all_squares valid value, turn) goes)

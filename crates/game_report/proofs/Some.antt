@@ -32,8 +32,8 @@ use Rattle.game_report.proofs.Strategies.{pick_told}
 use Rattle.game_report.proofs.Typing.{some_typed}
 
 -- it is known whether a sound position is mate; this belongs in game_laws
-pub mate_or_not : (p : Position) → Sound p → Decided (Mate p)
-mate_or_not p sound = by (in_check p p.turn)
+pub mate_or_not : {p : Position} → Sound p → Decided (Mate p)
+mate_or_not {p} sound = by (in_check p p.turn)
   where
     by : Decided (InCheck p p.turn) → Decided (Mate p)
     by (inl check) = elim (mate_or_move p sound check) [ inl mate ↦ inl mate | inr go ↦ inr (λ mate. mate.stuck go.0 go.1 go.2 go.3) ]
@@ -53,8 +53,8 @@ module _ (g : Game) (game : IsGame g) (turn : g.position.turn ≡ g.solution.win
       let s = g.solution in
       let later = winner_ply g game turn in
       map_decided (IsIn (table_of s (suc g.ply)) q) (IsHeld s (suc g.ply) q)
-      (next_held s game.valid g.ply g.position game.reached turn i z q legal.step)
-      (held_next s game.valid g.ply g.position game.reached turn (omega (arith, later)) i z q legal.step)
+      (next_held s game.valid g.ply g.position game.reached turn legal.step)
+      (held_next s game.valid g.ply g.position game.reached turn (omega (arith, later)) legal.step)
       (accepted_or_not q (set_at (table_of s (suc g.ply)) (mask_of q)) refl)
 
   -- so he has a pick, or there is none
@@ -65,15 +65,15 @@ abbrev Goes : (Match → Report → Type 0) → Game → Type 0
 Goes On g = (report : Report) × On (seen g) report
 
 module _ (On : Match → Report → Type 0) (go : (g : Game) → IsGame g → g.position.turn ≡ other g.solution.winner → (Mate g.position → ⊥) → Goes On g) where
-  at_loser : (left : Lines) (g : Game) → IsGame g → g.position.turn ≡ other g.solution.winner → Goes (AtLoser On left) g
-  at_loser left g game turn = by (mate_or_not g.position (game_sound g game))
+  at_loser : (left : Lines) {g : Game} → IsGame g → g.position.turn ≡ other g.solution.winner → Goes (AtLoser On left) g
+  at_loser left {g} game turn = by (mate_or_not (game_sound g game))
     where
       by : Decided (Mate g.position) → Goes (AtLoser On left) g
       by (inl mate) = (ends Mated (codes "mate\n") left, inl (mate, refl))
       by (inr none) = let on = go g game turn none in (on.0, inr (none, on.1))
 
-  at_winner : (left : Lines) (g : Game) → IsGame g → g.position.turn ≡ g.solution.winner → Goes (AtWinner On left) g
-  at_winner left g game turn = by (some_held g game turn)
+  at_winner : (left : Lines) {g : Game} → IsGame g → g.position.turn ≡ g.solution.winner → Goes (AtWinner On left) g
+  at_winner left {g} game turn = by (some_held g game turn)
     where
       by : ((o : Option Choice) × Pick (IsHeld g.solution (suc g.ply)) all_squares g.position o) → Goes (AtWinner On left) g
       by (None, none) = (ends Wide [] left, inl ((pick_told g None).0 none, refl))
@@ -81,29 +81,29 @@ module _ (On : Match → Report → Type 0) (go : (g : Game) → IsGame g → g.
           let q = pick.position in
           let legal = pick.leads.legal in
           let next = held_move g game turn q (c.mv.man, target c.mv, legal) pick.leads.is_in in
-          let later = at_loser left (moved_to g q) next (legal.step.after.turn ∙ ap other turn) in
+          let later = at_loser left next (legal.step.after.turn ∙ ap other turn) in
           (plays c.mv (moved (seen g) q) later.0, inr (c, q, later.0, (pick_told g (Some c)).0 pick, legal, later.1, refl))
 
-  at_typed : (left : Lines) (g : Game) → IsGame g → g.position.turn ≡ other g.solution.winner → (Mate g.position → ⊥) → (reply : Option Typed)
+  at_typed : (left : Lines) {g : Game} → IsGame g → g.position.turn ≡ other g.solution.winner → (Mate g.position → ⊥) → (reply : Option Typed)
       → (report : Report) × AtTyped On left (seen g) report reply
-  at_typed left g game turn none None = let on = go g game turn none in (writes (codes "unreadable\n") on.0, (on.0, on.1, refl))
-  at_typed left g game turn none (Some typed.Quit) = (ends Quit [] left, refl)
-  at_typed left g game turn none (Some (typed.Move mv)) = by (can_go g.position mv.man (target mv))
+  at_typed left {g} game turn none None = let on = go g game turn none in (writes (codes "unreadable\n") on.0, (on.0, on.1, refl))
+  at_typed left game turn none (Some typed.Quit) = (ends Quit [] left, refl)
+  at_typed left {g} game turn none (Some (typed.Move mv)) = by (can_go g.position mv.man (target mv))
     where
       by : Decided (CanGo g.position mv.man (target mv)) → (report : Report) × AtTyped On left (seen g) report (Some (typed.Move mv))
       by (inr stuck) =
           let on = go g game turn none in
           (writes (codes "illegal\n") on.0, inl (on.0, λ q legal. stuck (q, legal), on.1, refl))
       by (inl (q, legal)) =
-          let next = held_reply g game turn mv.man (target mv) q legal in
+          let next = held_reply g game turn legal in
           let his : q.turn ≡ g.solution.winner = legal.step.after.turn ∙ (ap other turn ∙ other_other g.solution.winner) in
-          let later = at_winner left (moved_to g q) next his in
+          let later = at_winner left next his in
           (later.0, inr (q, legal, later.1))
 
   at_line : (line : List ℕ) (left : Lines) (g : Game) → IsGame g → g.position.turn ≡ other g.solution.winner → (Mate g.position → ⊥) → Goes (AtLine On line left) g
   at_line line left g game turn none =
       let reply = some_typed line in
-      let on = at_typed left g game turn none reply.0 in
+      let on = at_typed left game turn none reply.0 in
       (on.0, (reply.0, reply.1, on.1))
 
 unless : (stop : Bool) (left : Lines) (P : Report → Type 0) → ((report : Report) × P report) → (report : Report) × Unless stop left report (P report)
@@ -121,15 +121,15 @@ at_lines before read (cut front) g game turn none =
 at_lines before read long g game turn none =
     unless (read == most_lines) long (λ report. report ≡ ends (LongAt (before + read + 1)) [] long) (ends (LongAt (before + read + 1)) [] long, refl)
 
-pub at_turn : (before read : ℕ) (lines : Lines) (g : Game) → IsGame g → g.position.turn ≡ other g.solution.winner → Goes (AtTurn before read lines) g
-at_turn before read lines g game turn =
-    at_loser (AtLines before read lines) (λ next on his none. at_lines before read lines next on his none) lines g game turn
+pub at_turn : (before read : ℕ) (lines : Lines) {g : Game} → IsGame g → g.position.turn ≡ other g.solution.winner → Goes (AtTurn before read lines) g
+at_turn before read lines game turn =
+    at_loser (AtLines before read lines) (λ next on his none. at_lines before read lines next on his none) lines game turn
 
 pub some_report : (before : ℕ) (lines : Lines) (g : Game) → IsGame g → (report : Report) × IsReport before lines (seen g) report
 some_report before lines g game = by (side_or_other g.position.turn g.solution.winner)
   where
     by : (g.position.turn ≡ g.solution.winner) ⊎ (g.position.turn ≡ other g.solution.winner) → (report : Report) × IsReport before lines (seen g) report
     by (inl turn) =
-        let on = at_winner (AtLines before 0 lines) (λ next on his none. at_lines before 0 lines next on his none) lines g game turn in
+        let on = at_winner (AtLines before 0 lines) (λ next on his none. at_lines before 0 lines next on his none) lines game turn in
         (on.0, inl (turn, on.1))
-    by (inr turn) = let on = at_turn before 0 lines g game turn in (on.0, inr (turn, on.1))
+    by (inr turn) = let on = at_turn before 0 lines game turn in (on.0, inr (turn, on.1))

@@ -161,8 +161,8 @@ module _ (On : Match → Report → Type 0) (left : Lines) (after : Match) (go :
   line_longer line g r open_still (reply, is, at) = let w = typed_longer g r open_still reply at in (w.0, (reply, is, w.1), w.2, w.3)
 
 -- fronts of what is written
-pub front_more : (old new : Option (List ℕ)) (bytes more : List ℕ) → AppendsFront old new bytes → AppendsFront old new (bytes ++ more)
-front_more old new bytes more h = record {
+pub front_more : {old new : Option (List ℕ)} {bytes : List ℕ} (more : List ℕ) → AppendsFront old new bytes → AppendsFront old new (bytes ++ more)
+front_more {old} {new} {bytes} more h = record {
   count = h.count;
   proper = let low = h.proper in omega (arith, low, length-append bytes more);
   front = subst (Appends old new) (sym (take-append-le h.count bytes more (let low = h.proper in omega (arith, low)))) h.front;
@@ -174,8 +174,8 @@ take_behind (b ∷ bytes) more n =
     let e : suc (length bytes) + n ≡ suc (length bytes + n) = omega arith in
     ap (λ k. take k (b ∷ (bytes ++ more))) e ∙ ap (λ xs. b ∷ xs) (take_behind bytes more n)
 
-pub front_behind : (old mid new : Option (List ℕ)) (bytes more : List ℕ) → Appends old mid bytes → AppendsFront mid new more → AppendsFront old new (bytes ++ more)
-front_behind old mid new bytes more all h = record {
+pub front_behind : (old : Option (List ℕ)) {mid new : Option (List ℕ)} (bytes : List ℕ) {more : List ℕ} → Appends old mid bytes → AppendsFront mid new more → AppendsFront old new (bytes ++ more)
+front_behind old {mid} {new} bytes {more} all h = record {
   count = length bytes + h.count;
   proper = let low = h.proper in omega (arith, low, length-append bytes more);
   front = subst (Appends old new) (sym (take_behind bytes more h.count)) (Appends-trans old mid new bytes (take h.count more) all h.front);
@@ -187,8 +187,8 @@ as_many p zero q is = ap (λ (x : Position). length x.men) is
 as_many p (suc ply) q (before, reached, (i, z, legal)) = legal.step.after.same_count ∙ as_many p ply before reached
 
 -- who moves is one of eight men
-pub mover_number : (g : Game) → IsGame g → (p : Position) (i : ℕ) (z : Square) → Legal p i z g.position → (1 ≤ i) × (i ≤ 8)
-mover_number g game p i z legal =
+pub mover_number : {g : Game} → IsGame g → {p : Position} {i : ℕ} {z : Square} → Legal p i z g.position → (1 ≤ i) × (i ≤ 8)
+mover_number {g} game {p} {i} legal =
     let few : length g.position.men ≤ 8 =
     subst (λ n. n ≤ 8) (sym (as_many g.solution.position g.ply g.position game.reached)) (valid_few g.solution game.valid) in
     by i legal.step.is_man (subst (λ n. n ≤ 8) legal.step.after.same_count few)
@@ -255,7 +255,7 @@ module _ (g after : Match) (c : Choice) (q : Position) (is_after : after ≡ mov
   made_on mid wrote (Ok (Some ending)) (r, says, e, more, stops) =
       (plays c.mv (moved g q) r, made Never r says, e, Appends-trans old mid new line r.text wrote more, stops)
   made_on mid wrote (Err why) (r, says, more, turn) =
-      (plays c.mv (moved g q) r, made (EndsAt (moved g q)) r says, front_behind old mid new line r.text wrote more, turn)
+      (plays c.mv (moved g q) r, made (EndsAt (moved g q)) r says, front_behind old line wrote more, turn)
 
   pub won_comes : (mid : Option (List ℕ)) → Appends old mid line → (result : Result (Option Ending) Failed)
       → Comes result (λ On r. AtLoser On ended (moved g q) r) (moved g q) (moved g q) mid new → Comes result AtWinners g after old new
@@ -265,11 +265,11 @@ module _ (g after : Match) (c : Choice) (q : Position) (is_after : after ≡ mov
   made_fails : (why : Failed) (told : Bool) → IsTrue told ↔ Mate q → IsLosersTurn (moved g q) → AppendsFront old new line → Comes (Err why) AtWinners g (moved g q) old new
   made_fails why true mate turn wrote =
       let r : Report = ends Mated (codes "mate\n") ended in
-      (plays c.mv (moved g q) r, made (EndsAt (moved g q)) r (inl (mate.0 refl, refl)), front_more old new line r.text wrote, turn)
+      (plays c.mv (moved g q) r, made (EndsAt (moved g q)) r (inl (mate.0 refl, refl)), front_more r.text wrote, turn)
   made_fails why false mate turn wrote =
       let r : Report = ends NoLine [] ended in
       let none : Mate q → ⊥ = λ m. absurd (let never : false ≡ true = mate.1 m in cc) in
-      (plays c.mv (moved g q) r, made (EndsAt (moved g q)) r (inr (none, (refl, refl))), front_more old new line r.text wrote, turn)
+      (plays c.mv (moved g q) r, made (EndsAt (moved g q)) r (inr (none, (refl, refl))), front_more r.text wrote, turn)
 
   pub won_fails : (result : Result (Option Ending) Failed) (why : Failed) → result ≡ Err why → (told : Bool) → IsTrue told ↔ Mate q → IsLosersTurn (moved g q)
       → AppendsFront old new line → Comes result AtWinners g after old new
@@ -337,7 +337,7 @@ module _ (g after : Match) (same : after ≡ g) (is_open : IsOpen g) (text : Lis
   pub answer_fails : (result : Result (Option Ending) Failed) (why : Failed) → result ≡ Err why → AppendsFront old new text → Comes result Says g after old new
   answer_fails result why is wrote =
       subst (λ (r : Result (Option Ending) Failed). Comes r Says g after old new) (sym is)
-      (writes text (ends NoLine [] ended), there, front_more old new text [] wrote, open_after.0)
+      (writes text (ends NoLine [] ended), there, front_more [] wrote, open_after.0)
 
 -- the line is `quit`
 pub quit_comes : (g after : Match) (bytes : List ℕ) (old : Option (List ℕ)) → IsTyped bytes (Some typed.Quit) → after ≡ g

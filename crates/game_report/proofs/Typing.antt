@@ -45,11 +45,11 @@ some_byte : (text : List ℕ) → Decided (text ≢ [])
 some_byte [] = inr (λ h. h refl)
 some_byte (x ∷ xs) = inl (λ e. cc)
 
-blank_in : (text : List ℕ) → IsSplit text → HasNoBlank text → ⊥
-blank_in text h k = no_blank_within h.first h.second (subst HasNoBlank h.joined k)
+blank_in : {text : List ℕ} → IsSplit text → HasNoBlank text → ⊥
+blank_in h k = no_blank_within h.first h.second (subst HasNoBlank h.joined k)
 
 field_of : (text : List ℕ) → IsSplit text ⊎ HasNoBlank text → Decided (IsField text)
-field_of text (inl h) = inr (λ k. blank_in text h k.no_blank)
+field_of text (inl h) = inr (λ k. blank_in h k.no_blank)
 field_of text (inr h) = map_decided (text ≢ []) (IsField text) (λ some. record { some = some; no_blank = h }) (λ k. k.some) (some_byte text)
 
 is_field : (text : List ℕ) → Decided (IsField text)
@@ -126,17 +126,17 @@ has_digit (d ∷ b ∷ rest) =
 abbrev Found : List ℕ → Type 0
 Found line = (reply : Option Typed) × IsTyped line reply
 
-no_number_in : (line : List ℕ) (h : HasDigit HasTwoFields line) → (IsNumber h.shape.first → ⊥) ⊎ (IsNumber h.shape.second → ⊥) → Found line
-no_number_in line h none =
+no_number_in : {line : List ℕ} (h : HasDigit HasTwoFields line) → (IsNumber h.shape.first → ⊥) ⊎ (IsNumber h.shape.second → ⊥) → Found line
+no_number_in h none =
     let t = h.shape in
     let fault : HasNoNumber h.rest =
     record { first = t.first; second = t.second; is_first = t.is_first; is_second = t.is_second; joined = t.joined; no_number = none } in
     (None, (why.Number, record { man = h.man; first = h.first; last = h.last; rest = h.rest; front = h.front; shape = fault }))
 
-numbers_in : (line : List ℕ) (h : HasDigit HasTwoFields line) → Decided (IsNumber h.shape.first) → Decided (IsNumber h.shape.second) → Found line
-numbers_in line h (inr none) d = no_number_in line h (inl none)
-numbers_in line h (inl x) (inr none) = no_number_in line h (inr none)
-numbers_in line h (inl x) (inl y) =
+numbers_in : {line : List ℕ} (h : HasDigit HasTwoFields line) → Decided (IsNumber h.shape.first) → Decided (IsNumber h.shape.second) → Found line
+numbers_in h (inr none) d = no_number_in h (inl none)
+numbers_in h (inl x) (inr none) = no_number_in h (inr none)
+numbers_in h (inl x) (inl y) =
     let mv : Move = record { man = h.man; x = x.number; y = y.number } in
     let pair : h.rest ≡ pair_text x.number y.number =
     h.shape.joined ∙ (ap (λ a. two_fields a h.shape.second) x.spelled ∙ ap (two_fields (signed_decimal x.number)) y.spelled) in (
@@ -146,7 +146,7 @@ numbers_in line h (inl x) (inl y) =
 
 past_quit : (line : List ℕ) → (line ≡ codes "quit" → ⊥) → Decided (HasDigit HasTwoFields line) → Found line
 past_quit line other (inr none) = (None, (why.Shape, λ h. elim h [ inl is ↦ other is | inr digit ↦ none digit ]))
-past_quit line other (inl h) = numbers_in line h (is_number h.shape.first) (is_number h.shape.second)
+past_quit line other (inl h) = numbers_in h (is_number h.shape.first) (is_number h.shape.second)
 
 pub some_typed : (line : List ℕ) → Found line
 some_typed line = elim (same_bytes line (codes "quit")) [ inl is ↦ (Some typed.Quit, is) | inr other ↦ past_quit line other (has_digit line) ]

@@ -34,8 +34,8 @@ module _ (P : ℕ → Type 0) (last : ℕ) where
   pub none_to : ((t : ℕ) → 1 ≤ t → t ≤ last → P t → ⊥) → HasFew Zero UpTo
   none_to none = λ t h. none t h.0 h.1 h.2
 
-  pub one_to : (first : ℕ) → IsLeast P 1 last first → ((t : ℕ) → first + 1 ≤ t → t ≤ last → P t → ⊥) → HasFew One UpTo
-  one_to first is none = (
+  pub one_to : {first : ℕ} → IsLeast P 1 last first → ((t : ℕ) → first + 1 ≤ t → t ≤ last → P t → ⊥) → HasFew One UpTo
+  one_to {first} is none = (
     first,
     (is.from, is.to, is.has),
     λ u h. elim (cases_lt first u) [
@@ -44,8 +44,8 @@ module _ (P : ℕ → Type 0) (last : ℕ) where
     ],
   )
 
-  pub more_to : (first next : ℕ) → IsLeast P 1 last first → IsLeast P (first + 1) last next → HasFew More UpTo
-  more_to first next is also =
+  pub more_to : {first next : ℕ} → IsLeast P 1 last first → IsLeast P (first + 1) last next → HasFew More UpTo
+  more_to {first} {next} is also =
       let after = also.from in
       (first, next, omega (arith, after), (is.from, is.to, is.has), (omega (arith, after), also.to, also.has))
 
@@ -160,13 +160,13 @@ module _ (p : Position) (table : Table) where
   abbrev CaptureOf : ℕ → ℕ → ℕ → Type 0
   CaptureOf i n t = LeadsAlong (IsHeldBy p (other p.turn)) (IsIn table) p i n t
 
-  pub unset_of : (i n : ℕ) (r : Ray) → IsMover p i n r → set_at table (mask_of p) ≡ None → HasFew Zero (QuietOf i n)
-  unset_of zero n r mover none = absurd (cc)
-  unset_of (suc j) n r mover none = λ t w. quiet_unset mover table none w
+  pub unset_of : {i n : ℕ} {r : Ray} → IsMover p i n r → set_at table (mask_of p) ≡ None → HasFew Zero (QuietOf i n)
+  unset_of {i = zero} mover none = absurd (cc)
+  unset_of {i = suc j} mover none = λ t w. quiet_unset mover table none w
 
-  pub unserved_of : (i n : ℕ) (r : Ray) (mover : IsMover p i n r) → serves_moves mover.man.kind n ≡ false → HasFew Zero (QuietOf i n)
-  unserved_of zero n r mover never = absurd (cc)
-  unserved_of (suc j) n r mover never = λ t w. quiet_unserved mover never w
+  pub unserved_of : {i n : ℕ} {r : Ray} (mover : IsMover p i n r) → serves_moves mover.man.kind n ≡ false → HasFew Zero (QuietOf i n)
+  unserved_of {i = zero} mover never = absurd (cc)
+  unserved_of {i = suc j} mover never = λ t w. quiet_unserved mover never w
 
   pub counted_of : AreNext p table → (a : Automaton) → set_at table (mask_of p) ≡ Some a → (i n : ℕ) (r : Ray) (mover : IsMover p i n r)
       → IsTrue (serves_moves mover.man.kind n) → (few : Few) (last : ℕ) → IsClearTo p i r last
@@ -180,16 +180,16 @@ module _ (p : Position) (table : Table) where
   all_counted_of next a is zero n r mover serves few clear has = absurd (cc)
   all_counted_of next a is (suc j) n r mover serves few clear has = quiet_counted_all p table j n r mover next a is serves few clear has
 
-  pub none_captured_of : (i n : ℕ) (r : Ray) → IsMover p i n r → (f : Frame) → HoldsMen f p → FirstOf (IsCapture p i n) (IsIn table) f p None → HasFew Zero (CaptureOf i n)
-  none_captured_of zero n r mover f holds none = absurd (cc)
-  none_captured_of (suc j) n r mover f holds none = none_captured p table j n r mover f holds none
+  pub none_captured_of : {i n : ℕ} {r : Ray} → IsMover p i n r → (f : Frame) → HoldsMen f p → FirstOf (IsCapture p i n) (IsIn table) f p None → HasFew Zero (CaptureOf i n)
+  none_captured_of {i = zero} mover f holds none = absurd (cc)
+  none_captured_of {i = suc j} {n} {r} mover f holds none = none_captured p table j n r mover f holds none
 
-  pub one_captured_of : (i n : ℕ) (r : Ray) → IsMover p i n r → (f : Frame) → HoldsMen f p → AreNext p table → (c : Choice)
+  pub one_captured_of : {i n : ℕ} {r : Ray} → IsMover p i n r → (f : Frame) → HoldsMen f p → AreNext p table → (c : Choice)
       → FirstOf (IsCapture p i n) (IsIn table) f p (Some c) → HasFew One (CaptureOf i n)
-  one_captured_of zero n r mover f holds next c h = absurd (cc)
-  one_captured_of (suc j) n r mover f holds next c h = one_captured p table j n r mover f holds next c h
+  one_captured_of {i = zero} mover f holds next c h = absurd (cc)
+  one_captured_of {i = suc j} {n} {r} mover f holds next c h = one_captured p table j n r mover f holds next c h
 
-  pub counted_together : (i n : ℕ) (r : Ray) → IsMover p i n r → (quiet taking : Few) → HasFew quiet (QuietOf i n) → HasFew taking (CaptureOf i n)
+  pub counted_together : {i n : ℕ} {r : Ray} → IsMover p i n r → (quiet taking : Few) → HasFew quiet (QuietOf i n) → HasFew taking (CaptureOf i n)
       → HasFew (plus_of quiet taking) (LeadsAnywhere (IsIn table) p i n)
-  counted_together zero n r mover quiet taking some others = absurd (cc)
-  counted_together (suc j) n r mover quiet taking some others = all_counted p table j n r mover quiet taking some others
+  counted_together {i = zero} mover quiet taking some others = absurd (cc)
+  counted_together {i = suc j} {n} {r} mover quiet taking some others = all_counted p table j n r mover quiet taking some others

@@ -74,10 +74,10 @@ module _ (p : Position) (table : Table) (next : AreNext p table) (f : Frame) (j 
     pub none_hit : ((t : ℕ) → near ≤ t → t ≤ far → IsHitAlong a p (suc j) r t → ⊥) → Quiet None
     none_hit none d q has h = let w = found d q has h in none d.distance w.0 w.1 w.2
 
-    pub first_hit : (t : ℕ) (c : Choice) → IsLeast (IsHitAlong a p (suc j) r) near far t → c.mv.man ≡ suc j → c.ray ≡ n → c.distance ≡ t
+    pub first_hit : {t : ℕ} (c : Choice) → IsLeast (IsHitAlong a p (suc j) r) near far t → c.mv.man ≡ suc j → c.ray ≡ n → c.distance ≡ t
         → LeadsTo p (suc j) r t (target c.mv) → IsTrue (serves_moves mover.man.kind n)
         → Quiet (Some c)
-    first_hit t c least man ray far_is leads serves =
+    first_hit {t} c least man ray far_is leads serves =
         let at_t : IsFreeFrom p mover.square r f t = of_square mover (λ b. IsFreeFrom p b r f t) ((free t).0 (least.from, least.to)) in
         let w : IsFreeFrom p mover.square r f c.distance = subst (IsFreeFrom p mover.square r f) (sym far_is) at_t in
         let lead : target c.mv ≡ after_steps mover.square t r.dx r.dy = of_square mover (λ b. target c.mv ≡ after_steps b t r.dx r.dy) leads in
@@ -96,15 +96,15 @@ module _ (p : Position) (table : Table) (next : AreNext p table) (f : Frame) (j 
         }
 
   -- a capture along the ray is one of the first man met
-  pub capture_met : Sound p → (d : Choice) (q : Position) → IsCapture p (suc j) n d → Leads (IsIn table) f p d q → (h : ℕ) × IsHit p (suc j) r f h
-  capture_met sound d q (e, ray, held) h =
+  pub capture_met : Sound p → {d : Choice} {q : Position} → IsCapture p (suc j) n d → Leads (IsIn table) f p d q → (h : ℕ) × IsHit p (suc j) r f h
+  capture_met sound {d} {q} (e, ray, held) h =
       let g = going next mover e ray h in
       let w = any_is p _ held in
-      let hit = capture_hit p (suc j) (target d.mv) q g.2 mover.man mover.is_man mover.square mover.stands n d.distance g.0 f h.inside sound.apart w.0 w.1 w.2 w.3.1 in
+      let hit = capture_hit p (suc j) (target d.mv) q g.2 mover.man mover.is_man mover.square mover.stands n d.distance g.0 h.inside sound.apart w.0 w.1 w.2 w.3.1 in
       (w.0, on_square mover (λ b. IsHitFrom p b r f w.0) (subst (λ k. IsHitFrom p mover.square k f w.0) g.1 hit))
 
   pub none_met : Sound p → ((h : ℕ) → IsHit p (suc j) r f h → ⊥) → Capture None
-  none_met sound none d q has h = let w = capture_met sound d q has h in none w.0 w.1
+  none_met sound none d q has h = let w = capture_met sound has h in none w.0 w.1
 
   module _ (sound : Sound p) (mv : Move) (man : mv.man ≡ suc j) (met : IsMet p (suc j) r f (target mv)) where
     abbrev there : IsHitFrom p mover.square r f met.number
@@ -117,8 +117,8 @@ module _ (p : Position) (table : Table) (next : AreNext p table) (f : Frame) (j 
     there_held = hit_held mover met
 
     -- each capture along the ray goes there
-    where_it_goes : (d : Choice) (q : Position) → IsCapture p (suc j) n d → Leads (IsIn table) f p d q → (d.distance ≡ there.distance) × (target d.mv ≡ target mv)
-    where_it_goes d q (e, ray, held) h =
+    where_it_goes : {d : Choice} {q : Position} → IsCapture p (suc j) n d → Leads (IsIn table) f p d q → (d.distance ≡ there.distance) × (target d.mv ≡ target mv)
+    where_it_goes {d} {q} (e, ray, held) h =
         let g = going next mover e ray h in
         let at : IsAt r d.distance mover.square (target d.mv) = going_at mover g in
         let at_there : IsAt g.0.ray there.distance mover.square there.to = subst (λ k. IsAt k there.distance mover.square there.to) (sym g.1) there.leads in
@@ -135,21 +135,21 @@ module _ (p : Position) (table : Table) (next : AreNext p table) (f : Frame) (j 
         same_number a b h k = elim (cases_order a b) [ inl e ↦ e | inr (inl less) ↦ absurd (h less) | inr (inr more) ↦ absurd (k more) ]
 
     -- so it is this move, and leads to what it leads to
-    its_legal : (d : Choice) (q : Position) → IsCapture p (suc j) n d → Leads (IsIn table) f p d q → Legal p mv.man (target mv) q
-    its_legal d q has h =
-        subst (λ i. Legal p i (target mv) q) (has.0 ∙ sym man) (subst (λ z. Legal p d.mv.man z q) (where_it_goes d q has h).1 h.legal)
+    its_legal : {d : Choice} {q : Position} → IsCapture p (suc j) n d → Leads (IsIn table) f p d q → Legal p mv.man (target mv) q
+    its_legal {d} {q} has h =
+        subst (λ i. Legal p i (target mv) q) (has.0 ∙ sym man) (subst (λ z. Legal p d.mv.man z q) (where_it_goes has h).1 h.legal)
 
     pub none_legal : ((q : Position) → Legal p mv.man (target mv) q → ⊥) → Capture None
-    none_legal none d q has h = none q (its_legal d q has h)
+    none_legal none d q has h = none q (its_legal has h)
 
-    pub none_in : (q : Position) → Legal p mv.man (target mv) q → (IsIn table q → ⊥) → Capture None
-    none_in q legal out d q' has h =
-        let same : q' ≡ q = same_after p mv.man (target mv) q' q (its_legal d q' has h).step.after legal.step.after in
+    pub none_in : {q : Position} → Legal p mv.man (target mv) q → (IsIn table q → ⊥) → Capture None
+    none_in {q} legal out d q' has h =
+        let same : q' ≡ q = same_after {r = q} (its_legal has h).step.after legal.step.after in
         out (subst (IsIn table) same h.is_in)
 
-    pub some_in : (q : Position) → Legal p mv.man (target mv) q → IsIn table q → (t : ℕ)
+    pub some_in : {q : Position} → Legal p mv.man (target mv) q → IsIn table q → (t : ℕ)
         → AreHisSteps p (suc j) r (target mv) t → Capture (Some (record { mv = mv; ray = n; distance = t }))
-    some_in q legal is_in t steps =
+    some_in {q} legal is_in t steps =
         let right : t ≡ there.distance = steps_right mover met t steps in
         let at : IsAt r t mover.square (target mv) = subst (λ k. IsAt r k mover.square (target mv)) (sym right) (subst (IsAt r there.distance mover.square) there_to there.leads) in
         let his : Step p (suc j) (target mv) q = subst (λ i. Step p i (target mv) q) man legal.step in
@@ -169,7 +169,7 @@ module _ (p : Position) (table : Table) (next : AreNext p table) (f : Frame) (j 
           };
           first = λ d q' has h before.
               let close = nearer d (record { mv = mv; ray = n; distance = t }) before (has.0 ∙ sym man) has.1 in
-              let same = (where_it_goes d q' has h).0 in
+              let same = (where_it_goes has h).0 in
               omega (arith, close, same, right);
         }
       where
@@ -178,8 +178,8 @@ module _ (p : Position) (table : Table) (next : AreNext p table) (f : Frame) (j 
         held (inr h) = h
 
   -- the moves along the ray are the quiet ones and the captures
-  which : (d : Choice) (q : Position) → IsAlongRay (suc j) n d → Leads (IsIn table) f p d q → IsQuiet p (suc j) n d ⊎ IsCapture p (suc j) n d
-  which d q (e, ray) h =
+  which : {d : Choice} {q : Position} → IsAlongRay (suc j) n d → Leads (IsIn table) f p d q → IsQuiet p (suc j) n d ⊎ IsCapture p (suc j) n d
+  which {d} {q} (e, ray) h =
       let g = going next mover e ray h in
       elim (empty_or_held p (suc j) (target d.mv) q g.2 mover.man mover.is_man mover.square mover.stands n d.distance g.0) [
         | inl none ↦ inl (e, ray, none)
@@ -191,7 +191,7 @@ module _ (p : Position) (table : Table) (next : AreNext p table) (f : Frame) (j 
     has = (h.has.0, h.has.1);
     position = h.position;
     leads = h.leads;
-    first = λ d q has into before. elim (which d q has into) [
+    first = λ d q has into before. elim (which has into) [
       | inl quiet ↦ h.first d q quiet into before
       | inr taking ↦
           let g = going next mover h.has.0 h.has.1 h.leads in
@@ -205,12 +205,12 @@ module _ (p : Position) (table : Table) (next : AreNext p table) (f : Frame) (j 
   }
 
   pub capture_first : Quiet None → (o : Option Choice) → Capture o → FirstOf (IsAlongRay (suc j) n) (IsIn table) f p o
-  capture_first none None h = λ d q has into. elim (which d q has into) [ inl quiet ↦ none d q quiet into | inr taking ↦ h d q taking into ]
+  capture_first none None h = λ d q has into. elim (which has into) [ inl quiet ↦ none d q quiet into | inr taking ↦ h d q taking into ]
   capture_first none (Some c) h = record {
     has = (h.has.0, h.has.1);
     position = h.position;
     leads = h.leads;
-    first = λ d q has into before. elim (which d q has into) [ inl quiet ↦ none d q quiet into | inr taking ↦ h.first d q taking into before ];
+    first = λ d q has into before. elim (which has into) [ inl quiet ↦ none d q quiet into | inr taking ↦ h.first d q taking into before ];
   }
 
 -- the same for a man of any number: man 0 is none
@@ -224,13 +224,13 @@ module _ (p : Position) (table : Table) (next : AreNext p table) (f : Frame) whe
   abbrev AlongOf : ℕ → ℕ → Option Choice → Type 0
   AlongOf i n o = FirstOf (IsAlongRay i n) (IsIn table) f p o
 
-  pub quiet_none_there : (i n : ℕ) (r : Ray) → IsMover p i n r → set_at table (mask_of p) ≡ None → QuietOf i n None
-  quiet_none_there zero n r mover none = absurd (cc)
-  quiet_none_there (suc j) n r mover none = none_there p table next f j n r mover none
+  pub quiet_none_there : {i n : ℕ} {r : Ray} → IsMover p i n r → set_at table (mask_of p) ≡ None → QuietOf i n None
+  quiet_none_there {i = zero} mover none = absurd (cc)
+  quiet_none_there {i = suc j} {n} {r} mover none = none_there p table next f j n r mover none
 
-  pub quiet_none_served : (i n : ℕ) (r : Ray) (mover : IsMover p i n r) → serves_moves mover.man.kind n ≡ false → QuietOf i n None
-  quiet_none_served zero n r mover never = absurd (cc)
-  quiet_none_served (suc j) n r mover never = none_served p table next f j n r mover never
+  pub quiet_none_served : {i n : ℕ} {r : Ray} (mover : IsMover p i n r) → serves_moves mover.man.kind n ≡ false → QuietOf i n None
+  quiet_none_served {i = zero} mover never = absurd (cc)
+  quiet_none_served {i = suc j} {n} {r} mover never = none_served p table next f j n r mover never
 
   pub quiet_none_hit : (i n : ℕ) (r : Ray) → IsMover p i n r → (a : Automaton) → set_at table (mask_of p) ≡ Some a → (near far : ℕ)
       → IsFreeBetween p i r f near far → ((t : ℕ) → near ≤ t → t ≤ far → IsHitAlong a p i r t → ⊥) → QuietOf i n None
@@ -243,7 +243,7 @@ module _ (p : Position) (table : Table) (next : AreNext p table) (f : Frame) whe
       → IsTrue (serves_moves mover.man.kind n) → QuietOf i n (Some c)
   quiet_first_hit zero n r mover a is near far free t c least man ray far_is leads serves = absurd (cc)
   quiet_first_hit (suc j) n r mover a is near far free t c least man ray far_is leads serves =
-      first_hit p table next f j n r mover a is near far free t c least man ray far_is leads serves
+      first_hit p table next f j n r mover a is near far free c least man ray far_is leads serves
 
   pub capture_none_met : (i n : ℕ) (r : Ray) → IsMover p i n r → Sound p → ((h : ℕ) → IsHit p i r f h → ⊥) → CaptureOf i n None
   capture_none_met zero n r mover sound none = absurd (cc)
@@ -257,14 +257,14 @@ module _ (p : Position) (table : Table) (next : AreNext p table) (f : Frame) whe
   pub capture_none_in : (i n : ℕ) (r : Ray) → IsMover p i n r → Sound p → (mv : Move) → mv.man ≡ i → IsMet p i r f (target mv) → (q : Position)
       → Legal p mv.man (target mv) q → (IsIn table q → ⊥) → CaptureOf i n None
   capture_none_in zero n r mover sound mv man met q legal out = absurd (cc)
-  capture_none_in (suc j) n r mover sound mv man met q legal out = none_in p table next f j n r mover sound mv man met q legal out
+  capture_none_in (suc j) n r mover sound mv man met q legal out = none_in p table next f j n r mover sound mv man met legal out
 
   pub capture_some_in : (i n : ℕ) (r : Ray) → IsMover p i n r → Sound p → (mv : Move) → mv.man ≡ i → IsMet p i r f (target mv) → (q : Position)
       → Legal p mv.man (target mv) q → IsIn table q → (t : ℕ)
       → AreHisSteps p i r (target mv) t → CaptureOf i n (Some (record { mv = mv; ray = n; distance = t }))
   capture_some_in zero n r mover sound mv man met q legal is_in t steps = absurd (cc)
   capture_some_in (suc j) n r mover sound mv man met q legal is_in t steps =
-      some_in p table next f j n r mover sound mv man met q legal is_in t steps
+      some_in p table next f j n r mover sound mv man met legal is_in t steps
 
   pub along_quiet : (i n : ℕ) (r : Ray) → IsMover p i n r → (c : Choice) → QuietOf i n (Some c) → AlongOf i n (Some c)
   along_quiet zero n r mover c h = absurd (cc)
@@ -281,27 +281,27 @@ own_stock p = record {
   men = λ k m n is_m is_n. let same : m ≡ n = same_Some m n (sym is_m ∙ (stock_man-men p k ∙ is_n)) in (ap (λ a. a.side) (sym same), ap (λ a. a.kind) (sym same));
 }
 
-pub step_stock : (stock : List Man) (p q : Position) (i : ℕ) (z : Square) → HasStock stock p → IsAfter p i z q → HasStock stock q
-step_stock stock p q i z has after = record {
+pub step_stock : {stock : List Man} {p q : Position} {i : ℕ} {z : Square} → HasStock stock p → IsAfter p i z q → HasStock stock q
+step_stock {p} {q} has after = record {
   count = after.same_count ∙ has.count;
   men = λ k m n is_m is_n.
       let w = at_same q p k n (sym after.same_count) is_n in
       let same = has.men k m w.0 is_m w.1 in
-      let fated = fate p i z q after k w.0 n w.1 is_n in
+      let fated = fate after k w.0 n w.1 is_n in
       (sym (fate_side fated) ∙ same.0, sym (fate_kind fated) ∙ same.1);
 }
 
 -- the way of a man along a ray
-pub along_is : (p : Position) (i n : ℕ) (r : Ray) (fixed : Bor (List ℤ)) (place : ℕ) → IsMover p i n r → fixed.now ≡ tuple_of p
+pub along_is : {p : Position} {i n : ℕ} {r : Ray} (fixed : Bor (List ℤ)) (place : ℕ) → IsMover p i n r → fixed.now ≡ tuple_of p
     → place ≡ coordinates_before p i
     → IsAlong p i r (record { fixed = fixed; x_track = place; y_track = place + 1; dx = to_z w8 (of_z w8 r.dx); dy = to_z w8 (of_z w8 r.dy) })
-along_is p i n r fixed place mover same at =
+along_is {n} {r} fixed place mover same at =
     let short = ray_slopes mover.man.kind mover.man.side n r mover.is_ray in
     record { fixed = same; x_track = at; y_track = ap (λ k. k + 1) at; dx = slope_same r.dx short.x; dy = slope_same r.dy short.y }
 
 -- it can be searched
-pub way_right : (p : Position) (i n : ℕ) (r : Ray) (way : Way) → IsMover p i n r → IsAlong p i r way → IsWay way
-way_right p i n r way mover along =
+pub way_right : {p : Position} {i n : ℕ} {r : Ray} {way : Way} → IsMover p i n r → IsAlong p i r way → IsWay way
+way_right {p} {i} {n} {r} mover along =
     let short = ray_slopes mover.man.kind mover.man.side n r mover.is_ray in
     let live : IsSomeAnd (man_at p i) (λ m. m.place ≢ Gone) =
     subst (λ (o : Option Man). IsSomeAnd o (λ m. m.place ≢ Gone)) (sym mover.is_man)
@@ -321,8 +321,8 @@ abbrev Stepped : ℕ → List ℤ → ℕ → ℕ → ℤ → ℤ → List ℤ
 Stepped t xs x y dx dy = slice_set (slice_set xs x (value_after xs x dx t)) y (value_after xs y dy t)
 
 -- its tuples are those along the ray
-tuples_along : (p : Position) (i : ℕ) (r : Ray) (way : Way) → IsAlong p i r way → (t : ℕ) → tuple_at way t ≡ tuple_along p i r t
-tuples_along p i r way along t =
+tuples_along : {p : Position} {i : ℕ} {r : Ray} {way : Way} → IsAlong p i r way → (t : ℕ) → tuple_at way t ≡ tuple_along p i r t
+tuples_along {p} {i} {r} {way} along t =
     let x = coordinates_before p i in
     ap (λ xs. Stepped t xs way.x_track way.y_track way.dx way.dy) along.fixed
     ∙ (ap (λ k. Stepped t (tuple_of p) k way.y_track way.dx way.dy) along.x_track
@@ -330,23 +330,23 @@ tuples_along p i r way along t =
     ∙ (ap (λ d. Stepped t (tuple_of p) x (x + 1) d way.dy) along.dx ∙ ap (λ d. Stepped t (tuple_of p) x (x + 1) r.dx d) along.dy)))
 
 -- and what the search finds is what is found along the ray
-pub least_along : (a : Automaton) (p : Position) (i : ℕ) (r : Ray) (way : Way) (near far : ℕ) (found : Option ℕ) → IsAlong p i r way
+pub least_along : (a : Automaton) {p : Position} {i : ℕ} {r : Ray} {way : Way} (near far : ℕ) (found : Option ℕ) → IsAlong p i r way
     → IsWayFound a way near far found → IsLeastFound (IsHitAlong a p i r) near far found
-least_along a p i r way near far None along none =
-    λ t low high hit. none t low high (subst (IsAccepted a) (sym (tuples_along p i r way along t)) hit)
-least_along a p i r way near far (Some t) along is = record {
+least_along a near far None along none =
+    λ t low high hit. none t low high (subst (IsAccepted a) (sym (tuples_along along t)) hit)
+least_along a near far (Some t) along is = record {
   from = is.from;
   to = is.to;
-  has = subst (IsAccepted a) (tuples_along p i r way along t) is.hit;
-  least = λ u low hit. is.least u low (subst (IsAccepted a) (sym (tuples_along p i r way along u)) hit);
+  has = subst (IsAccepted a) (tuples_along along t) is.hit;
+  least = λ u low hit. is.least u low (subst (IsAccepted a) (sym (tuples_along along u)) hit);
 }
 
 -- and as many of all distances
-pub count_along : (a : Automaton) (p : Position) (i : ℕ) (r : Ray) (way : Way) (few : Few) → IsAlong p i r way → HasHits a way few → HasFew few (λ t. (1 ≤ t) × IsHitAlong a p i r t)
-count_along a p i r way few along has =
+pub count_along : (a : Automaton) {p : Position} {i : ℕ} {r : Ray} {way : Way} (few : Few) → IsAlong p i r way → HasHits a way few → HasFew few (λ t. (1 ≤ t) × IsHitAlong a p i r t)
+count_along a {p} {i} {r} {way} few along has =
     has-same few (λ t. (1 ≤ t) × IsWayHit a way t) (λ t. (1 ≤ t) × IsHitAlong a p i r t) has
-    (λ t h. (h.0, subst (IsAccepted a) (tuples_along p i r way along t) h.1))
-    (λ t h. (h.0, subst (IsAccepted a) (sym (tuples_along p i r way along t)) h.1))
+    (λ t h. (h.0, subst (IsAccepted a) (tuples_along along t) h.1))
+    (λ t h. (h.0, subst (IsAccepted a) (sym (tuples_along along t)) h.1))
 
 -- a man who is met has a number
 pub met_number : (p : Position) (i : ℕ) (r : Ray) (f : Frame) (h : ℕ) → IsHit p i r f h → (m : Man) × (z : Square) × (man_at p h ≡ Some m) × StandsOn m z

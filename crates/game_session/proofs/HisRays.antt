@@ -13,17 +13,17 @@ use Rattle.game_session.proofs.Tuples.{stands_live}
 
 -- whether a man has a ray of this number
 module _ (p : Position) (man number : ℕ) (him : Man) (is : man_at p man ≡ Some him) where
-  same_mover : (r : Ray) (mover : IsMover p man number r) → mover.man ≡ him
-  same_mover r mover = same_Some mover.man him (sym mover.is_man ∙ is)
+  same_mover : {r : Ray} (mover : IsMover p man number r) → mover.man ≡ him
+  same_mover mover = same_Some mover.man him (sym mover.is_man ∙ is)
 
   moves_on : HasRay p man number → IsLiveOf p.turn him
   moves_on ray =
       let mover = ray.1 in
-      let same : mover.man ≡ him = same_mover ray.0 mover in
+      let same : mover.man ≡ him = same_mover mover in
       (subst (λ m. m.side ≡ p.turn) same mover.turn, subst (λ m. m.place ≢ Gone) same (stands_live mover.man mover.square mover.stands))
 
   goes_on : (ray : HasRay p man number) → ray_of him.kind him.side number ≡ Some ray.0
-  goes_on ray = subst (λ m. ray_of m.kind m.side number ≡ Some ray.0) (same_mover ray.0 ray.1) ray.1.is_ray
+  goes_on ray = subst (λ m. ray_of m.kind m.side number ≡ Some ray.0) (same_mover ray.1) ray.1.is_ray
 
   pub idle_ray : (IsLiveOf p.turn him → ⊥) → IsTrue false ↔ HasRay p man number
   idle_ray idle = (λ t. absurd (cc), λ ray. absurd (idle (moves_on ray)))

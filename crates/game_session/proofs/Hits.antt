@@ -71,7 +71,7 @@ module _ {p : Position} {j n : ℕ} {r : Ray} (mover : IsMover p (suc j) n r) wh
         → IsIn table q ↔ IsHitAlong a p (suc j) r t
     hit_is {q} {z} {t} step none at =
         let mask : mask_of q ≡ mask_of p = mask_moved p q j z mover.square mover.man mover.is_man mover.stands step.after none in
-        let tuple : tuple_of q ≡ tuple_along p (suc j) r t = tuple_hit p q j z mover.square mover.man r t mover.is_man mover.stands step.after none at.leads in
+        let tuple : tuple_of q ≡ tuple_along p (suc j) r t = tuple_hit j mover.square mover.man r t mover.is_man mover.stands step.after none at.leads in
         let there : set_at table (mask_of q) ≡ Some a = ap (set_at table) mask ∙ set_is in
         let Has : Option Automaton → Type 0 = λ o. IsSomeAnd o (λ b. IsAccepted b (tuple_of q)) in (
           λ is. subst (IsAccepted a) tuple (subst Has there is),

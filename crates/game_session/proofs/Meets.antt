@@ -87,15 +87,15 @@ module _ {p : Position} {i n : ℕ} {r : Ray} (mover : IsMover p i n r) where
       empty = λ k b low at. hit.first k b (omega (arith, low, less)) at;
     }
 
-    clear_less : (t : ℕ) → IsClearFrom p mover.square r t → t < hit.distance
-    clear_less t c = elim (cases_lt t hit.distance) [ inl less ↦ less | inr past ↦ absurd (hit_held (c.empty hit.distance hit.to past hit.leads)) ]
+    clear_less : {t : ℕ} → IsClearFrom p mover.square r t → t < hit.distance
+    clear_less {t} c = elim (cases_lt t hit.distance) [ inl less ↦ less | inr past ↦ absurd (hit_held (c.empty hit.distance hit.to past hit.leads)) ]
 
     pub clear_before : (t last : ℕ) → last + 1 ≡ hit.distance → ((1 ≤ t) × (t ≤ last)) ↔ IsClear p i r t
     clear_before t last is = (
       λ (begun, low). on_square mover (λ b. IsClearFrom p b r t) (clear_from t (omega (arith, low, is)) begun),
       λ c.
           let from = of_square mover (λ b. IsClearFrom p b r t) c in
-          let less = clear_less t from in
+          let less = clear_less from in
           (from.leads.begun, omega (arith, less, is)),
     )
 
@@ -119,11 +119,11 @@ module _ {p : Position} {i n : ℕ} {r : Ray} (mover : IsMover p i n r) where
               absurd (none h (on_square mover (λ b. IsHitFrom p b r f h) hits))
         ]
 
-    nobody : (k : ℕ) (z : Square) → IsAt r k mover.square z → IsEmptySquare p z
-    nobody k z at = nobody_below (suc k) k z (omega arith) at
+    nobody : {k : ℕ} {z : Square} → IsAt r k mover.square z → IsEmptySquare p z
+    nobody {k} {z} at = nobody_below (suc k) k z (omega arith) at
 
     clear_at : (t : ℕ) → IsAt r t mover.square (after_steps mover.square t r.dx r.dy) → IsClear p i r t
-    clear_at t at = on_square mover (λ b. IsClearFrom p b r t) (record { to = after_steps mover.square t r.dx r.dy; leads = at; empty = λ k z low on. nobody k z on })
+    clear_at t at = on_square mover (λ b. IsClearFrom p b r t) (record { to = after_steps mover.square t r.dx r.dy; leads = at; empty = λ k z low on. nobody on })
 
     begun_clear : (t : ℕ) → IsClear p i r t → 1 ≤ t
     begun_clear t c = (of_square mover (λ b. IsClearFrom p b r t) c).leads.begun

@@ -189,12 +189,12 @@ module _ (p q : Position) (j : ℕ) (z a : Square) (m : Man) (is : man_at p (suc
       ]
 
   pub mask_moved : mask_of q ≡ mask_of p
-  mask_moved = sym (mask_one q (mask_of p) (record { live = live_same; no_more = subst (λ n. mask_of p < 2 ^ n) (sym after.same_count) (mask_tells p).no_more }))
+  mask_moved = sym (mask_one {q = q} {mask = mask_of p} (record { live = live_same; no_more = subst (λ n. mask_of p < 2 ^ n) (sym after.same_count) (mask_tells p).no_more }))
 
 -- the coordinates after a move along a ray to an empty square
-pub tuple_hit : (p q : Position) (j : ℕ) (z a : Square) (m : Man) (r : Ray) (t : ℕ) → man_at p (suc j) ≡ Some m → StandsOn m a → IsAfter p (suc j) z q
+pub tuple_hit : {p q : Position} (j : ℕ) {z : Square} (a : Square) (m : Man) (r : Ray) (t : ℕ) → man_at p (suc j) ≡ Some m → StandsOn m a → IsAfter p (suc j) z q
     → IsEmptySquare p z → z ≡ after_steps a t r.dx r.dy → tuple_of q ≡ tuple_along p (suc j) r t
-tuple_hit p q j z a m r t is stands after none leads =
+tuple_hit {p} {q} j {z} a m r t is stands after none leads =
     let x : value_after (tuple_of p) (coordinates_before p (suc j)) r.dx t ≡ z.x = ap (λ b. b +ℤ (pos t *ℤ r.dx)) (his_x p j a m is stands) ∙ sym (ap (λ s. s.x) leads) in
     let y : value_after (tuple_of p) (coordinates_before p (suc j) + 1) r.dy t ≡ z.y = ap (λ b. b +ℤ (pos t *ℤ r.dy)) (his_y p j a m is stands) ∙ sym (ap (λ s. s.y) leads) in
     tuple_moved p q j z a m is stands after none

@@ -25,8 +25,8 @@ use Rattle.rule_formula.proofs.PlacedLemmas.{all_men}
 
 -- a square between others on a far ray is fewer steps along it
 module _ (m : Man) (n : ℕ) (r : Ray) (is_ray : ray_of m.kind m.side n ≡ Some r) (a z : Square) (t : ℕ) (leads : IsAt r t a z) (far : r.far ≡ true) where
-  between_at : (b : Square) → IsBetween a z b → (k : ℕ) × (k < t) × IsAt r k a b
-  between_at b h =
+  between_at : {b : Square} → IsBetween a z b → (k : ℕ) × (k < t) × IsAt r k a b
+  between_at h =
       let direction = (ray_is m.side m.kind n r is_ray).direction far in
       let some : 0 < h.whole = omega (arith, h.begun, h.fewer) in
       let count : h.whole ≡ t = sym (steps_distance a z h.dx h.dy h.direction h.whole h.to_b) ∙ steps_distance a z r.dx r.dy direction t leads.leads in
@@ -58,7 +58,7 @@ module _ (m : Man) (n : ℕ) (r : Ray) (is_ray : ray_of m.kind m.side n ≡ Some
   pub open_before : (p : Position) → ((k : ℕ) (b : Square) → k < t → IsAt r k a b → IsEmptySquare p b) → IsOpen p a z
   open_before p none = (all_men p (λ c. IsLiveAnd c (IsBetween a z) → ⊥)).1 (λ k c is live.
       let w = some_and (square_of c) _ live in
-      let at = between_at w.0 w.2 in
+      let at = between_at w.2 in
       (all_men p (λ d. StandsOn d w.0 → ⊥)).0 (none at.0 w.0 at.1 at.2) k c is w.1)
 
   pub none_before : (p : Position) → IsOpen p a z → (k : ℕ) (b : Square) → k < t → IsAt r k a b → IsEmptySquare p b
@@ -181,8 +181,8 @@ module _ (p : Position) (i : ℕ) (z : Square) (q : Position) (step : Step p i z
         | inr near ↦ absurd (omega (arith, less, at.begun, on.leads.one near))
       ]
 
-  same_target : (b : Square) → IsAt on.ray t a b → b ≡ z
-  same_target b at = at.leads ∙ sym on.leads.leads
+  same_target : {b : Square} → IsAt on.ray t a b → b ≡ z
+  same_target at = at.leads ∙ sym on.leads.leads
 
   -- to an empty square, nobody stands up to it
   pub nobody_to : IsEmptySquare p z → (k : ℕ) (b : Square) → k ≤ t → IsAt on.ray k a b → IsEmptySquare p b
@@ -190,13 +190,13 @@ module _ (p : Position) (i : ℕ) (z : Square) (q : Position) (step : Step p i z
     | inl less ↦ nobody_before k b less at
     | inr high ↦
         let e : k ≡ t = omega (arith, high, low) in
-        let same : b ≡ z = same_target b (subst (λ l. IsAt on.ray l a b) e at) in
+        let same : b ≡ z = same_target (subst (λ l. IsAt on.ray l a b) e at) in
         subst (IsEmptySquare p) (sym same) none
   ]
 
   -- a man who stands there is the first on the ray
-  pub capture_hit : (f : Frame) → IsInside f z → IsApart p → (h : ℕ) (c : Man) → man_at p h ≡ Some c → StandsOn c z → IsHitFrom p a on.ray f h
-  capture_hit f inside apart h c is_c on_c = first_met p a on.ray f t z on.leads inside nobody_before apart h c is_c on_c
+  pub capture_hit : {f : Frame} → IsInside f z → IsApart p → (h : ℕ) (c : Man) → man_at p h ≡ Some c → StandsOn c z → IsHitFrom p a on.ray f h
+  capture_hit {f} inside apart h c is_c on_c = first_met p a on.ray f t z on.leads inside nobody_before apart h c is_c on_c
 
   -- a target is empty or held by the other side
   pub empty_or_held : IsEmptySquare p z ⊎ IsHeldBy p (other p.turn) z

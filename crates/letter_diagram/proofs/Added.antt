@@ -49,8 +49,8 @@ distinct_places xs h i j shape p q =
       | inr (inr e) ↦ e
     ]
 
-pub IsDiagram-push : (xs : List Shape) (y : Shape) → IsDiagram xs → FitsBelow xs (length xs) y → IsDistinct shape_eq (xs ++ y ∷ []) → IsDiagram (xs ++ y ∷ [])
-IsDiagram-push xs y is fits unique = record {
+pub IsDiagram-push : {xs : List Shape} (y : Shape) → IsDiagram xs → FitsBelow xs (length xs) y → IsDistinct shape_eq (xs ++ y ∷ []) → IsDiagram (xs ++ y ∷ [])
+IsDiagram-push {xs} y is fits unique = record {
   fits = λ node shape at. elim (get-push xs y node shape at) [
     | inl w ↦ FitsBelow-append xs (y ∷ []) node shape (let l = w.0 in omega arith) (is.fits node shape w.1)
     | inr w ↦
@@ -68,11 +68,11 @@ insert_key-cases old new shape h = by (list_any (shape_eq shape) old) refl
     by true there = inl (h ∙ ap (λ c. if c then old else old ++ shape ∷ []) there)
     by false none = inr (h ∙ ap (λ c. if c then old else old ++ shape ∷ []) none)
 
-pub IsDiagram-insert : (old new : List Shape) (shape : Shape) → IsDiagram old → FitsBelow old (length old) shape
+pub IsDiagram-insert : {old : List Shape} (new : List Shape) (shape : Shape) → IsDiagram old → FitsBelow old (length old) shape
     → new ≡ insert_key shape_eq old shape → IsDistinct shape_eq new → IsDiagram new
-IsDiagram-insert old new shape is fits h unique = elim (insert_key-cases old new shape h) [
+IsDiagram-insert {old} new shape is fits h unique = elim (insert_key-cases old new shape h) [
   | inl e ↦ subst IsDiagram (sym e) is
-  | inr e ↦ subst IsDiagram (sym e) (IsDiagram-push old shape is fits (subst (IsDistinct shape_eq) e unique))
+  | inr e ↦ subst IsDiagram (sym e) (IsDiagram-push shape is fits (subst (IsDistinct shape_eq) e unique))
 ]
 
 pub Grows-insert : (old new : List Shape) (shape : Shape) → new ≡ insert_key shape_eq old shape → Grows old new
@@ -82,7 +82,7 @@ Grows-insert old new shape h = elim (insert_key-cases old new shape h) [
 ]
 
 -- the node at which an equal shape stands
-pub IsAt-stored : (shapes : List Shape) (node : ℕ) (shape found : Shape) → IsDiagram shapes → slice_get shapes node ≡ Some found → shape_eq shape found ≡ true → IsAt shapes node shape
-IsAt-stored shapes node shape found is at e =
+pub IsAt-stored : {shapes : List Shape} (node : ℕ) (shape found : Shape) → IsDiagram shapes → slice_get shapes node ≡ Some found → shape_eq shape found ≡ true → IsAt shapes node shape
+IsAt-stored {shapes} node shape found is at e =
     let here : slice_get shapes node ≡ Some shape = at ∙ ap Some (sym (shape_eq-true shape found e)) in
     IsAt-get shapes node shape here (is.fits node shape here)

@@ -10,16 +10,16 @@ use Rattle.letter_diagram.proofs.Maps.{Grows-refl}
 use Rattle.letter_diagram.proofs.Canonical.{HasChildren-at}
 use Rattle.letter_diagram.proofs.Narrow.{LooksBelow-low, LooksBelow-high, LooksBelow-grows, track-below}
 
-shapes_or-grows : (from : Option (List Shape)) (old new : List Shape) → Grows old new → Grows (shapes_or from old) (shapes_or from new)
-shapes_or-grows (Some from) old new grows = Grows-refl from
-shapes_or-grows None old new grows = grows
+shapes_or-grows : (from : Option (List Shape)) {old new : List Shape} → Grows old new → Grows (shapes_or from old) (shapes_or from new)
+shapes_or-grows (Some from) grows = Grows-refl from
+shapes_or-grows None grows = grows
 
-pub source-grows : (c : Carrier) (old new : List Shape) → Grows old new → Grows (source_of c old) (source_of c new)
-source-grows c old new grows = shapes_or-grows c.from old new grows
+pub source-grows : (c : Carrier) {old new : List Shape} → Grows old new → Grows (source_of c old) (source_of c new)
+source-grows c grows = shapes_or-grows c.from grows
 
-pub IsCarried-grows : (from source old new : List Shape) (letters values : ℕ → ℕ) (a r : ℕ) → Grows from source → Grows old new → IsCarried from old letters values a r
+pub IsCarried-grows : {from source old new : List Shape} {letters values : ℕ → ℕ} {a r : ℕ} → Grows from source → Grows old new → IsCarried from old letters values a r
     → IsCarried source new letters values a r
-IsCarried-grows from source old new letters values a r from_grows grows is =
+IsCarried-grows {letters} {values} {a} {r} from_grows grows is =
     let known = is.known in
     let source_known = is.source_known in
     let longer = grows.longer in
@@ -33,15 +33,15 @@ IsCarried-grows from source old new letters values a r from_grows grows is =
       top = λ keeps. let top = is.top keeps in omega (arith, top, top_a, top_r);
     }
 
-pub Carries-grows : (c : Carrier) (old new : List Shape) (a r : ℕ) → Grows old new → Carries c old a r → Carries c new a r
-Carries-grows c old new a r grows is = IsCarried-grows _ _ _ _ c.letters c.values a r (source-grows c old new grows) grows is
+pub Carries-grows : (c : Carrier) {old new : List Shape} (a r : ℕ) → Grows old new → Carries c old a r → Carries c new a r
+Carries-grows c a r grows is = IsCarried-grows (source-grows c grows) grows is
 
 pub RemembersCarried-grows : {c : Carrier} {old new : List Shape} {answers : ℕ → Option ℕ} → Grows old new → RemembersCarried c old answers → RemembersCarried c new answers
-RemembersCarried-grows {c} {old} {new} grows all = record { carried = λ a r at. Carries-grows c old new a r grows (all.carried a r at) }
+RemembersCarried-grows {c} {old} {new} grows all = record { carried = λ a r at. Carries-grows c a r grows (all.carried a r at) }
 
-pub RemembersCarried-learns : (c : Carrier) (shapes : List Shape) (old new : ℕ → Option ℕ) (node made : ℕ) → Learns old new node made → Carries c shapes node made
+pub RemembersCarried-learns : {c : Carrier} {shapes : List Shape} {old new : ℕ → Option ℕ} {node made : ℕ} → Learns old new node made → Carries c shapes node made
     → RemembersCarried c shapes old → RemembersCarried c shapes new
-RemembersCarried-learns c shapes old new node made learns is all = record {
+RemembersCarried-learns {c} {shapes} {node} learns is all = record {
   carried = λ a r at. elim (learns.only a r at) [
     | inl before ↦ all.carried a r before
     | inr now ↦ let R : ℕ → ℕ → Type 0 = λ x y. Carries c shapes x y in subst (λ n. R n r) (sym now.0) (subst (R node) (sym now.1) is)
@@ -50,12 +50,12 @@ RemembersCarried-learns c shapes old new node made learns is all = record {
 
 pub CanBeCarried-grows : {c : Carrier} {Can : ℕ → Type 0} {old new : List Shape} {a : ℕ} → Grows old new → CanBeCarried c Can old a → CanBeCarried c Can new a
 CanBeCarried-grows {c} {Can} {old} {new} {a} grows can =
-    let more = source-grows c old new grows in
+    let more = source-grows c grows in
     let known = can.known in
     let longer = more.longer in
     record {
       known = omega (arith, known, longer);
-      narrow = λ few. LooksBelow-grows _ _ a c.tracks can.known more (can.narrow few);
+      narrow = λ few. LooksBelow-grows can.known more (can.narrow few);
       values = λ letter. subst Can (sym (more.map a letter can.known)) (can.values letter);
     }
 
@@ -95,7 +95,7 @@ module _ {c : Carrier} {Can : ℕ → Type 0} {shapes : List Shape} {a : ℕ} (t
 pub Carries-leaf : (c : Carrier) (shapes new : List Shape) (a r value : ℕ) → IsAt (source_of c shapes) a (Leaf value) → Grows shapes new → r < length new
     → ((letter : ℕ) → map_at new r letter ≡ c.values value) → top_track new r ≡ 20 → Carries c new a r
 Carries-leaf c shapes new a r value at grows known map top =
-    let more = source-grows c shapes new grows in
+    let more = source-grows c grows in
     let within = at.within in
     let longer = more.longer in
     let same = more.top a at.within in
@@ -117,8 +117,8 @@ pub Carries-test : (c : Carrier) (shapes mid new : List Shape) (a r track low hi
     → Carries c mid low low' → Carries c mid high high' → r < length new → ((letter : ℕ) → map_at new r letter ≡ side_at c mid track low' high' letter)
     → (KeepsLetters c.letters → track ≤ top_track new r) → Carries c new a r
 Carries-test c shapes mid new a r track low high low' high' at fits to_mid from_mid l h known map top =
-    let before = source-grows c shapes mid to_mid in
-    let after = source-grows c mid new from_mid in
+    let before = source-grows c to_mid in
+    let after = source-grows c from_mid in
     let within = at.within in
     let longer = before.longer in
     let longer' = after.longer in

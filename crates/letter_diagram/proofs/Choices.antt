@@ -16,13 +16,13 @@ IsChosen-grows {old} {new} {track} {low} {high} {r} grows is =
     let low_known = is.low_known in
     let high_known = is.high_known in
     let top = is.top in
-    let tops = top_of_both-grows old new low high grows is.low_known is.high_known in
+    let tops = top_of_both-grows low high grows is.low_known is.high_known in
     let top_r = grows.top r is.known in
     record {
       known = omega arith;
       low_known = omega arith;
       high_known = omega arith;
-      map = λ letter. grows.map r letter is.known ∙ is.map letter ∙ sym (chosen-grows old new track low high letter is.low_known is.high_known grows);
+      map = λ letter. grows.map r letter is.known ∙ is.map letter ∙ sym (chosen-grows track low high letter is.low_known is.high_known grows);
       top = omega arith;
     }
 
@@ -35,11 +35,11 @@ pub RemembersChosen-insert : {S : Type 0} {shapes : List Shape} {track : ℕ} {m
 RemembersChosen-insert {shapes} {track} {memo} {new} {low} {high} {r} all updates is = record { chosen = pair_answers-insert (IsChosen shapes track) memo new low high r all.chosen updates is }
 
 -- before the track, the choices between the sides of both maps
-pub IsChosen-sides : (shapes : List Shape) (track own low high r low_off low_on high_off high_on off on : ℕ) → low < length shapes → high < length shapes → r < length shapes
+pub IsChosen-sides : {shapes : List Shape} {track : ℕ} (own : ℕ) {low high : ℕ} (r : ℕ) {low_off low_on high_off high_on : ℕ} (off on : ℕ) → low < length shapes → high < length shapes → r < length shapes
     → own < track → own ≡ top_of_both shapes low high
     → IsSplit shapes low own low_off low_on → IsSplit shapes high own high_off high_on → IsChosen shapes track low_off high_off off → IsChosen shapes track low_on high_on on
     → ((letter : ℕ) → map_at shapes r letter ≡ chosen shapes own off on letter) → own ≤ top_track shapes r → IsChosen shapes track low high r
-IsChosen-sides shapes track own low high r low_off low_on high_off high_on off on kl kh kr before is_own sl sh is_off is_on map top = record {
+IsChosen-sides {track} own r off on kl kh kr before is_own sl sh is_off is_on map top = record {
   known = kr;
   low_known = kl;
   high_known = kh;

@@ -8,8 +8,8 @@ use Rattle.letter_diagram.specs.Diagram.{map_at, chosen, Grows}
 use Rattle.letter_diagram.specs.Composed.{IsComposed, RemembersComposed}
 use Rattle.letter_diagram.proofs.Memos.{answers-insert}
 
-pub rows-grow : (old new : List Shape) (rows : List ℕ) → Grows old new → All (λ node. node < length old) rows → All (λ node. node < length new) rows
-rows-grow old new rows grows all i d h = let k = all i d h in let l = grows.longer in omega (arith, k, l)
+pub rows-grow : {old new : List Shape} (rows : List ℕ) → Grows old new → All (λ node. node < length old) rows → All (λ node. node < length new) rows
+rows-grow rows grows all i d h = let k = all i d h in let l = grows.longer in omega (arith, k, l)
 
 pub IsComposed-grows : {old new : List Shape} {rows : List ℕ} {a r : ℕ} → Grows old new → IsComposed old rows a r → IsComposed new rows a r
 IsComposed-grows {old} {new} {rows} {a} {r} grows is =
@@ -19,7 +19,7 @@ IsComposed-grows {old} {new} {rows} {a} {r} grows is =
     record {
       known = omega (arith, known, longer);
       source_known = omega (arith, source_known, longer);
-      rows_known = rows-grow old new rows grows is.rows_known;
+      rows_known = rows-grow rows grows is.rows_known;
       within = λ letter. subst (λ n. n < length rows) (sym (grows.map a letter is.source_known)) (is.within letter);
       map = λ letter.
           let row = is.rows_known (map_at old a letter) 0 (is.within letter) in
@@ -55,13 +55,13 @@ by_bit true x y p q F e f = e
 by_bit false x y p q F e f = f
 
 -- at a test
-pub IsComposed-test : (shapes new : List Shape) (rows : List ℕ) (a r track low high off on : ℕ)
+pub IsComposed-test : {shapes new : List Shape} {rows : List ℕ} (a r track low high : ℕ) {off on : ℕ}
     → a < length shapes → ((letter : ℕ) → map_at shapes a letter ≡ chosen shapes track low high letter)
     → IsComposed shapes rows low off → IsComposed shapes rows high on → Grows shapes new → r < length new → ((letter : ℕ) → map_at new r letter ≡ chosen shapes track off on letter)
     → IsComposed new rows a r
-IsComposed-test shapes new rows a r track low high off on known split l h grows r_known map =
+IsComposed-test {shapes} {new} {rows} a r track low high known split l h grows r_known map =
     let longer = grows.longer in
-    let all = rows-grow shapes new rows grows l.rows_known in
+    let all = rows-grow rows grows l.rows_known in
     let within : (letter : ℕ) → map_at shapes a letter < length rows =
     λ letter. subst (λ n. n < length rows) (sym (split letter)) (side (nat_eq (bit_at letter track) 0) _ _ (l.within letter) (h.within letter)) in
     record {

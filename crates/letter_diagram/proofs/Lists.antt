@@ -5,10 +5,10 @@ use Rattle.std.proofs.lemmas.List.{length_push, get_or_push, get_or_append_left,
 use Rattle.std.proofs.lemmas.Option.{get_or_from_slice_get, slice_get_within}
 use Rattle.letter_diagram.specs.Listed.{EachAnswers}
 
-pub EachAnswers-push : (R S : ℕ → ℕ → Type 0) (nodes answers : List ℕ) (i a r : ℕ) → ((x y : ℕ) → R x y → S x y) → i < length nodes → a ≡ get_or nodes i a
+pub EachAnswers-push : {R : ℕ → ℕ → Type 0} (S : ℕ → ℕ → Type 0) (nodes : List ℕ) {answers : List ℕ} (i a r : ℕ) → ((x y : ℕ) → R x y → S x y) → i < length nodes → a ≡ get_or nodes i a
     → EachAnswers R (take i nodes) answers → S a r
     → EachAnswers S (take (i + 1) nodes) (answers ++ r ∷ [])
-EachAnswers-push R S nodes answers i a r weaker below is all last =
+EachAnswers-push {R = R} S nodes {answers} i a r weaker below is all last =
     let size = length-take-le i nodes (omega arith) in
     let more = take_more nodes i 0 below in
     let here : a ≡ get_or nodes i 0 = get_or_read nodes i a below is 0 in

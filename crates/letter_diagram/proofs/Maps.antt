@@ -46,8 +46,8 @@ Grows-append xs ys = record {
 pub Grows-refl : (xs : List Shape) → Grows xs xs
 Grows-refl xs = record { longer = omega arith; map = λ node letter h. refl; top = λ node h. refl }
 
-pub Grows-trans : (xs ys zs : List Shape) → Grows xs ys → Grows ys zs → Grows xs zs
-Grows-trans xs ys zs g h = record {
+pub Grows-trans : {xs ys zs : List Shape} → Grows xs ys → Grows ys zs → Grows xs zs
+Grows-trans g h = record {
   longer = omega arith;
   map = λ node letter k. h.map node letter (omega arith) ∙ g.map node letter k;
   top = λ node k. h.top node (omega arith) ∙ g.top node k;

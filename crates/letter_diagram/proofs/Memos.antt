@@ -27,10 +27,10 @@ Learns-updates memo new node made updates = record {
 }
 
 -- the same where a node's number is an answer's place
-pub node_answers-insert : (R : ℕ → ℕ → Type 0) (memo new : List (Option ℕ)) (a r : ℕ)
+pub node_answers-insert : (R : ℕ → ℕ → Type 0) {memo new : List (Option ℕ)} {a r : ℕ}
     → ((b s : ℕ) → answer_of memo b ≡ Some s → R b s) → Remembers memo new a r → R a r → (b s : ℕ)
     → answer_of new b ≡ Some s → R b s
-node_answers-insert R memo new a r all remembers here b s at = elim (remembers.only b s at) [
+node_answers-insert R {a} all remembers here b s at = elim (remembers.only b s at) [
   | inl before ↦ all b s before
   | inr now ↦ subst (λ n. R n s) (sym now.0) (subst (R a) (sym now.1) here)
 ]

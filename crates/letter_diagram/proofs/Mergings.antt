@@ -15,13 +15,13 @@ use Rattle.letter_diagram.proofs.Splittings.{top_of_both-grows, chosen-low, chos
 use Rattle.letter_diagram.proofs.SetNumbers.{IsUnion-kept, IsUnion-same, IsUnion-at}
 
 -- a side of a split does not look at the track
-side_map : (shapes : List Shape) → IsDiagram shapes → (track bit side letter other : ℕ) → side < length shapes → track < top_track shapes side → IsWithBit other letter track bit
+side_map : {shapes : List Shape} → IsDiagram shapes → {track bit : ℕ} (side : ℕ) {letter other : ℕ} → side < length shapes → track < top_track shapes side → IsWithBit other letter track bit
     → map_at shapes side letter ≡ map_at shapes side other
-side_map shapes is track bit side letter other known above with =
+side_map {shapes} is {track} side {letter} {other} known above with =
     map_at-agree shapes is side known letter other (λ k from small. sym (with.same k (let ne : k ≢ track = omega arith in ne)))
 
-pub HasSets-grows : (old new : List Shape) (sets sets' : List (List ℕ)) (a : ℕ) → Grows old new → SetsKept sets sets' → HasSets old sets a → HasSets new sets' a
-HasSets-grows old new sets sets' a grows kept has =
+pub HasSets-grows : {old new : List Shape} {sets sets' : List (List ℕ)} {a : ℕ} → Grows old new → SetsKept sets sets' → HasSets old sets a → HasSets new sets' a
+HasSets-grows {a} grows kept has =
     let known = has.known in
     let longer = grows.longer in
     let more = kept.longer in
@@ -51,48 +51,48 @@ union-grows {a} {b} la lb grows kept ha hb en is =
     IsUnion-at (sym (grows.map a la ha.known)) (sym (grows.map b lb hb.known)) (sym en) (IsUnion-kept kept (ha.numbered la) (hb.numbered lb) is)
 
 -- a node that looks only at tracks above one ignores that one
-IgnoresTrack-above : (shapes : List Shape) → IsDiagram shapes → (node track : ℕ) → node < length shapes → track < top_track shapes node → IgnoresTrack shapes node track
-IgnoresTrack-above shapes is node track known above = record { same = λ x y agree. map_at-agree shapes is node known x y (λ k from small. agree k (let ne : k ≢ track = omega arith in ne)) }
+IgnoresTrack-above : {shapes : List Shape} → IsDiagram shapes → (node track : ℕ) → node < length shapes → track < top_track shapes node → IgnoresTrack shapes node track
+IgnoresTrack-above {shapes} is node track known above = record { same = λ x y agree. map_at-agree shapes is node known x y (λ k from small. agree k (let ne : k ≢ track = omega arith in ne)) }
 
 pub IsUnited-grows : {old new : List Shape} {sets sets' : List (List ℕ)} {a b r : ℕ} → Grows old new → SetsKept sets sets' → IsUnited old sets a b r → IsUnited new sets' a b r
 IsUnited-grows {old} {new} {sets} {sets'} {a} {b} {r} grows kept is =
     let longer = grows.longer in
     let k = is.known in
     let top = is.top in
-    let tops = top_of_both-grows old new a b grows is.a_sets.known is.b_sets.known in
+    let tops = top_of_both-grows a b grows is.a_sets.known is.b_sets.known in
     let top_r = grows.top r is.known in
     record {
-      a_sets = HasSets-grows old new sets sets' a grows kept is.a_sets;
-      b_sets = HasSets-grows old new sets sets' b grows kept is.b_sets;
+      a_sets = HasSets-grows grows kept is.a_sets;
+      b_sets = HasSets-grows grows kept is.b_sets;
       known = omega arith;
       map = λ letter. union-grows letter letter grows kept is.a_sets is.b_sets (grows.map r letter is.known) (is.map letter);
       top = omega arith;
       ignores = λ track below. record { same = λ x y agree. grows.map r x is.known ∙ (is.ignores track (omega arith)).same x y agree ∙ sym (grows.map r y is.known) };
     }
 
-pub IsUnited-same : (shapes : List Shape) → IsDiagram shapes → (sets : List (List ℕ)) (a b : ℕ) → a ≡ b → HasSets shapes sets a → IsUnited shapes sets a b a
-IsUnited-same shapes is sets a b e has = subst (λ n. IsUnited shapes sets a n a) e (record {
+pub IsUnited-same : {shapes : List Shape} → IsDiagram shapes → {sets : List (List ℕ)} {a : ℕ} (b : ℕ) → a ≡ b → HasSets shapes sets a → IsUnited shapes sets a b a
+IsUnited-same {shapes} is {sets} {a} b e has = subst (λ n. IsUnited shapes sets a n a) e (record {
   a_sets = has;
   b_sets = has;
   known = has.known;
   map = λ letter. IsUnion-same sets (map_at shapes a letter) (has.numbered letter);
   top = omega arith;
-  ignores = λ track below. IgnoresTrack-above shapes is a track has.known (omega arith);
+  ignores = λ track below. IgnoresTrack-above is a track has.known (omega arith);
 })
 
-pick : (c : Bool) (sets : List (List ℕ)) (xl xh yl yh nl nh : ℕ) → IsUnion sets xl yl nl
+pick : (c : Bool) {sets : List (List ℕ)} {xl xh yl yh nl nh : ℕ} → IsUnion sets xl yl nl
     → IsUnion sets xh yh nh → IsUnion sets (if c then xl else xh) (if c then yl else yh) (if c then nl else nh)
-pick true sets xl xh yl yh nl nh l h = l
-pick false sets xl xh yl yh nl nh l h = h
+pick true l h = l
+pick false l h = h
 
-pub IsUnited-sides : (shapes : List Shape) (sets : List (List ℕ)) (a b r track al ah bl bh low high : ℕ) → HasSets shapes sets a → HasSets shapes sets b → r < length shapes
+pub IsUnited-sides : {shapes : List Shape} {sets : List (List ℕ)} {a b : ℕ} (r track : ℕ) {al ah bl bh : ℕ} (low high : ℕ) → HasSets shapes sets a → HasSets shapes sets b → r < length shapes
     → IsSplit shapes a track al ah → IsSplit shapes b track bl bh → track ≡ top_of_both shapes a b → IsUnited shapes sets al bl low → IsUnited shapes sets ah bh high
     → ((letter : ℕ) → map_at shapes r letter ≡ chosen shapes track low high letter) → track ≤ top_track shapes r → IsUnited shapes sets a b r
-IsUnited-sides shapes sets a b r track al ah bl bh low high ha hb kr sa sb e ul uh map top = record {
+IsUnited-sides {shapes} r track low high ha hb kr sa sb e ul uh map top = record {
   a_sets = ha;
   b_sets = hb;
   known = kr;
-  map = λ letter. IsUnion-at (sym (sa.map letter)) (sym (sb.map letter)) (sym (map letter)) (pick (nat_eq (bit_at letter track) 0) sets _ _ _ _ _ _ (ul.map letter) (uh.map letter));
+  map = λ letter. IsUnion-at (sym (sa.map letter)) (sym (sb.map letter)) (sym (map letter)) (pick (nat_eq (bit_at letter track) 0) (ul.map letter) (uh.map letter));
   top = subst (λ t. t ≤ top_track shapes r) e top;
   ignores = λ other below.
       let a_low = sa.low_above in
@@ -115,12 +115,12 @@ pub RemembersUnited-insert : {S : Type 0} {shapes : List Shape} {sets : List (Li
 RemembersUnited-insert {shapes} {sets} {memo} {new} {a} {b} {r} all updates is = record { united = pair_answers-insert (IsUnited shapes sets) memo new a b r all.united updates is }
 
 -- the sets that two sides added are unions of sets of both nodes
-pub AreUnions-sides : (shapes mid : List Shape) → IsDiagram shapes → (first second third : List (List ℕ)) (a b track al ah bl bh : ℕ)
+pub AreUnions-sides : {shapes mid : List Shape} → IsDiagram shapes → {first second third : List (List ℕ)} {a b : ℕ} (track : ℕ) {al ah bl bh : ℕ}
     → Grows shapes mid → SetsKept first second → SetsKept second third
     → IsSplit shapes a track al ah → IsSplit shapes b track bl bh → HasSets shapes first a → HasSets shapes first b → AreUnions shapes (length first) second al bl
     → AreUnions mid (length second) third ah bh
     → AreUnions shapes (length first) third a b
-AreUnions-sides shapes mid is first second third a b track al ah bl bh grows kept kept' sa sb ha hb low high = record {
+AreUnions-sides is {second} track {ah} {bh} grows kept kept' sa sb ha hb low high = record {
   answer = λ number from below. elim (cases_lt number (length second)) [
     | inl early ↦
         let l = low.answer number from early in
@@ -136,15 +136,15 @@ AreUnions-sides shapes mid is first second third a b track al ah bl bh grows kep
   ];
 }
 
-pub IsMerged-grows : (old new : List Shape) (sets sets' : List (List ℕ)) (track a r : ℕ) → Grows old new → SetsKept sets sets' → IsMerged old sets track a r → IsMerged new sets' track a r
-IsMerged-grows old new sets sets' track a r grows kept is =
+pub IsMerged-grows : {old new : List Shape} {sets sets' : List (List ℕ)} {track a r : ℕ} → Grows old new → SetsKept sets sets' → IsMerged old sets track a r → IsMerged new sets' track a r
+IsMerged-grows {a} {r} grows kept is =
     let longer = grows.longer in
     let k = is.known in
     let top = is.top in
     let top_a = grows.top a is.source.known in
     let top_r = grows.top r is.known in
     record {
-      source = HasSets-grows old new sets sets' a grows kept is.source;
+      source = HasSets-grows grows kept is.source;
       known = omega arith;
       map = λ letter off on z o. union-grows off on grows kept is.source is.source (grows.map r letter is.known) (is.map letter off on z o);
       ignores = record { same = λ x y agree. grows.map r x is.known ∙ is.ignores.same x y agree ∙ sym (grows.map r y is.known) };
@@ -153,29 +153,29 @@ IsMerged-grows old new sets sets' track a r grows kept is =
 
 pub RemembersMerged-grows : {S : Type 0} {old new : List Shape} {sets sets' : List (List ℕ)} {track : ℕ} {memo : HashMap ℕ ℕ S} → Grows old new → SetsKept sets sets'
     → RemembersMerged old sets track memo → RemembersMerged new sets' track memo
-RemembersMerged-grows {old} {new} {sets} {sets'} {track} grows kept all = record { merged = λ a r at. IsMerged-grows old new sets sets' track a r grows kept (all.merged a r at) }
+RemembersMerged-grows {old} {new} {sets} {sets'} {track} grows kept all = record { merged = λ a r at. IsMerged-grows grows kept (all.merged a r at) }
 
 pub RemembersMerged-insert : {S : Type 0} {shapes : List Shape} {sets : List (List ℕ)} {track : ℕ} {memo new : HashMap ℕ ℕ S} {a r : ℕ} → RemembersMerged shapes sets track memo
     → Updates nat_eq memo new a (Some r) → IsMerged shapes sets track a r → RemembersMerged shapes sets track new
 RemembersMerged-insert {shapes} {sets} {track} {memo} {new} {a} {r} all updates is = record { merged = answers-insert (IsMerged shapes sets track) memo new a r all.merged updates is }
 
 -- a map that looks only at tracks above is merged already
-pub IsMerged-above : (shapes : List Shape) → IsDiagram shapes → (sets : List (List ℕ)) (track a : ℕ) → track < top_track shapes a → HasSets shapes sets a → IsMerged shapes sets track a a
-IsMerged-above shapes is sets track a above has = record {
+pub IsMerged-above : {shapes : List Shape} → IsDiagram shapes → {sets : List (List ℕ)} (track : ℕ) {a : ℕ} → track < top_track shapes a → HasSets shapes sets a → IsMerged shapes sets track a a
+IsMerged-above {shapes} is {sets} track {a} above has = record {
   source = has;
   known = has.known;
   map = λ letter off on z o.
-      IsUnion-at (side_map shapes is track 0 a letter off has.known above z)
-      (side_map shapes is track 1 a letter on has.known above o) refl (IsUnion-same sets (map_at shapes a letter) (has.numbered letter));
-  ignores = IgnoresTrack-above shapes is a track has.known above;
+      IsUnion-at (side_map is a has.known above z)
+      (side_map is a has.known above o) refl (IsUnion-same sets (map_at shapes a letter) (has.numbered letter));
+  ignores = IgnoresTrack-above is a track has.known above;
   top = omega arith;
 }
 
 -- at the track, the sides are united: old has the sides, shapes their union
-pub IsMerged-at : (old shapes : List Shape) → IsDiagram old → (before sets : List (List ℕ)) (track a low high r : ℕ) → Grows old shapes → SetsKept before sets
+pub IsMerged-at : {old shapes : List Shape} → IsDiagram old → {before sets : List (List ℕ)} (track : ℕ) {a low high r : ℕ} → Grows old shapes → SetsKept before sets
     → HasSets old before a → top_track old a ≡ track
     → IsSplit old a track low high → IsUnited shapes sets low high r → IsMerged shapes sets track a r
-IsMerged-at old shapes is before sets track a low high r grows kept has top_a s u =
+IsMerged-at {old} is track {a} {low} {high} grows kept has top_a s u =
     let low_above = s.low_above in
     let high_above = s.high_above in
     let low_top = grows.top low s.low_known in
@@ -183,23 +183,23 @@ IsMerged-at old shapes is before sets track a low high r grows kept has top_a s 
     let top = u.top in
     let top' = grows.top a has.known in
     record {
-      source = HasSets-grows old shapes before sets a grows kept has;
+      source = HasSets-grows grows kept has;
       known = u.known;
       map = λ letter off on z o.
           IsUnion-at
-          (grows.map low letter s.low_known ∙ side_map old is track 0 low letter off s.low_known s.low_above z
+          (grows.map low letter s.low_known ∙ side_map is low s.low_known s.low_above z
           ∙ sym (grows.map a off has.known ∙ s.map off ∙ chosen-low old track low high off z.at))
-          (grows.map high letter s.high_known ∙ side_map old is track 1 high letter on s.high_known s.high_above o ∙ sym (grows.map a on has.known ∙ s.map on ∙ chosen-high old track low high on o.at))
+          (grows.map high letter s.high_known ∙ side_map is high s.high_known s.high_above o ∙ sym (grows.map a on has.known ∙ s.map on ∙ chosen-high old track low high on o.at))
           refl (u.map letter);
       ignores = u.ignores track (omega arith);
       top = omega arith;
     }
 
 -- above the track, both sides of a test are merged
-pub IsMerged-test : (shapes : List Shape) (sets : List (List ℕ)) (track a r own low high low' high' : ℕ) → HasSets shapes sets a → r < length shapes → own < track
+pub IsMerged-test : {shapes : List Shape} {sets : List (List ℕ)} {track a : ℕ} (r own : ℕ) {low high : ℕ} (low' high' : ℕ) → HasSets shapes sets a → r < length shapes → own < track
     → IsSplit shapes a own low high → IsMerged shapes sets track low low' → IsMerged shapes sets track high high'
     → ((letter : ℕ) → map_at shapes r letter ≡ chosen shapes own low' high' letter) → top_track shapes a ≡ own → own ≤ top_track shapes r → IsMerged shapes sets track a r
-IsMerged-test shapes sets track a r own low high low' high' has kr before s l h map top_a top = record {
+IsMerged-test {shapes} {track} r own {low} {high} low' high' has kr before s l h map top_a top = record {
   source = has;
   known = kr;
   map = λ letter off on z o.
@@ -207,7 +207,7 @@ IsMerged-test shapes sets track a r own low high low' high' has kr before s l h 
       IsUnion-at
       ((λ i. if nat_eq (sym (z.same own ne) i) 0 then map_at shapes low off else map_at shapes high off) ∙ sym (s.map off))
       ((λ i. if nat_eq (sym (o.same own ne) i) 0 then map_at shapes low on else map_at shapes high on) ∙ sym (s.map on))
-      (sym (map letter)) (pick (nat_eq (bit_at letter own) 0) sets _ _ _ _ _ _ (l.map letter off on z o) (h.map letter off on z o));
+      (sym (map letter)) (pick (nat_eq (bit_at letter own) 0) (l.map letter off on z o) (h.map letter off on z o));
   ignores = record {
     same = λ x y agree.
         let ne : own ≢ track = omega arith in
@@ -217,9 +217,9 @@ IsMerged-test shapes sets track a r own low high low' high' has kr before s l h 
 }
 
 -- the unions of both sides are unions of the sets at two letters
-pub AreMerged-at : (shapes : List Shape) → IsDiagram shapes → (from : ℕ) (sets : List (List ℕ)) (track a low high : ℕ) → IsSplit shapes a track low high
+pub AreMerged-at : {shapes : List Shape} → IsDiagram shapes → {from : ℕ} {sets : List (List ℕ)} (track : ℕ) {a low high : ℕ} → IsSplit shapes a track low high
     → AreUnions shapes from sets low high → AreMerged shapes from sets track a
-AreMerged-at shapes is from sets track a low high s all = record {
+AreMerged-at {shapes} is track {low} {high} s all = record {
   answer = λ number above below.
       let u = all.answer number above below in
       let other = flip u.0 track in
@@ -265,9 +265,9 @@ flipped_pair off on own track ne z with =
 
 module _ (shapes : List Shape) (is : IsDiagram shapes) (sets : List (List ℕ)) (track a own low high : ℕ) (ne : own ≢ track) (s : IsSplit shapes a own low high) where
   -- the sides give at two letters what the node gives at two letters
-  low_pair : (off on n : ℕ) → bit_at off track ≡ 0 → IsWithBit on off track 1 → IsUnion sets (map_at shapes low off) (map_at shapes low on) n
+  low_pair : {off on n : ℕ} → bit_at off track ≡ 0 → IsWithBit on off track 1 → IsUnion sets (map_at shapes low off) (map_at shapes low on) n
       → (z o : ℕ) × (bit_at z track ≡ 0) × IsWithBit o z track 1 × IsUnion sets (map_at shapes a z) (map_at shapes a o) n
-  low_pair off on n bit with union = elim (bit_cases off own) [
+  low_pair {off} {on} {n} bit with union = elim (bit_cases off own) [
     | inl z ↦
         (off, on, bit, with, IsUnion-at (sym (s.map off ∙ chosen-low shapes own low high off z)) (sym (s.map on ∙ chosen-low shapes own low high on (with.same own ne ∙ z))) refl union)
     | inr o ↦
@@ -285,9 +285,9 @@ module _ (shapes : List Shape) (is : IsDiagram shapes) (sets : List (List ℕ)) 
         )
   ]
 
-  high_pair : (off on n : ℕ) → bit_at off track ≡ 0 → IsWithBit on off track 1 → IsUnion sets (map_at shapes high off) (map_at shapes high on) n
+  high_pair : {off on n : ℕ} → bit_at off track ≡ 0 → IsWithBit on off track 1 → IsUnion sets (map_at shapes high off) (map_at shapes high on) n
       → (z o : ℕ) × (bit_at z track ≡ 0) × IsWithBit o z track 1 × IsUnion sets (map_at shapes a z) (map_at shapes a o) n
-  high_pair off on n bit with union = elim (bit_cases off own) [
+  high_pair {off} {on} {n} bit with union = elim (bit_cases off own) [
     | inr o ↦
         (off, on, bit, with, IsUnion-at (sym (s.map off ∙ chosen-high shapes own low high off o)) (sym (s.map on ∙ chosen-high shapes own low high on (with.same own ne ∙ o))) refl union)
     | inl z ↦
@@ -306,23 +306,23 @@ module _ (shapes : List Shape) (is : IsDiagram shapes) (sets : List (List ℕ)) 
   ]
 
 -- the sets that two sides added are unions of sets of the node
-pub AreMerged-sides : (shapes mid : List Shape) → IsDiagram shapes → (first second third : List (List ℕ)) (track a own low high : ℕ) → own < track → Grows shapes mid
+pub AreMerged-sides : {shapes mid : List Shape} → IsDiagram shapes → {first second third : List (List ℕ)} (track : ℕ) {a : ℕ} (own : ℕ) {low high : ℕ} → own < track → Grows shapes mid
     → SetsKept first second → SetsKept second third
     → IsSplit shapes a own low high → HasSets shapes first a → AreMerged shapes (length first) second track low → AreMerged mid (length second) third track high
     → AreMerged shapes (length first) third track a
-AreMerged-sides shapes mid is first second third track a own low high before grows kept kept' s has l h = record {
+AreMerged-sides {shapes} is {second} {third} track {a} own {low} {high} before grows kept kept' s has l h = record {
   answer = λ number from below.
       let ne : own ≢ track = omega arith in
       elim (cases_lt number (length second)) [
         | inl early ↦
             let u = l.answer number from early in
-            let m = low_pair shapes is second track a own low high ne s u.0 u.1 number u.2 u.3 u.4 in
+            let m = low_pair shapes is second track a own low high ne s u.2 u.3 u.4 in
             let more = kept.longer in
             let n0 = has.numbered m.0 in
             let n1 = has.numbered m.1 in
             (m.0, m.1, m.2, m.3, IsUnion-kept kept' (omega (arith, n0, more)) (omega (arith, n1, more)) m.4)
         | inr late ↦
             let u = h.answer number late below in
-            high_pair shapes is third track a own low high ne s u.0 u.1 number u.2 u.3 (IsUnion-at (grows.map high u.0 s.high_known) (grows.map high u.1 s.high_known) refl u.4)
+            high_pair shapes is third track a own low high ne s u.2 u.3 (IsUnion-at (grows.map high u.0 s.high_known) (grows.map high u.1 s.high_known) refl u.4)
       ];
 }

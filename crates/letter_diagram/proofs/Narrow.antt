@@ -90,8 +90,8 @@ bit_at-relabelled (t ∷ tracks) letter (suc k) d h =
     let half : (bit_at letter t + 2 * relabelled tracks letter) / 2 ≡ relabelled tracks letter = omega (arith, small) in
     bit_at-suc (bit_at letter t + 2 * relabelled tracks letter) k ∙ ap (λ n. bit_at n k) half ∙ bit_at-relabelled tracks letter k d (omega arith)
 
-pub LooksBelow-grows : (old new : List Shape) (node bound : ℕ) → node < length old → Grows old new → LooksBelow old node bound → LooksBelow new node bound
-LooksBelow-grows old new node bound known grows narrow = record { same = λ a b agree. grows.map node a known ∙ narrow.same a b agree ∙ sym (grows.map node b known) }
+pub LooksBelow-grows : {old new : List Shape} {node bound : ℕ} → node < length old → Grows old new → LooksBelow old node bound → LooksBelow new node bound
+LooksBelow-grows {node} known grows narrow = record { same = λ a b agree. grows.map node a known ∙ narrow.same a b agree ∙ sym (grows.map node b known) }
 
 -- a letter of so many tracks
 pub relabelled-below : (tracks : List ℕ) (letter : ℕ) → relabelled tracks letter < 2 ^ length tracks

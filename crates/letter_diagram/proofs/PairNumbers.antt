@@ -43,8 +43,8 @@ PairsKept-append xs ys = record {
 pub PairsKept-refl : (xs : List (ℕ × ℕ)) → PairsKept xs xs
 PairsKept-refl xs = record { longer = omega arith; at = λ n p h. h }
 
-pub PairsKept-trans : (xs ys zs : List (ℕ × ℕ)) → PairsKept xs ys → PairsKept ys zs → PairsKept xs zs
-PairsKept-trans xs ys zs f g = record { longer = let a = f.longer in let b = g.longer in omega arith; at = λ n p h. g.at n p (f.at n p h) }
+pub PairsKept-trans : {xs ys zs : List (ℕ × ℕ)} → PairsKept xs ys → PairsKept ys zs → PairsKept xs zs
+PairsKept-trans f g = record { longer = let a = f.longer in let b = g.longer in omega arith; at = λ n p h. g.at n p (f.at n p h) }
 
 pub PairsKept-insert : (old new : List (ℕ × ℕ)) (p : ℕ × ℕ) → new ≡ insert_key pair_eq old p → PairsKept old new
 PairsKept-insert old new p h = by (list_any (pair_eq p) old) refl

@@ -283,14 +283,14 @@ module _ (shapes : List Shape) (is : IsDiagram shapes) (root node letter : ℕ) 
         let le_b = b.2 in
         (b.0, b.1, omega arith)
 
-    moved : (n m x y : ℕ) → n ≡ m → x ≡ y → IsMet shapes root m y → IsMet shapes root n x
-    moved n m x y p q met_there = let P : ℕ → ℕ → Type 0 = λ a b. IsMet shapes root a b in subst (λ a. P a x) (sym p) (subst (P m) (sym q) met_there)
+    moved : (n : ℕ) {m : ℕ} (x : ℕ) {y : ℕ} → n ≡ m → x ≡ y → IsMet shapes root m y → IsMet shapes root n x
+    moved n {m} x p q met_there = let P : ℕ → ℕ → Type 0 = λ a b. IsMet shapes root a b in subst (λ a. P a x) (sym p) (subst (P m) (sym q) met_there)
 
     pub IsPass-test : IsPass shapes root new firsts
     IsPass-test = record {
       met_at = λ n l e. elim (origin n l e) [
-        | inl w ↦ moved n high l (letter + 2 ^ track) w.0 w.1 high-is-met
-        | inr (inl w) ↦ moved n low l letter w.0 w.1 low-is-met
+        | inl w ↦ moved n l w.0 w.1 high-is-met
+        | inr (inl w) ↦ moved n l w.0 w.1 low-is-met
         | inr (inr old) ↦ pass.met_at n l (out.kept n l old)
       ];
       value_at = pass.value_at;
@@ -356,8 +356,8 @@ module _ (shapes : List Shape) (is : IsDiagram shapes) (root node letter : ℕ) 
     }
 
 -- all nodes are passed
-pub AreFirsts-passed : (shapes : List Shape) (root : ℕ) (met firsts : BTreeMap ℕ ℕ) → IsPass shapes root met firsts → met.entries ≡ [] → AreFirsts shapes root firsts
-AreFirsts-passed shapes root met firsts pass none = record {
+pub AreFirsts-passed : {shapes : List Shape} {root : ℕ} {met firsts : BTreeMap ℕ ℕ} → IsPass shapes root met firsts → met.entries ≡ [] → AreFirsts shapes root firsts
+AreFirsts-passed {shapes} {root} {met} {firsts} pass none = record {
   first = λ letter value at. record {
     map = pass.value_at letter value at;
     least = λ l e. let w = found l in let same = pass.once letter w.first value at (w.at ∙ ap Some e) in let early = w.early in omega (arith, same, early);
@@ -378,10 +378,10 @@ smaller-leaf old new node letter removal all =
     let lt = above-last new.entries (node, letter) in
     subst (λ es. above new.entries < above es) (sym removal) (omega (arith, le, lt))
 
-pub smaller-test : (old met half new : BTreeMap ℕ ℕ) (node letter low high first second : ℕ) → old.entries ≡ met.entries ++ (node, letter) ∷ []
+pub smaller-test : (old met half new : BTreeMap ℕ ℕ) (node letter : ℕ) {low high first second : ℕ} → old.entries ≡ met.entries ++ (node, letter) ∷ []
     → All (λ key. IsLtBy nat_cmp key node) (keys_of met.entries) → low < node → high < node → Meets met half low first → Meets half new high second
     → above new.entries < above old.entries
-smaller-test old met half new node letter low high first second removal all low_before high_before a b =
+smaller-test old met half new node letter removal all low_before high_before a b =
     let le = above-le new.entries node (b.below node high_before (a.below node low_before (under met.entries node all))) in
     let lt = above-last met.entries (node, letter) in
     subst (λ es. above new.entries < above es) (sym removal) (omega (arith, le, lt))

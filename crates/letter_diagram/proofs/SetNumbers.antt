@@ -67,8 +67,8 @@ NumbersSet-insert old new set h = by (list_any (set_eq set) old) refl
 pub SetsKept-refl : (xs : List (List ℕ)) → SetsKept xs xs
 SetsKept-refl xs = record { longer = omega arith; at = λ n s h. h }
 
-pub SetsKept-trans : (xs ys zs : List (List ℕ)) → SetsKept xs ys → SetsKept ys zs → SetsKept xs zs
-SetsKept-trans xs ys zs f g = record { longer = let a = f.longer in let b = g.longer in omega arith; at = λ n s h. g.at n s (f.at n s h) }
+pub SetsKept-trans : {xs ys zs : List (List ℕ)} → SetsKept xs ys → SetsKept ys zs → SetsKept xs zs
+SetsKept-trans f g = record { longer = let a = f.longer in let b = g.longer in omega arith; at = λ n s h. g.at n s (f.at n s h) }
 
 SetsKept-append : (xs ys : List (List ℕ)) → SetsKept xs (xs ++ ys)
 SetsKept-append xs ys = record {
@@ -98,16 +98,16 @@ unrepeated_still old new set (inr (e, absent)) all =
     subst (AllPairs (λ x y. x ≢ y)) (sym e) (all_pairs_push (λ x y. x ≢ y) old set all (λ k d below same. absent (subst (Contains old) same (Contains-get_or old k d below))))
 
 -- the sets of known numbers stay
-pub set_at-kept : (old new : List (List ℕ)) (n : ℕ) → SetsKept old new → n < length old → set_at new n ≡ set_at old n
-set_at-kept old new n kept below = get_or_from_slice_get new n (get_or old n []) [] (kept.at n (get_or old n []) (slice_get-get_or old n [] below))
+pub set_at-kept : {old new : List (List ℕ)} (n : ℕ) → SetsKept old new → n < length old → set_at new n ≡ set_at old n
+set_at-kept {old} {new} n kept below = get_or_from_slice_get new n (get_or old n []) [] (kept.at n (get_or old n []) (slice_get-get_or old n [] below))
 
 pub IsUnion-kept : {old new : List (List ℕ)} {x y n : ℕ} → SetsKept old new → x < length old → y < length old → IsUnion old x y n → IsUnion new x y n
 IsUnion-kept {old} {new} {x} {y} {n} kept kx ky is =
     let known = is.known in
     let longer = kept.longer in
-    let en = set_at-kept old new n kept is.known in
-    let ex = set_at-kept old new x kept kx in
-    let ey = set_at-kept old new y kept ky in
+    let en = set_at-kept n kept is.known in
+    let ex = set_at-kept x kept kx in
+    let ey = set_at-kept y kept ky in
     record { known = omega arith; members = λ element. rw (en, ex, ey) (is.members element) }
 
 pub IsUnion-same : (sets : List (List ℕ)) (x : ℕ) → x < length sets → IsUnion sets x x x
@@ -119,8 +119,8 @@ pub IsUnion-numbered : {old new : List (List ℕ)} {x y n : ℕ} {both xs ys : L
     → ((element : ℕ) → (Contains both element → Contains xs element ⊎ Contains ys element) × (Contains xs element ⊎ Contains ys element → Contains both element)) → IsUnion new x y n
 IsUnion-numbered {old} {new} {x} {y} {n} {both} kept kx ky at ex ey members =
     let en = get_or_from_slice_get new n both [] at in
-    let fx = set_at-kept old new x kept kx ∙ ex in
-    let fy = set_at-kept old new y kept ky ∙ ey in
+    let fx = set_at-kept x kept kx ∙ ex in
+    let fy = set_at-kept y kept ky ∙ ey in
     record { known = slice_get_within new n both at; members = λ element. rw (en, fx, fy) (members element) }
 
 pub Contains-at : {X : Type 0} (xs : List X) (i : ℕ) (x : X) → slice_get xs i ≡ Some x → Contains xs x

@@ -12,11 +12,11 @@ use Rattle.letter_diagram.specs.Splits.{IsSplit, top_of_both, room_from, room_fo
 use Rattle.letter_diagram.proofs.Canonical.{flip, bit_at-flip_same, flipped}
 
 -- the least track of two stays as nodes are added, and so does the room
-pub top_of_both-grows : (old new : List Shape) (a b : ℕ) → Grows old new → a < length old → b < length old → top_of_both new a b ≡ top_of_both old a b
-top_of_both-grows old new a b grows ka kb = λ i. min (grows.top a ka i) (grows.top b kb i)
+pub top_of_both-grows : {old new : List Shape} (a b : ℕ) → Grows old new → a < length old → b < length old → top_of_both new a b ≡ top_of_both old a b
+top_of_both-grows a b grows ka kb = λ i. min (grows.top a ka i) (grows.top b kb i)
 
-pub room_for-grows : (old new : List Shape) (a b : ℕ) → Grows old new → a < length old → b < length old → room_for new a b ≡ room_for old a b
-room_for-grows old new a b grows ka kb = ap room_from (top_of_both-grows old new a b grows ka kb)
+pub room_for-grows : {old new : List Shape} (a b : ℕ) → Grows old new → a < length old → b < length old → room_for new a b ≡ room_for old a b
+room_for-grows a b grows ka kb = ap room_from (top_of_both-grows a b grows ka kb)
 
 pub room_for-constant : (shapes : List Shape) (a b : ℕ) → top_of_both shapes a b ≡ 20 → room_for shapes a b ≡ 1
 unfolding room_from
@@ -58,9 +58,9 @@ room_for-sides {shapes} {track} {al} {ah} {bl} {bh} small sa sb e =
     subst (λ t. room_for shapes al bl + room_for shapes ah bh ≤ room_from t) e
     (room_from-sides track (top_track shapes al) (top_track shapes ah) (top_track shapes bl) (top_track shapes bh) small sa.low_above sa.high_above sb.low_above sb.high_above)
 
-pub chosen-grows : (old new : List Shape) (track low high letter : ℕ) → low < length old
+pub chosen-grows : {old new : List Shape} (track low high letter : ℕ) → low < length old
     → high < length old → Grows old new → chosen new track low high letter ≡ chosen old track low high letter
-chosen-grows old new track low high letter kl kh grows = λ i. if nat_eq (bit_at letter track) 0 then grows.map low letter kl i else grows.map high letter kh i
+chosen-grows track low high letter kl kh grows = λ i. if nat_eq (bit_at letter track) 0 then grows.map low letter kl i else grows.map high letter kh i
 
 pub IsSplit-grows : {old new : List Shape} {node track low high : ℕ} → node < length old → Grows old new → IsSplit old node track low high → IsSplit new node track low high
 IsSplit-grows {old} {new} {node} {track} {low} {high} known grows s =
@@ -70,7 +70,7 @@ IsSplit-grows {old} {new} {node} {track} {low} {high} known grows s =
     record {
       low_known = omega arith;
       high_known = omega arith;
-      map = λ letter. grows.map node letter known ∙ s.map letter ∙ sym (chosen-grows old new track low high letter s.low_known s.high_known grows);
+      map = λ letter. grows.map node letter known ∙ s.map letter ∙ sym (chosen-grows track low high letter s.low_known s.high_known grows);
       low_above = rw (grows.top low s.low_known) s.low_above;
       high_above = rw (grows.top high s.high_known) s.high_above;
       low_top = rw (grows.top node known, grows.top low s.low_known) s.low_top;

@@ -9,10 +9,10 @@ use Rattle.letter_diagram.proofs.Maps.{IsAt-get}
 use Rattle.letter_diagram.proofs.Canonical.{node-from_map}
 use Rattle.letter_diagram.proofs.Narrow.{low_at, high_at}
 
-by_shape : (shapes : List Shape) → IsDiagram shapes → (node : ℕ) (shape : Shape) → IsAt shapes node shape → FitsBelow shapes node shape → top_track shapes node < 20
+by_shape : {shapes : List Shape} → IsDiagram shapes → {node : ℕ} {shape : Shape} → IsAt shapes node shape → FitsBelow shapes node shape → top_track shapes node < 20
     → IgnoresTrack shapes node (top_track shapes node) → ⊥
-by_shape shapes is node (Leaf value) at fits low ignores = let top = at.top in absurd (omega arith)
-by_shape shapes is node (Test track lower higher) at fits low ignores =
+by_shape is {shape = Leaf value} at fits low ignores = let top = at.top in absurd (omega arith)
+by_shape {shapes} is {node} {shape = Test track lower higher} at fits low ignores =
     let within = at.within in
     let low_before = fits.low_before in
     let high_before = fits.high_before in
@@ -22,8 +22,8 @@ by_shape shapes is node (Test track lower higher) at fits low ignores =
     let q = high_at is at fits letter in
     p.3 ∙ none.same p.0 q.0 (λ k ne. p.2 k ne ∙ sym (q.2 k ne)) ∙ sym q.3))
 
-pub looks_at_top : (shapes : List Shape) → IsDiagram shapes → (node : ℕ) → node < length shapes → top_track shapes node < 20 → IgnoresTrack shapes node (top_track shapes node) → ⊥
-looks_at_top shapes is node known =
+pub looks_at_top : {shapes : List Shape} → IsDiagram shapes → {node : ℕ} → node < length shapes → top_track shapes node < 20 → IgnoresTrack shapes node (top_track shapes node) → ⊥
+looks_at_top {shapes} is {node} known =
     let here = slice_get-get_or shapes node (Leaf 0) known in
     let fits = is.fits node (get_or shapes node (Leaf 0)) here in
-    by_shape shapes is node (get_or shapes node (Leaf 0)) (IsAt-get shapes node (get_or shapes node (Leaf 0)) here fits) fits
+    by_shape is (IsAt-get shapes node (get_or shapes node (Leaf 0)) here fits) fits

@@ -85,13 +85,13 @@ formula_exactly : (budget : ℕ) (f : Tree) (files : Files) (report : Report) �
 formula_exactly budget f files report (inl over) = inl over
 formula_exactly budget f files report (inr (truth, within, right, is)) = inr (truth_line truth, answers f truth right, is)
 
-line_exactly : (budget : ℕ) (line : List ℕ) (f : Tree) (files : Files) (report : Report) → IsFormulaLine line f → LineReports budget line files report → ReportsAnswer budget f files report
-line_exactly budget line f files report means (inl (number, fault, is)) = absurd (formula_is_not_refused line f number means fault)
-line_exactly budget line f files report means (inr (g, also, right)) =
+line_exactly : (budget : ℕ) {line : List ℕ} {f : Tree} (files : Files) (report : Report) → IsFormulaLine line f → LineReports budget line files report → ReportsAnswer budget f files report
+line_exactly budget {line} {f} files report means (inl (number, fault, is)) = absurd (formula_is_not_refused line f number means fault)
+line_exactly budget {line} {f} files report means (inr (g, also, right)) =
     let P : Tree → Type 0 = λ t. FormulaReports budget t files report in
     formula_exactly budget f files report (subst P (one_meaning line g f also means) right)
 
 pub answers_exactly : AnswersExactly
 answers_exactly words bytes files budget line rest f report ordered first means reports =
     let P : Lines → Type 0 = λ lines. ArithReports budget lines files report in
-    line_exactly budget line f files report means (subst P first (of_words words bytes files (Arith budget) report ordered reports))
+    line_exactly budget files report means (subst P first (of_words words bytes files (Arith budget) report ordered reports))

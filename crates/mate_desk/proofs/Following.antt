@@ -51,13 +51,13 @@ module _ (w : Side) (start : Position) (n : ℕ) (by : Strategy) where
     same_follow : (j : ℕ) (r later : Report) → r.games ≡ later.games → Follow j later → Follow j r
     same_follow j r later same follow k m after is number = follow k m after (sym (ap (λ xs. slice_get xs k) same) ∙ is) number
 
-    one_more : (j : ℕ) (r later : Report) (g : Match) → r.games ≡ g ∷ later.games → IsHeldAfter Held start first j g → Follow (j + 1) later → Follow j r
-    one_more j r later g same held follow zero m after is number =
+    one_more : {j : ℕ} (r later : Report) {g : Match} → r.games ≡ g ∷ later.games → IsHeldAfter Held start first j g → Follow (j + 1) later → Follow j r
+    one_more r later {g} same held follow zero m after is number =
         let P : Match → Type 0 = λ x. IsHeldAfter Held start first m x in
         let Q : ℕ → Type 0 = λ k. IsHeldAfter Held start first k g in
         let here : Some g ≡ Some after = sym (ap (λ xs. slice_get xs 0) same) ∙ is in
         subst P (same_Some g after here) (subst Q (omega (arith, number)) held)
-    one_more j r later g same held follow (suc k) m after is number =
+    one_more r later same held follow (suc k) m after is number =
         let there : slice_get later.games k ≡ Some after = sym (ap (λ xs. slice_get xs (suc k)) same) ∙ is in
         follow k m after there (omega (arith, number))
 
@@ -70,11 +70,11 @@ module _ (w : Side) (start : Position) (n : ℕ) (by : Strategy) where
       winner_follow left p ply j r reached count (inl (none, is)) = none_follow j r (ap (λ x. x.games) is)
       winner_follow left p ply j r reached count (inr (c, q, later, picked, legal, goes, is)) =
           let pick = picks p ply c picked in
-          let same : pick.position ≡ q = same_after p c.mv.man (target c.mv) pick.position q pick.leads.legal.step.after legal.step.after in
+          let same : pick.position ≡ q = same_after pick.leads.legal.step.after legal.step.after in
           let H : Position → Type 0 = λ x. Held (suc ply) x in
           let now : Reach start (suc ply) q = (p, reached, (c.mv.man, target c.mv, legal)) in
           let held : IsHeldAfter Held start first j (at q (suc ply)) = record { ply = omega (arith, count); held = subst H same pick.leads.is_in; reached = now } in
-          one_more j r later (at q (suc ply)) (ap (λ x. x.games) is) held (loser_follow left q (suc ply) (j + 1) later now (omega (arith, count)) goes)
+          one_more r later (ap (λ x. x.games) is) held (loser_follow left q (suc ply) (j + 1) later now (omega (arith, count)) goes)
 
       typed_follow : (left : Lines) (p : Position) (ply j : ℕ) (r : Report) (reply : Option Typed) → Reach start ply p
           → ply + 2 ≡ first + 2 * j → AtTyped On left (at p ply) r reply → Follow j r
@@ -114,8 +114,8 @@ record IsAfter (Held : ℕ → Position → Type 0) (w : Side) (start : Position
 
 module _ (w : Side) (start : Position) (n : ℕ) (by : Strategy) (Held : ℕ → Position → Type 0)
     (picks : (p : Position) (ply : ℕ) (c : Choice) → HeldPick (at w start n by p ply) (Some c) → Pick (Held (suc ply)) all_squares p (Some c)) where
-  is_after : (first m : ℕ) (after : Match) → moves_left (last_ply w start.turn n) (first + 2 * m) ≡ n - (m + 1) → IsHeldAfter Held start first m after → IsAfter Held w start n m after
-  is_after first m after left h = record { held = h.held; reached = h.reached; left = ap (moves_left (last_ply w start.turn n)) h.ply ∙ left }
+  is_after : {first m : ℕ} {after : Match} → moves_left (last_ply w start.turn n) (first + 2 * m) ≡ n - (m + 1) → IsHeldAfter Held start first m after → IsAfter Held w start n m after
+  is_after left h = record { held = h.held; reached = h.reached; left = ap (moves_left (last_ply w start.turn n)) h.ply ∙ left }
 
   report_after : (before : ℕ) (lines : Lines) (r : Report) → IsReport before lines (at w start n by start 0) r → (k : ℕ) (after : Match)
       → slice_get r.games k ≡ Some after → IsAfter Held w start n k after
@@ -126,7 +126,7 @@ module _ (w : Side) (start : Position) (n : ℕ) (by : Strategy) (Held : ℕ →
       after is (omega arith) in
       let left : moves_left (last_ply w start.turn n) (1 + 2 * k) ≡ n - (k + 1) =
       ap (λ s. moves_left (last_ply w s n) (1 + 2 * k)) turn ∙ (moves_counted w n (1 + 2 * k)).0 ∙ ap (λ x. n - x) (half_first k) in
-      is_after 1 k after left h
+      is_after left h
   report_after before lines r (inr (turn, goes)) k after is =
       let h =
       loser_follow w start n by Held picks 2 (AtLines before 0 lines)
@@ -134,7 +134,7 @@ module _ (w : Side) (start : Position) (n : ℕ) (by : Strategy) (Held : ℕ →
       after is (omega arith) in
       let left : moves_left (last_ply w start.turn n) (2 + 2 * k) ≡ n - (k + 1) =
       ap (λ s. moves_left (last_ply w s n) (2 + 2 * k)) turn ∙ (moves_counted w n (2 + 2 * k)).1 ∙ ap (λ x. n - x) (half_second k) in
-      is_after 2 k after left h
+      is_after left h
 
 -- what is kept after the winner's move is won within the moves that he has left
 report_keeps : (n : ℕ) (problem : Problem) (before : ℕ) (lines : Lines) (r : Report) → IsReport before lines (first_match n problem) r
@@ -145,9 +145,9 @@ report_keeps n problem before lines r report k after is =
     record { reached = a.reached; value = subst P a.left a.held.value }
 
 -- and after what is claimed then the loser is mated within them
-pub claim_keeps : (c : Claim) → IsClaim c → Won c → (before : ℕ) (lines : Lines) (r : Report) → IsReport before lines (claimed_match c) r
+pub claim_keeps : {c : Claim} → IsClaim c → Won c → (before : ℕ) (lines : Lines) (r : Report) → IsReport before lines (claimed_match c) r
     → (k : ℕ) (after : Match) → slice_get r.games k ≡ Some after → IsLostGame c k after
-claim_keeps c is_claim won before lines r report k after is =
+claim_keeps {c} is_claim won before lines r report k after is =
     let a = report_after c.winner c.position c.moves (ByClaim c) (IsClaimed c) (λ p ply d pick. pick) before lines r report k after is in
     let P : ℕ → Type 0 = λ moves. Lost c.winner moves after.position in
     record { reached = a.reached; lost = subst P a.left (claimed_is_lost c after.ply after.position is_claim won a.held) }

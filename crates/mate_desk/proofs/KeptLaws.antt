@@ -67,7 +67,7 @@ resume_keeps words bytes files budget name report ordered named reports =
         let c = claim_with charts in
         let claim = read_is_claim read charts file in
         let won = ((ends_where_won c budget claim).0 keeps).0 in
-        (won_is_value c claim won, (played, right, is', λ number after at. claim_keeps c claim won 0 lines played right number after at))
+        (won_is_value c claim won, (played, right, is', λ number after at. claim_keeps claim won 0 lines played right number after at))
 
 -- what a run of `keep` that is done with its line has left
 record Leaves (n : ℕ) (name : List ℕ) (files given : Files) : Type 0 where

@@ -111,8 +111,8 @@ same_rank OtherInCheck (KingGone t) h = absurd (let q = ranks t in omega (arith,
 same_rank OtherInCheck (SameSquare k l) h = absurd (omega (arith, h))
 same_rank OtherInCheck OtherInCheck h = inl refl
 
-once_fault : (p : Position) (e f : Unsound) → IsFirstUnsoundness p e → IsFirstUnsoundness p f → e ≡ f
-once_fault p e f a b = elim (number_cases (rank e) (rank f)) [
+once_fault : {p : Position} {e f : Unsound} → IsFirstUnsoundness p e → IsFirstUnsoundness p f → e ≡ f
+once_fault {e} {f} a b = elim (number_cases (rank e) (rank f)) [
   | inl less ↦ absurd (b.first e (inl less) a.holds)
   | inr (inr more) ↦ absurd (a.first f (inl more) b.holds)
   | inr (inl same) ↦ elim (same_rank e f same) [
@@ -261,7 +261,7 @@ module _ (files : Files) (one other : Report) where
   module _ (says : Problem → Lines → Report → Type 0) (once : (problem : Problem) (rest : Lines) → says problem rest one → says problem rest other → one ≡ other) where
     once_sound : (problem : Problem) (rest : Lines) → OfSound (says problem rest) files problem.position one → OfSound (says problem rest) files problem.position other → one ≡ other
     once_sound problem rest (inl (e, a, i)) (inl (f, b, j)) =
-        i ∙ ap (λ why. refusal_as files is.Unsound (unsound_line why) false) (once_fault problem.position e f a b) ∙ sym j
+        i ∙ ap (λ why. refusal_as files is.Unsound (unsound_line why) false) (once_fault a b) ∙ sym j
     once_sound problem rest (inl (e, a, i)) (inr (sound, b)) = absurd (unsound_refuted e problem.position a sound)
     once_sound problem rest (inr (sound, a)) (inl (f, b, j)) = absurd (unsound_refuted f problem.position b sound)
     once_sound problem rest (inr (sound, a)) (inr (also, b)) = once problem rest a b

@@ -152,7 +152,7 @@ module _ (charts : Charts) (h : IsRead charts) where
         is_some_in c.sets ply mask
         (subst (λ (ps : List (ℕ × ℕ)). Contains {X = ℕ × ℕ} ps (ply, mask)) (sym h.places_are)
         ((places_of-are c.winner c.position c.moves ply mask).1 (losers, game)));
-    only = λ ply mask a is. at_place c h.places_are ply mask a (found_in c.sets ply mask a is);
+    only = λ ply mask a is. at_place c h.places_are (found_in c.sets ply mask a is);
     tracks = λ ply mask a is.
         let f = found_in c.sets ply mask a is in
         let own = All-contains (IsOver c.position) c.sets f.claimed h.over f.has in

@@ -172,8 +172,8 @@ module _ (words : List (List ℕ)) (old new : Seen) (same : new.files ≡ old.fi
         let number = length before + 1 in
         (refusal_as files is.Text (refusal_line number Missing) (is_end Missing), (Ok order, ordered, refused_order order of words (text_of_lines before) files number Missing at), refl)
 
-    lines_due : (bytes : List ℕ) → TakesLines IsMissing bytes pending → TakesLines (IsLineDue words files) bytes pending
-    lines_due bytes t = record {
+    lines_due : {bytes : List ℕ} → TakesLines IsMissing bytes pending → TakesLines (IsLineDue words files) bytes pending
+    lines_due {bytes} t = record {
       lines = t.lines;
       are_lines = t.are_lines;
       due = λ k below. line_due (take k t.lines) (t.due k below);
@@ -187,7 +187,7 @@ module _ (words : List (List ℕ)) (old new : Seen) (same : new.files ≡ old.fi
         let P : List ℕ → Type 0 = λ b. TextAt (b ++ t.rest) (refused number why) in
         record {
           given = given_text (Err (Refused number why)) t;
-          takes = (pending, lines_due t.bytes t.takes);
+          takes = (pending, lines_due t.takes);
           ends = (
             refusal_as files is.Text (refusal_line number why) (is_end why),
             (Ok order, ordered, refused_order order of words (t.bytes ++ t.rest) files number why (subst P (sym t.takes.bytes) t.reads)),
@@ -202,7 +202,7 @@ module _ (words : List (List ℕ)) (old new : Seen) (same : new.files ≡ old.fi
         let short : IsShort t.bytes = subst IsShort (sym t.takes.bytes) t.reads in
         record {
           given = given_text (Err Fault) t;
-          takes = (pending, lines_due t.bytes t.takes);
+          takes = (pending, lines_due t.takes);
           ends = (
             refusal_as files is.Text (refusal_line short.number short.why) (is_end short.why),
             (Ok order, ordered, refused_order order of words t.bytes files short.number short.why short.text),
@@ -250,10 +250,10 @@ module _ (words : List (List ℕ)) (old new : Seen) (same : new.files ≡ old.fi
       unsound_order (Drill seed count) of_text why fault = absurd of_text
       unsound_order (Arith budget) of_text why fault = absurd of_text
 
-      pub unsound_ends : (why : Unsound) → IsFirstUnsoundness problem.position why → Writes [] (unsound_line why) old.written new.written (WriteFailed old new) → RunEnds words is.Unsound old new
-      unsound_ends why fault wrote = record {
+      pub unsound_ends : {why : Unsound} → IsFirstUnsoundness problem.position why → Writes [] (unsound_line why) old.written new.written (WriteFailed old new) → RunEnds words is.Unsound old new
+      unsound_ends {why} fault wrote = record {
         given = given_text (Ok problem) t;
-        takes = (pending, lines_due t.bytes t.takes);
+        takes = (pending, lines_due t.takes);
         ends = (
           refusal_as files is.Unsound (unsound_line why) false,
           (Ok order, ordered, unsound_order order of why fault),
@@ -266,7 +266,7 @@ module _ (words : List (List ℕ)) (old new : Seen) (same : new.files ≡ old.fi
           → ((report : Report) → reports report → ReportsOrder order words (t.bytes ++ t.rest) files report) → (may_lack → OrderMayLack order t.bytes)
           → Ends status reports may_lack NeverMisses (of_sink files old.written old.write_faults) (of_sink files new.written new.write_faults) → RunEnds words status old new
       command_ends status reports may_lack says lacks ends =
-          run_ends words status old new (given_text (Ok problem) t) pending (lines_due t.bytes t.takes)
+          run_ends words status old new (given_text (Ok problem) t) pending (lines_due t.takes)
           (not_usage status reports may_lack NeverMisses (of_sink files old.written old.write_faults) (of_sink files new.written new.write_faults)
           (λ report right. order_status order words (t.bytes ++ t.rest) files report (says report right)) ends)
           (no_read_fault status reports may_lack NeverMisses (of_sink files old.written old.write_faults) (of_sink files new.written new.write_faults) refl refl ends)
@@ -335,7 +335,7 @@ module _ (words : List (List ℕ)) (old new : Seen) (pending : List ℕ) (proble
       let misses : Option (List ℕ) → Type 0 = MissesKeep name (HasFileToKeep n budget problem) in
       let ended : Ends status reports lacks misses before after = ends files (known_files old.files) in
       run_ends words status old new (record { taken = t.bytes; rest = t.rest; files = files; consumed = t.taken; left = t.left; kept = known_files old.files }) pending
-      (lines_due words old read refl order ordered tt pending t.bytes t.takes)
+      (lines_due words old read refl order ordered tt pending t.takes)
       (not_usage status reports lacks misses before after (λ report right. keep_status n budget problem name files report right) ended)
       (no_read_fault status reports lacks misses before after refl refl ended)
       (ends_as status reports (λ report. Reports words (t.bytes ++ t.rest) files report) lacks (MayLackMemory words t.bytes) misses (MayMissShelf words t.bytes) old new

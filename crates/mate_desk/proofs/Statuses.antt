@@ -259,18 +259,18 @@ usage_exactly words is.ShelfFault old new run =
 usage_exactly words is.Memory old new run =
     other (λ same. absurd (cc)) (λ none. let lack = run.ends.0 in let both = once_words (Ok lack.0) (Err none.0) words lack.1 none.1 in absurd (cc))
 
-behind_text : (words : List (List ℕ)) (order : Order) (taken : List ℕ) → Ordered words (Ok order) → IsBehindText (TakesMemory order) taken → OrdersSome words
-behind_text words order taken ordered lack = (order, ordered, inr (inr (lack.problem, lack.sound, lack.holds)))
+behind_text : (words : List (List ℕ)) (order : Order) {taken : List ℕ} → Ordered words (Ok order) → IsBehindText (TakesMemory order) taken → OrdersSome words
+behind_text words order ordered lack = (order, ordered, inr (inr (lack.problem, lack.sound, lack.holds)))
 
 order_lacks : (words : List (List ℕ)) (order : Order) (taken : List ℕ) → Ordered words (Ok order) → OrderMayLack order taken → OrdersSome words
-order_lacks words (Decide n budget) taken ordered lack = behind_text words (Decide n budget) taken ordered lack
-order_lacks words (Least limit budget) taken ordered lack = behind_text words (Least limit budget) taken ordered lack
-order_lacks words (First n budget) taken ordered lack = behind_text words (First n budget) taken ordered lack
-order_lacks words (Play n budget) taken ordered lack = behind_text words (Play n budget) taken ordered lack
-order_lacks words (Keep n budget) taken ordered lack = behind_text words (Keep n budget) taken ordered lack
+order_lacks words (Decide n budget) taken ordered lack = behind_text words (Decide n budget) ordered lack
+order_lacks words (Least limit budget) taken ordered lack = behind_text words (Least limit budget) ordered lack
+order_lacks words (First n budget) taken ordered lack = behind_text words (First n budget) ordered lack
+order_lacks words (Play n budget) taken ordered lack = behind_text words (Play n budget) ordered lack
+order_lacks words (Keep n budget) taken ordered lack = behind_text words (Keep n budget) ordered lack
 order_lacks words (Check budget) taken ordered lack = (Check budget, ordered, inl tt)
 order_lacks words (Resume budget) taken ordered lack = (Resume budget, ordered, inl tt)
-order_lacks words Show taken ordered lack = behind_text words Show taken ordered lack
+order_lacks words Show taken ordered lack = behind_text words Show ordered lack
 order_lacks words (Drill seed count) taken ordered lack =
     (Drill seed count, ordered, inr (inr (drilled seed 0, drill_sound (state_after seed 1), (0, lack.1, refl))))
 order_lacks words (Arith budget) taken ordered lack = (Arith budget, ordered, inr (inl (budget, refl)))

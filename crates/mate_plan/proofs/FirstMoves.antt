@@ -25,12 +25,12 @@ use Rattle.mate_plan.specs.declared.names.Part.TheVariants as kind
 use Rattle.mate_plan.specs.declared.names.PartName.{PartName}
 
 -- the coordinates of a sound position are as many as its live men have variables
-pub own_count : (p : Position) → Sound p → length (tuple_of p) ≡ length (mask_tracks p (mask_of p))
-own_count p sound =
+pub own_count : {p : Position} → Sound p → length (tuple_of p) ≡ length (mask_tracks p (mask_of p))
+own_count {p} sound =
     let live : ℕ → Bool = is_live (mask_of p) in
     let v : Values = values_of (squares_of p) in
-    let stock = (sound_fits p sound).stock in
-    let is : placed p.men live p.turn (squares v) ≡ p = placed_values p.men live p.turn (squares_of p) ∙ stock_placed p.men p stock in
+    let stock = (sound_fits sound).stock in
+    let is : placed p.men live p.turn (squares v) ≡ p = placed_values p.men live p.turn (squares_of p) ∙ stock_placed stock in
     sym (ap (λ r. length (tuple_of r)) is) ∙ sym (ap length (tuple_placed p.men live p.turn v)) ∙ length-map (tracks_of p.men live) (λ x. v x.0)
 
 module _ (rules : Rules) (side : Side) (mask budget : ℕ) (tuple : List ℤ) (into : Level) where
@@ -49,10 +49,10 @@ module _ (rules : Rules) (side : Side) (mask budget : ℕ) (tuple : List ℤ) (i
   pub first_error : (start : Level) (e : PlanError PartName) → Ends (point_level rules mask) budget start
       → IsPlanError (union rules 0 mask kind.First (pre_items rules side mask (start mask) into)) budget e
       → IsPlanError (has_first_move rules side mask tuple into) budget e
-  first_error start e h k = Error-later (point_level rules mask) after_start budget start h e (Error-bind (first_part start) asked budget e k)
+  first_error start e h k = Error-later after_start budget start h e (Error-bind (first_part start) asked budget e k)
 
   asked_ends : (first : SetOf) (b : Bool) → IsTrue b ↔ Member first tuple → Ends (asked first) budget b
-  asked_ends first true same = Ends-ask_yes (Has first tuple) (Give true) (Give false) budget true (same.0 refl) (Ends-give budget true)
+  asked_ends first true same = Ends-ask_yes (Has first tuple) (Give true) (Give false) budget (same.0 refl) (Ends-give budget true)
   asked_ends first false same = Ends-ask_no (Has first tuple) (Give true) (Give false) budget false (λ h. let t = same.1 h in cc) (Ends-give budget false)
 
   pub first_ends : (start : Level) (first : SetOf) (b : Bool) → Ends (point_level rules mask) budget start

@@ -76,9 +76,9 @@ some_of_two true false f g apart = omega arith
 some_of_two false q f g apart = omega arith
 
 -- a ray that moves has an atom
-some_atoms : (far : Bool) (r : Ray) (a b : _) → Suits r a b → (r.dx ≡ pos 0 → r.dy ≢ pos 0) → 0 < length (atoms_as far r.dx r.dy a b)
-some_atoms true r a b suits moves = some_last (line_atoms r.dx r.dy a b) (ahead r.dx r.dy a b before)
-some_atoms false r a b suits moves =
+some_atoms : (far : Bool) {r : Ray} {a b : _} → Suits r a b → (r.dx ≡ pos 0 → r.dy ≢ pos 0) → 0 < length (atoms_as far r.dx r.dy a b)
+some_atoms true {r} {a} {b} suits moves = some_last (line_atoms r.dx r.dy a b) (ahead r.dx r.dy a b before)
+some_atoms false {r} {a} {b} suits moves =
     some_of_two (b.x.0 == a.x.0) (b.y.0 == a.y.0) (difference b.x a.x Eq r.dx) (difference b.y a.y Eq r.dy)
     (λ e k. moves (suits.across (eqb-true b.x.0 a.x.0 e)) (suits.along (eqb-true b.y.0 a.y.0 k)))
 
@@ -89,8 +89,8 @@ ray_at_moves stock k n m r is ray =
     let Moves : Ray → Type 0 = λ q. q.dx ≡ pos 0 → q.dy ≢ pos 0 in
     subst Moves (ray_at_is stock k n m r is ray) (ray_moves m.side m.kind n (Some r) (sym ray))
 
-pub image_step : (stock : List Man) (mask : ℕ) (o : Opt) (s : ℕ) → IsOptionOf stock mask o → HasStep (image_of stock mask o s)
-image_step stock mask o s w =
+pub image_step : {stock : List Man} {mask : ℕ} {o : Opt} (s : ℕ) → IsOptionOf stock mask o → HasStep (image_of stock mask o s)
+image_step {stock} {mask} {o} s w =
     let r = ray_at stock o.man o.ray in
     step-either_swept r.dx r.dy (image_body (length stock) mask o.man r o.taken s) (ray_at_moves stock o.man o.ray w.man w.ray w.is.is_man w.is.ray)
 
@@ -104,16 +104,16 @@ pre_tree_step : (n mask i t s q : ℕ) (r : Ray) → (r.dx ≡ pos 0 → r.dy �
 pre_tree_step n mask i zero s q r moves = step-either_swept r.dx r.dy (pre_body n mask i r 0 s q) moves
 pre_tree_step n mask i (suc t) s q r moves = pre_body_step n mask i (suc t) s q r
 
-pub pre_step : (stock : List Man) (mask : ℕ) (o : Opt) (s q : ℕ) → IsOptionOf stock mask o → HasStep (pre_of stock mask o s q)
-pre_step stock mask o s q w =
+pub pre_step : {stock : List Man} {mask : ℕ} {o : Opt} (s q : ℕ) → IsOptionOf stock mask o → HasStep (pre_of stock mask o s q)
+pre_step {stock} {mask} {o} s q w =
     pre_tree_step (length stock) mask o.man o.taken s q (ray_at stock o.man o.ray) (ray_at_moves stock o.man o.ray w.man w.ray w.is.is_man w.is.ray)
 
-pub bear_step : (stock : List Man) (mask k n g s : ℕ) → IsBearer stock mask k n g → HasStep (bear_of stock mask k n g s)
-bear_step stock mask k n g s w =
+pub bear_step : {stock : List Man} {mask k n g : ℕ} (s : ℕ) → IsBearer stock mask k n g → HasStep (bear_of stock mask k n g s)
+bear_step {stock} {mask} {k} {n} {g} s w =
     let r = ray_at stock k n in
     let first = some_number stock k w.man w.is.is_man in
     let second = some_number stock g w.target w.is.is_target in
-    let atoms = some_atoms r.far r (own k) (own g) (own_apart k g r first second w.is.apart) (ray_at_moves stock k n w.man w.ray w.is.is_man w.is.ray) in
+    let atoms = some_atoms r.far (own_apart k g r first second w.is.apart) (ray_at_moves stock k n w.man w.ray w.is.is_man w.is.ray) in
     let among = tree.Among s (vars_to own (is_live mask) (length stock)) in
     step-clear_as r.far (and_all among (ray_atoms r (own k) (own g))) (λ l. on r (own k) (own g) before (own l)) (is_live mask) k g (length stock)
     (step-some among (ray_atoms r (own k) (own g)) atoms)

@@ -47,14 +47,14 @@ next_of (m ∷ masks) zero mask rest e =
 next_of (m ∷ masks) (suc n) mask rest e = contains_rest m masks mask (next_of masks n mask rest e)
 
 module _ (p : Position) where
-  pub mask_here : (sets : List Automaton) (names : Names) (mask : ℕ) (rest : List ℕ) → AreNamesSoFar p sets names (mask ∷ rest) → IsGameMask p mask
-  mask_here sets names mask rest so_far = (masks_are p mask).0 (next_of (masks_of p) (length names) mask rest so_far.left)
+  pub mask_here : {sets : List Automaton} {names : Names} (mask : ℕ) (rest : List ℕ) → AreNamesSoFar p sets names (mask ∷ rest) → IsGameMask p mask
+  mask_here {names} mask rest so_far = (masks_are p mask).0 (next_of (masks_of p) (length names) mask rest so_far.left)
 
   pub so_far_none : (sets : List Automaton) (masks : List ℕ) → masks ≡ masks_of p → AreNamesSoFar p sets [] masks
   so_far_none sets masks are = record { have = tt; left = sym are }
 
-  pub so_far_names : (sets : List Automaton) (names : Names) → AreNamesSoFar p sets names [] → AreNamesIn p sets names
-  so_far_names sets names so_far = all_named p.men sets (masks_of p) names so_far.have so_far.left
+  pub so_far_names : {sets : List Automaton} {names : Names} → AreNamesSoFar p sets names [] → AreNamesIn p sets names
+  so_far_names {sets} {names} so_far = all_named p.men sets (masks_of p) names so_far.have so_far.left
 
   pub level_none : (sets : List Automaton) → level_in p sets [] ≡ no_sets
   level_none sets = from_none sets no_sets (masks_of p)

@@ -60,15 +60,15 @@ module _ (rules : Rules) (side : Side) (ply mask : ℕ) (reach : SetOf) (reach1 
     check_error calm e first h =
         let Is : Program SetOf → Type 0 = λ m. IsPlanError m budget e in
         subst Is lost_parts
-        (Error-later calm_part after_calm budget calm first e (Error-bind (check_part calm) (λ check. bind (reply_part calm check) (last_part check)) budget e h))
+        (Error-later after_calm budget calm first e (Error-bind (check_part calm) (λ check. bind (reply_part calm check) (last_part check)) budget e h))
 
     pub reply_error : (calm check : SetOf) (e : PlanError PartName) → Ends calm_part budget calm → Ends (check_part calm) budget check
         → IsPlanError (reply_part calm check) budget e → IsPlanError (lost_set rules side ply mask reach reach1 rests) budget e
     reply_error calm check e first second h =
         let Is : Program SetOf → Type 0 = λ m. IsPlanError m budget e in
         subst Is lost_parts
-        (Error-later calm_part after_calm budget calm first e
-        (Error-later (check_part calm) (λ check. bind (reply_part calm check) (last_part check)) budget check second e (Error-bind (reply_part calm check) (last_part check) budget e h)))
+        (Error-later after_calm budget calm first e
+        (Error-later (λ check. bind (reply_part calm check) (last_part check)) budget check second e (Error-bind (reply_part calm check) (last_part check) budget e h)))
 
     pub last_answers : {R : Type 0} (view : R → SetOf) (calm check reply : SetOf) (r : Result R (PlanError PartName)) → Ends calm_part budget calm
         → Ends (check_part calm) budget check → Ends (reply_part calm check) budget reply → Answers (last_part check reply) budget view r
@@ -117,13 +117,13 @@ module _ (p : Position) (side : Side) (ply mask now budget : ℕ) (kept : now �
 -- the set of a mask, where nothing is reached and where something is
 module _ (rules : Rules) (side : Side) (ply mask budget : ℕ) (reach reach1 rests : Level) where
   pub lost_none : IsEmpty (reach mask) → Ends (lost_set_if rules side ply reach reach1 rests mask) budget Nothing
-  lost_none empty = Ends-ask_yes (Empty (reach mask ∷ [])) (Give Nothing) (lost_set rules side ply mask (reach mask) reach1 rests) budget Nothing (inl empty) (Ends-give budget Nothing)
+  lost_none empty = Ends-ask_yes (Empty (reach mask ∷ [])) (Give Nothing) (lost_set rules side ply mask (reach mask) reach1 rests) budget (inl empty) (Ends-give budget Nothing)
 
   some_answers : ¬ IsEmpty (reach mask) → {R : Type 0} (view : R → SetOf) (r : Result R (PlanError PartName))
       → Answers (lost_set rules side ply mask (reach mask) reach1 rests) budget view r
       → Answers (lost_set_if rules side ply reach reach1 rests mask) budget view r
   some_answers some view (Ok x) h = Ends-ask_no (Empty (reach mask ∷ [])) (Give Nothing) (lost_set rules side ply mask (reach mask) reach1 rests) budget (view x) (some, tt) h
-  some_answers some view (Err (plan_error.Over name)) h = Stops-ask_no (Empty (reach mask ∷ [])) (Give Nothing) (lost_set rules side ply mask (reach mask) reach1 rests) budget name (some, tt) h
+  some_answers some view (Err (plan_error.Over name)) h = Stops-ask_no (Empty (reach mask ∷ [])) (Give Nothing) (lost_set rules side ply mask (reach mask) reach1 rests) budget (some, tt) h
   some_answers some view (Err plan_error.Memory) h = tt
 
   pub lost_some : (s : SetOf) → s ≡ reach mask → ¬ IsEmpty s → {R : Type 0} (view : R → SetOf) (r : Result R (PlanError PartName))

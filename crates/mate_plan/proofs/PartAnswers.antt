@@ -14,26 +14,26 @@ use Rattle.set_plan.proofs.Thinned.{Ends-make_same, Ends-thinned, Stops-make_sam
 
 module _ {P : Type 0} (part : P) (budget : ℕ) where
   module _ (tracks : List Var) (is js : List Item) (thin : Thinned is js) where
-    Ends-union : (s : SetOf) → Ends (union tracks part is) budget s → Ends (union tracks part js) budget s
-    Ends-union s h =
-        let (made, first, last) = Ends-split (unite tracks part (Nothing, 1) is) (λ made. Give made.0) budget s h in
+    Ends-union : {s : SetOf} → Ends (union tracks part is) budget s → Ends (union tracks part js) budget s
+    Ends-union {s} h =
+        let (made, first, last) = Ends-split (unite tracks part (Nothing, 1) is) (λ made. Give made.0) h in
         Ends-bind (unite tracks part (Nothing, 1) js) (λ made. Give made.0) budget made s (Ends-thinned part budget tracks is js (Nothing, 1) made thin first) last
 
-    Stops-union : (name : StepName P) → Stops (union tracks part is) budget name → Stops (union tracks part js) budget name
-    Stops-union name h =
-        elim (Stops-split (unite tracks part (Nothing, 1) is) (λ made. Give made.0) budget name h) [
-          | inl here ↦ Stops-bind (unite tracks part (Nothing, 1) js) (λ made. Give made.0) budget name (Stops-thinned part budget tracks is js (Nothing, 1) name thin here)
+    Stops-union : {name : StepName P} → Stops (union tracks part is) budget name → Stops (union tracks part js) budget name
+    Stops-union {name} h =
+        elim (Stops-split (unite tracks part (Nothing, 1) is) (λ made. Give made.0) h) [
+          | inl here ↦ Stops-bind (unite tracks part (Nothing, 1) js) (λ made. Give made.0) budget (Stops-thinned part budget tracks is js (Nothing, 1) name thin here)
           | inr (made, first, last) ↦
-              Stops-bind_later (unite tracks part (Nothing, 1) js) (λ made. Give made.0) budget made name (Ends-thinned part budget tracks is js (Nothing, 1) made thin first) last
+              Stops-bind_later (unite tracks part (Nothing, 1) js) (λ made. Give made.0) budget (Ends-thinned part budget tracks is js (Nothing, 1) made thin first) last
         ]
 
     pub Error-union : (e : PlanError P) → IsPlanError (union tracks part is) budget e → IsPlanError (union tracks part js) budget e
-    Error-union (plan_error.Over name) h = Stops-union name h
+    Error-union (plan_error.Over name) h = Stops-union h
     Error-union plan_error.Memory h = tt
 
     -- a union of items of which some are left out
     pub Answers-union : {R : Type 0} (view : R → SetOf) (r : Result R (PlanError P)) → Answers (union tracks part is) budget view r → Answers (union tracks part js) budget view r
-    Answers-union view (Ok r) h = Ends-union (view r) h
+    Answers-union view (Ok r) h = Ends-union h
     Answers-union view (Err e) h = Error-union e h
 
   module _ (at : ℕ) (i j : Item) (same : SameItem i j) where

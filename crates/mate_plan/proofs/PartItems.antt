@@ -46,11 +46,11 @@ abbrev pub IsReachedName : List Var → List Automaton → SetId → Type 0
 IsReachedName tracks sets id = (a : Automaton) × (slice_get sets id.0 ≡ Some a) × IsReachedOn tracks a
 
 pub name_reached : (tracks : List Var) (sets : List Automaton) (id : SetId) → IsNameOn tracks sets (Some id) → IsReachedName tracks sets id
-name_reached tracks sets id (a, found, on) = (a, found, reached_on tracks a on)
+name_reached tracks sets id (a, found, on) = (a, found, reached_on on)
 
 -- the set of a name serves where it is named
-set_for : (tracks : List Var) (sets : List Automaton) (id : SetId) (m : ℕ × List Var) → IsReachedName tracks sets id → IsOver id.0 tracks m → IsSetFor sets m.0 (length m.1)
-set_for tracks sets id m (a, found, is) over = record {
+set_for : {tracks : List Var} (sets : List Automaton) (id : SetId) {m : ℕ × List Var} → IsReachedName tracks sets id → IsOver id.0 tracks m → IsSetFor sets m.0 (length m.1)
+set_for sets id (a, found, is) over = record {
   set = a;
   is_there = subst (λ (k : ℕ). slice_get sets k ≡ Some a) (sym over.set) found;
   reached = is.reached;
@@ -60,16 +60,16 @@ set_for tracks sets id m (a, found, is) over = record {
 
 pub has_one : (tracks : List Var) (sets : List Automaton) (id : SetId) (f : Tree) → IsReachedName tracks sets id → NamesOnly id.0 tracks f → HasSets sets f
 has_one tracks sets id f on names =
-    All-weaker (IsOver id.0 tracks) (λ m. IsSetFor sets m.0 (length m.1)) (λ m over. set_for tracks sets id m on over) (memberships f) names
+    All-weaker (IsOver id.0 tracks) (λ m. IsSetFor sets m.0 (length m.1)) (λ m over. set_for sets id on over) (memberships f) names
 
 has_two : (tracks others : List Var) (sets : List Automaton) (source target : SetId) (f : Tree) → IsReachedName tracks sets source
     → IsReachedName others sets target → NamesBoth source.0 tracks target.0 others f → HasSets sets f
 has_two tracks others sets source target f on on_target names =
     All-weaker (λ m. IsOver source.0 tracks m ⊎ IsOver target.0 others m) (λ m. IsSetFor sets m.0 (length m.1))
-    (λ m over. elim over [ inl a ↦ set_for tracks sets source m on a | inr b ↦ set_for others sets target m on_target b ]) (memberships f) names
+    (λ m over. elim over [ inl a ↦ set_for sets source on a | inr b ↦ set_for sets target on_target b ]) (memberships f) names
 
-pub is_item : (tracks : List Var) (sets : List Automaton) (f : Tree) → HasStep f → IsModest f → HasSets sets f → free_vars f ≡ tracks → IsItemOn tracks sets f
-is_item tracks sets f some modest has over =
+pub is_item : (tracks : List Var) (sets : List Automaton) {f : Tree} → HasStep f → IsModest f → HasSets sets f → free_vars f ≡ tracks → IsItemOn tracks sets f
+is_item tracks sets some modest has over =
     let few = modest.variables in
     let short = modest.steps_are_few in
     record {
@@ -89,7 +89,7 @@ pub bearings_all : (p : Position) (mask : ℕ) (side : Side) (all : List Bearing
     → All (λ b. IsBearer p.men mask b.man b.ray b.king) all
 bearings_all p mask side all game here is k d within =
     let Among : List Bearing → Type 0 = λ l. Contains l (slice_index_or all k d) in
-    ((bearings_are p mask side (slice_index_or all k d) game.kings here).0 (subst Among is (All-contains_itself all k d within))).bearer
+    ((bearings_are side (slice_index_or all k d) game.kings here).0 (subst Among is (All-contains_itself all k d within))).bearer
 
 all-flat_map : {X A : Type 0} (P : A → Type 0) (g : X → List A) (xs : List X) → All (λ x. All P (g x)) xs → All P (flat_map g xs)
 all-flat_map P g [] h = All-nil P
@@ -109,9 +109,9 @@ module _ (p : Position) (game : IsGame p) (sets : List Automaton) where
   image_on side mask to o source i leads on =
       let f = image_of p.men mask o source.0 in
       let w = choice side mask o i in
-      let means : OptionsMean p side mask o = options_mean p game side mask o w in
-      is_item (mask_tracks p to) sets f (image_step p.men mask o source.0 w.0) (image_modest p.men mask o source.0 f game.few w.0 refl)
-      (has_one (mask_tracks p mask) sets source f (name_reached (mask_tracks p mask) sets source on) (image_names p.men mask o source.0 f game.few w.0 refl))
+      let means : OptionsMean p side mask o = options_mean game side mask o w in
+      is_item (mask_tracks p to) sets (image_step source.0 w.0) (image_modest source.0 f game.few w.0 refl)
+      (has_one (mask_tracks p mask) sets source f (name_reached (mask_tracks p mask) sets source on) (image_names source.0 f game.few w.0 refl))
       (means.image_tracks source.0 ∙ ap (mask_tracks p) leads)
 
   images_on_from : (side : Side) (to mask : ℕ) (name : Option SetId) → IsNameOn (mask_tracks p mask) sets name → All (IsItemOn (mask_tracks p to) sets) (images_from p side to mask name)
@@ -154,7 +154,7 @@ module _ (p : Position) (game : IsGame p) (sets : List Automaton) where
   -- moves from one set into another
   target_tracks : (side : Side) (mask : ℕ) (o : Opt) → IsOptionOfSide p.men mask side o → mask_tracks p (target_of mask o) ≡ tracks_of p.men (without (is_live mask) o.taken)
   target_tracks side mask o w =
-      let means : OptionsMean p side mask o = options_mean p game side mask o w in
+      let means : OptionsMean p side mask o = options_mean game side mask o w in
       sym (means.image_tracks 0) ∙ image_tracks p.men mask o 0 game.few w.0
 
   pre_on : (side : Side) (mask : ℕ) (o : Opt) (source target : SetId) → Contains (options_of p.men mask side) o
@@ -163,13 +163,13 @@ module _ (p : Position) (game : IsGame p) (sets : List Automaton) where
   pre_on side mask o source target i on on_target =
       let f = pre_of p.men mask o source.0 target.0 in
       let w = choice side mask o i in
-      let means : OptionsMean p side mask o = options_mean p game side mask o w in
+      let means : OptionsMean p side mask o = options_mean game side mask o w in
       let others = tracks_of p.men (without (is_live mask) o.taken) in
       let On : List Var → Type 0 = λ tracks. IsNameOn tracks sets (Some target) in
       let reached = name_reached (mask_tracks p mask) sets source on in
       let reached_target = name_reached others sets target (subst On (target_tracks side mask o w) on_target) in
-      is_item (mask_tracks p mask) sets f (pre_step p.men mask o source.0 target.0 w.0) (pre_modest p.men mask o source.0 target.0 f game.few w.0 refl)
-      (has_two (mask_tracks p mask) others sets source target f reached reached_target (pre_names p.men mask o source.0 target.0 f game.few w.0 refl))
+      is_item (mask_tracks p mask) sets (pre_step source.0 target.0 w.0) (pre_modest source.0 target.0 f game.few w.0 refl)
+      (has_two (mask_tracks p mask) others sets source target f reached reached_target (pre_names source.0 target.0 f game.few w.0 refl))
       (means.pre_tracks source.0 target.0)
 
   pre_on_to : (side : Side) (mask : ℕ) (o : Opt) (source : SetId) (target : Option SetId) → Contains (options_of p.men mask side) o
@@ -223,32 +223,32 @@ module _ (p : Position) (game : IsGame p) (sets : List Automaton) where
       (λ o. pre_thin_to mask s level o source (name_of (masks_of p) targets (target_of mask o)) e (set_of_name sets (masks_of p) targets (target_of mask o)))
 
   -- bearings
-  pub bearer : (side : Side) (mask : ℕ) (b : Bearing) → IsGameMask p mask → Contains (bearings_of p.men mask side) b → IsBearer p.men mask b.man b.ray b.king
-  bearer side mask b is i = ((bearings_are p mask side b game.kings is).0 i).bearer
+  pub bearer : (side : Side) {mask : ℕ} (b : Bearing) → IsGameMask p mask → Contains (bearings_of p.men mask side) b → IsBearer p.men mask b.man b.ray b.king
+  bearer side b is i = ((bearings_are side b game.kings is).0 i).bearer
 
   bear_on : (mask : ℕ) (b : Bearing) (source : SetId) → IsBearer p.men mask b.man b.ray b.king → IsNameOn (mask_tracks p mask) sets (Some source)
       → IsItemOn (mask_tracks p mask) sets (bear_of p.men mask b.man b.ray b.king source.0)
   bear_on mask b source w on =
       let f = bear_of p.men mask b.man b.ray b.king source.0 in
-      let means : BearingsMean p mask b = bearings_mean p mask b w in
-      is_item (mask_tracks p mask) sets f (bear_step p.men mask b.man b.ray b.king source.0 w) (bear_modest p.men mask b.man b.ray b.king source.0 f game.few w refl)
-      (has_one (mask_tracks p mask) sets source f (name_reached (mask_tracks p mask) sets source on) (bear_names p.men mask b.man b.ray b.king source.0 f game.few w refl)) (means.bear_tracks source.0)
+      let means : BearingsMean p mask b = bearings_mean p b w in
+      is_item (mask_tracks p mask) sets (bear_step source.0 w) (bear_modest source.0 f game.few w refl)
+      (has_one (mask_tracks p mask) sets source f (name_reached (mask_tracks p mask) sets source on) (bear_names source.0 f game.few w refl)) (means.bear_tracks source.0)
 
-  pub safe_on : (mask : ℕ) (b : Bearing) (source : SetId) → IsBearer p.men mask b.man b.ray b.king → IsReachedName (mask_tracks p mask) sets source
+  pub safe_on : {mask : ℕ} (b : Bearing) (source : SetId) → IsBearer p.men mask b.man b.ray b.king → IsReachedName (mask_tracks p mask) sets source
       → IsItemOn (mask_tracks p mask) sets (safe_of p.men mask b.man b.ray b.king source.0)
-  safe_on mask b source w on =
+  safe_on {mask} b source w on =
       let f = safe_of p.men mask b.man b.ray b.king source.0 in
-      let means : BearingsMean p mask b = bearings_mean p mask b w in
-      is_item (mask_tracks p mask) sets f (safe_step p.men mask b.man b.ray b.king source.0) (safe_modest p.men mask b.man b.ray b.king source.0 f game.few w refl)
-      (has_one (mask_tracks p mask) sets source f on (safe_names p.men mask b.man b.ray b.king source.0 f game.few w refl)) (means.safe_tracks source.0)
+      let means : BearingsMean p mask b = bearings_mean p b w in
+      is_item (mask_tracks p mask) sets (safe_step p.men mask b.man b.ray b.king source.0) (safe_modest source.0 f game.few w refl)
+      (has_one (mask_tracks p mask) sets source f on (safe_names source.0 f game.few w refl)) (means.safe_tracks source.0)
 
-  pub bears_on : (side : Side) (mask : ℕ) (source : Option SetId) → IsGameMask p mask → IsNameOn (mask_tracks p mask) sets source
+  pub bears_on : (side : Side) {mask : ℕ} (source : Option SetId) → IsGameMask p mask → IsNameOn (mask_tracks p mask) sets source
       → All (IsItemOn (mask_tracks p mask) sets) (bear_trees p side mask source)
-  bears_on side mask None is on = All-nil (IsItemOn (mask_tracks p mask) sets)
-  bears_on side mask (Some source) is on =
+  bears_on side {mask} None is on = All-nil (IsItemOn (mask_tracks p mask) sets)
+  bears_on side {mask} (Some source) is on =
       let all = bearings_of p.men mask side in
       All-map (IsItemOn (mask_tracks p mask) sets) (λ b. bear_of p.men mask b.man b.ray b.king source.0) all
-      (λ k d within. bear_on mask _ source (bearer side mask _ is (All-contains_itself all k d within)) on)
+      (λ k d within. bear_on mask _ source (bearer side _ is (All-contains_itself all k d within)) on)
 
   bear_lacks : (mask : ℕ) (s : SetOf) (b : Bearing) → s ≡ Nothing → IsLacking (bear_item rules mask s b)
   bear_lacks mask s b e =

@@ -17,13 +17,13 @@ module _ (rules : Rules) (side : Side) (ply mask budget : ℕ) (from into : Leve
   reply_part quiet = have_moves rules side ply mask kind.Reply kind.Stale quiet into
 
   pub none_asked : IsEmpty (from mask) → Ends (have_replies rules side ply from into mask) budget true
-  none_asked empty = Ends-ask_yes (Empty (from mask ∷ [])) (Give true) (some_have_replies rules side ply mask (from mask) into) budget true (inl empty) (Ends-give budget true)
+  none_asked empty = Ends-ask_yes (Empty (from mask ∷ [])) (Give true) (some_have_replies rules side ply mask (from mask) into) budget (inl empty) (Ends-give budget true)
 
   asked_answers : ¬ IsEmpty (from mask) → (r : Result Bool (PlanError PartName))
       → Answers (some_have_replies rules side ply mask (from mask) into) budget (λ (b : Bool). b) r
       → Answers (have_replies rules side ply from into mask) budget (λ (b : Bool). b) r
   asked_answers some (Ok b) h = Ends-ask_no (Empty (from mask ∷ [])) (Give true) (some_have_replies rules side ply mask (from mask) into) budget b (some, tt) h
-  asked_answers some (Err (plan_error.Over name)) h = Stops-ask_no (Empty (from mask ∷ [])) (Give true) (some_have_replies rules side ply mask (from mask) into) budget name (some, tt) h
+  asked_answers some (Err (plan_error.Over name)) h = Stops-ask_no (Empty (from mask ∷ [])) (Give true) (some_have_replies rules side ply mask (from mask) into) budget (some, tt) h
   asked_answers some (Err plan_error.Memory) h = tt
 
   module _ (s : SetOf) (is : s ≡ from mask) (some : ¬ IsEmpty s) where

@@ -27,7 +27,7 @@ module _ (p : Position) (game : IsGame p) (sets : List Automaton) (mask : ℕ) (
   pub safe_item_on : IsItemOn (mask_tracks p mask) sets f
   safe_item_on =
       let On : Tree → Type 0 = λ t. IsItemOn (mask_tracks p mask) sets t in
-      subst On (sym is) (safe_on p game sets mask b id w (a, found, on))
+      subst On (sym is) (safe_on p game sets b id w (a, found, on))
 
   pub safe_item_same : (s : SetOf) → s ≡ tables sets id.0 → SameItem (item_of sets f) (safe_item (rules_of p) mask s b)
   safe_item_same s e =

@@ -37,17 +37,17 @@ use Rattle.mate_plan.proofs.Starts.{level_at_one, name_if, names_at_one, no_leve
 use Rattle.mate_plan.proofs.UnionAnswers.{game_of}
 
 -- some man of a sound position is live, and its live men are one of its masks
-pub some_live : (p : Position) → Sound p → HasLiveMan p
-some_live p sound = let king = sound.kings p.turn in any_at p (λ m. m.place ≢ Gone) king.number king.king king.is_man king.live
+pub some_live : {p : Position} → Sound p → HasLiveMan p
+some_live {p} sound = let king = sound.kings p.turn in any_at p (λ m. m.place ≢ Gone) king.number king.king king.is_man king.live
 
-mask_there : (p : Position) → Sound p → length p.men ≤ 8 → Contains (masks_of p) (mask_of p)
-mask_there p sound few =
-    let means = game_means p (game_of p sound few) in
-    (masks_are p (mask_of p)).1 (means.mask_is p.turn p (sound_fits p sound))
+mask_there : {p : Position} → Sound p → length p.men ≤ 8 → Contains (masks_of p) (mask_of p)
+mask_there {p} sound few =
+    let means = game_means (game_of sound few) in
+    (masks_are p (mask_of p)).1 (means.mask_is p.turn p (sound_fits sound))
 
 -- a formula that names no set compiles over any table
-pub plain_compilable : (f : Tree) (sets : List Automaton) → IsModest f → memberships f ≡ [] → IsCompilable f sets
-plain_compilable f sets modest none =
+pub plain_compilable : {f : Tree} (sets : List Automaton) → IsModest f → memberships f ≡ [] → IsCompilable f sets
+plain_compilable sets modest none =
     let few = modest.variables in
     let Has : List (ℕ × List Var) → Type 0 = λ ms. All (λ m. IsSetFor sets m.0 (length m.1)) ms in
     record {
@@ -86,7 +86,7 @@ module _ (p : Position) (mask : ℕ) (is : mask ≡ mask_of p) (budget : ℕ) wh
       let At : ℕ → Type 0 = λ m. Ends (point_part p m) budget made in
       let Here : ℕ → Type 0 = λ m. names ≡ map (name_if m id) (masks_of p) in
       let level : level_of sets (masks_of p) names ≡ level_with no_sets (mask_of p) made.0 =
-      ap (level_of sets (masks_of p)) (subst Here is are) ∙ level_at_one sets (mask_of p) id (masks_of p) (mask_there p sound few)
+      ap (level_of sets (masks_of p)) (subst Here is are) ∙ level_at_one sets (mask_of p) id (masks_of p) (mask_there sound few)
       ∙ ap (level_with no_sets (mask_of p)) kept in
       let To : Level → Type 0 = λ l. Ends (then_level made) budget l in
       Ends-bind (point_part p (mask_of p)) then_level budget made (level_of sets (masks_of p) names) (subst At is h)

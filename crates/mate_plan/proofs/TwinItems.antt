@@ -50,8 +50,8 @@ pairs_all p mask xs e =
     subst P (sym e) (λ k d within. (pairs_are p.men mask (slice_index_or (pairs_of p.men mask) k d)).0 (All-contains_itself (pairs_of p.men mask) k d within))
 
 module _ (p : Position) (game : IsGame p) (sets : List Automaton) (mask : ℕ) (here : IsGameMask p mask) where
-  twin_on : (w : Pair) (source : SetId) → IsPairOf p.men mask w → IsNameOn (mask_tracks p mask) sets (Some source) → IsItemOn (mask_tracks p mask) sets (tree_at mask source.0 w)
-  twin_on w source pair on =
+  twin_on : {w : Pair} (source : SetId) → IsPairOf p.men mask w → IsNameOn (mask_tracks p mask) sets (Some source) → IsItemOn (mask_tracks p mask) sets (tree_at mask source.0 w)
+  twin_on {w} source pair on =
       let few = game.few in
       let f = tree_at mask source.0 w in
       let vars : List Var = vars_to own (is_live mask) 8 in
@@ -60,8 +60,8 @@ module _ (p : Position) (game : IsGame p) (sets : List Automaton) (mask : ℕ) (
       let first = first_in p few mask w here pair in
       let second = second_in p few mask w here pair in
       let eight = eight_vars mask (length p.men) few here.no_more in
-      let names = twins_names mask w.first w.second source.0 f pair.order first second refl in
-      is_item (mask_tracks p mask) sets f (step-And (tree.And (tree.Among source.0 vars) across) along) (twins_modest mask w.first w.second source.0 f pair.order first second refl)
+      let names = twins_names source.0 f pair.order first second refl in
+      is_item (mask_tracks p mask) sets (step-And (tree.And (tree.Among source.0 vars) across) along) (twins_modest source.0 f pair.order first second refl)
       (has_one vars sets source f (name_reached vars sets source (subst (λ vars. IsNameOn vars sets (Some source)) (sym eight) on)) names)
       ((pairs_mean p few mask w here pair).tracks source.0)
 
@@ -69,7 +69,7 @@ module _ (p : Position) (game : IsGame p) (sets : List Automaton) (mask : ℕ) (
   twins_on None on = All-nil (IsItemOn (mask_tracks p mask) sets)
   twins_on (Some source) on =
       All-map (IsItemOn (mask_tracks p mask) sets) (tree_at mask source.0) (pairs_of p.men mask)
-      (λ k d within. twin_on _ source (pairs_all p mask (pairs_of p.men mask) refl k d within) on)
+      (λ k d within. twin_on source (pairs_all p mask (pairs_of p.men mask) refl k d within) on)
 
   twin_same : (w : Pair) (s : SetOf) (source : SetId) → s ≡ tables sets source.0 → SameItem (item_of sets (tree_at mask source.0 w)) (twin_item s (tree_at mask 0 w))
   twin_same w s source e =

@@ -19,8 +19,8 @@ use Rattle.set_plan.specs.declared.stop.PlanError.{PlanError}
 use Rattle.mate_plan.specs.declared.names.PartName.{PartName}
 use Rattle.mate_plan.proofs.PartAnswers.{Answers-union}
 
-pub game_of : (p : Position) → Sound p → length p.men ≤ 8 → IsGame p
-game_of p sound few = record { few = few; kings = sound.kings }
+pub game_of : {p : Position} → Sound p → length p.men ≤ 8 → IsGame p
+game_of sound few = record { few = few; kings = sound.kings }
 
 module _ (p : Position) (sets : List Automaton) (part name : PartName) (same : part ≡ name) where
   pub items_on : (fs : List Formula) (trees : List Tree)

@@ -53,7 +53,7 @@ module _ (whole part g : Tree) (qs : List Equation) (e : Sets) (is : IsFactored 
   and-coloured : IsColoured (length all) (length few) AlikeWhole AlikePart (part_of all few) (colours qs) whole_colour
   and-coloured = record {
     below = λ w _. colour-below (free_vars whole) qs _;
-    parts = λ w is_w. IsWord-part all few w is_w;
+    parts = λ w is_w. IsWord-part all few is_w;
     alike = λ v w is_v is_w same parts.
         let v_some = not_nil-map _ v is_v.nonempty in
         let w_some = not_nil-map _ w is_w.nonempty in
@@ -102,7 +102,7 @@ module _ (whole part g : Tree) (qs : List Equation) (e : Sets) (is : IsFactored 
         (part_of all (free_vars part)) (colours qs * colours rs) both_colours
     equation-coloured = record {
       below = λ w _. pair-below _ _ (colours qs) (colours rs) (colour-below (free_vars whole) qs _) (below _);
-      parts = λ w is_w. IsWord-part all (free_vars part) w is_w;
+      parts = λ w is_w. IsWord-part all (free_vars part) is_w;
       alike = λ v w is_v is_w same parts.
           let v_some = λ (some : List Var). not_nil-map (restrict all some) v is_v.nonempty in
           let w_some = λ (some : List Var). not_nil-map (restrict all some) w is_w.nonempty in

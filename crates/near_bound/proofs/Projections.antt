@@ -58,20 +58,20 @@ repeated-alike f e k word some = record {
 }
 
 -- the value of a track in a lift
-lift-value : (all some : List Var) (word lift : List ℕ) (y : Var) → IsLift some all word lift → IsOneOf y some
+lift-value : {all some : List Var} {word lift : List ℕ} (y : Var) → IsLift some all word lift → IsOneOf y some
     → val lift (place all y) ≡ val word (place some y)
-lift-value all some word lift y is one =
+lift-value {all} {some} {word} {lift} y is one =
     sym (val-part all some y lift one) ∙ ap (λ w. val w (place some y)) is.repeats
     ∙ val-repeated word (place some y) is.times
 
-way-lift : (all some : List Var) (qs : List Equation) (word lift : List ℕ) → word ≢ [] → lift ≢ [] → AreOver qs some
+way-lift : {all some : List Var} (qs : List Equation) {word lift : List ℕ} → word ≢ [] → lift ≢ [] → AreOver qs some
     → IsLift some all word lift → way all qs lift ≡ way some qs word
-way-lift all some [] word lift w_some l_some over is = refl
-way-lift all some (q ∷ qs) word lift w_some l_some over is =
-    let greater = lift-value all some word lift q.greater is over.0 in
-    let less = lift-value all some word lift q.less is over.1 in
+way-lift [] w_some l_some over is = refl
+way-lift {all} {some} (q ∷ qs) {word} {lift} w_some l_some over is =
+    let greater = lift-value q.greater is over.0 in
+    let less = lift-value q.less is over.1 in
     let first = offset-vals all some q lift word l_some w_some greater less in
-    let rest = way-lift all some qs word lift w_some l_some over.2 is in
+    let rest = way-lift qs w_some l_some over.2 is in
     λ i. joint (open_ways qs) (first i) (rest i)
 
 way-from_colour : (all : List Var) (qs : List Equation) (v w : List ℕ) → colour all qs v ≡ colour all qs w
@@ -114,7 +114,7 @@ module _ (x : Var) (whole part : Tree) (q : Equation) (qs : List Equation) (e : 
         record {
           n = val w (place some q.greater) -ℤ gap lift;
           apart = λ other is_lift e.
-              let greater = lift-value all some w other q.greater is_lift there in
+              let greater = lift-value q.greater is_lift there in
               let less : val other (place all q.less) ≡ val w (place some q.greater) -ℤ gap lift =
               ap (λ y. val other (place all y)) is_x ∙ e in
               let back =
@@ -126,7 +126,7 @@ module _ (x : Var) (whole part : Tree) (q : Equation) (qs : List Equation) (e : 
         record {
           n = val w (place some q.less) +ℤ gap lift;
           apart = λ other is_lift e.
-              let less = lift-value all some w other q.less is_lift there in
+              let less = lift-value q.less is_lift there in
               let greater : val other (place all q.greater) ≡ val w (place some q.less) +ℤ gap lift =
               ap (λ y. val other (place all y)) is_x ∙ e in
               let back =
@@ -142,9 +142,9 @@ module _ (x : Var) (whole part : Tree) (q : Equation) (qs : List Equation) (e : 
   ]
 
   -- a lift says of the part what the word says
-  lift-alike : (word lift : List ℕ) → word ≢ [] → IsLift some all word lift
+  lift-alike : {word lift : List ℕ} → word ≢ [] → IsLift some all word lift
       → SaysAlike part e (part_of all (free_vars part) lift) (part_of some (free_vars part) word)
-  lift-alike word lift w_some is_lift =
+  lift-alike {word} {lift} w_some is_lift =
       let down : part_of all (free_vars part) lift ≡ repeated is_lift.times (part_of some (free_vars part) word) =
       sym (part-part all some (free_vars part) lift among) ∙ ap (part_of some (free_vars part)) is_lift.repeats
       ∙ part-repeated some (free_vars part) is_lift.times word in
@@ -157,18 +157,18 @@ module _ (x : Var) (whole part : Tree) (q : Equation) (qs : List Equation) (e : 
     lifts-into : LiftsInto some all (Says whole e) v w
     lifts-into lift is_lift =
         let b = balanced w lift in
-        let made = joined-joins x all w b.n (apart-free whole) is_w in
+        let made = joined-joins x all b.n (apart-free whole) is_w in
         let other = joined x all b.n (repeated (size_of b.n) w) in
         let lift_some = is_lift.is_word.nonempty in
         let other_some = made.is_lift.is_word.nonempty in
         let gaps = b.apart other made.is_lift (made.value settled) in
         let first = offset-apart all q lift other lift_some other_some gaps in
-        let rest = way-lift all some qs v lift is_v.nonempty lift_some over is_lift ∙ way-from_colour some qs v w same
-        ∙ sym (way-lift all some qs w other is_w.nonempty other_some over made.is_lift) in
+        let rest = way-lift qs is_v.nonempty lift_some over is_lift ∙ way-from_colour some qs v w same
+        ∙ sym (way-lift qs is_w.nonempty other_some over made.is_lift) in
         let colours_same : colour all (q ∷ qs) lift ≡ colour all (q ∷ qs) other =
         λ i. joint (open_ways qs) (first i) (rest i) in
-        let from = lift-alike v lift is_v.nonempty is_lift in
-        let to = SaysAlike-sym part e _ _ (lift-alike w other is_w.nonempty made.is_lift) in
+        let from = lift-alike is_v.nonempty is_lift in
+        let to = SaysAlike-sym part e _ _ (lift-alike is_w.nonempty made.is_lift) in
         let alike = SaysAlike-trans part e _ _ _ from (SaysAlike-trans part e _ _ _ parts to) in
         let whole_alike = alike-factored whole part (q ∷ qs) e is lift other lift_some other_some colours_same alike in
         (other, made.is_lift, whole_alike)
@@ -181,7 +181,7 @@ module _ (x : Var) (whole part : Tree) (q : Equation) (qs : List Equation) (e : 
       (part_of some (free_vars part)) (colours qs) (colour some qs)
       (record {
         below = λ w _. colour-below some qs w;
-        parts = λ w is_w. IsWord-part _ _ w is_w;
+        parts = λ w is_w. IsWord-part _ _ is_w;
         alike = λ v w is_v is_w same parts. record {
           forth = lifts-into v w is_v is_w same parts;
           back = lifts-into w v is_w is_v (sym same) (SaysAlike-sym part e _ _ parts);

@@ -137,5 +137,5 @@ module _ (sets : List Automaton) where
         record {
           compilable = can.compilable;
           few_steps = can.few_steps;
-          about = λ x one. rw same ((moved-tree_vars i is x).1 (is.clear k g within x one));
+          about = λ x one. rw same ((moved-tree_vars is x).1 (is.clear k g within x one));
         }

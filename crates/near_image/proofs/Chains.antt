@@ -55,11 +55,11 @@ module _ (e : ℕ → SetOf) (budget each : ℕ) where
       (within-append (steps w ++ []) (And w (change s) ∷ []) (members e) budget
       (within-append (steps w) [] (members e) budget within tt) (none, tt))
 
-  pub factored-clear : (gs : List Tree) (w p : Tree) (qs : List Equation) → IsFactored w p qs (members e)
+  pub factored-clear : (gs : List Tree) {w p : Tree} {qs : List Equation} → IsFactored w p qs (members e)
       → IsFactored (and_all w (map Not gs)) (and_all p (map Not gs)) qs (members e)
-  factored-clear [] w p qs is = is
-  factored-clear (g ∷ gs) w p qs is =
-      factored-clear gs (And w (Not g)) (And p (Not g)) qs (factored-beside w p qs (members e) is (Not g))
+  factored-clear [] is = is
+  factored-clear (g ∷ gs) {w} {p} {qs} is =
+      factored-clear gs (factored-beside w p qs (members e) is (Not g))
 
   -- what is asked after a factored formula
   pub within-clear : AndBound → (gs : List Tree) (w p : Tree) (qs : List Equation) → IsFactored w p qs (members e)

@@ -74,9 +74,9 @@ each-change (t ∷ shifts) e v h s (inl is) = subst (λ r. Holds (change r) e v)
 each-change (t ∷ shifts) e v h s (inr k) = each-change shifts e v h.1 s k
 
 -- the moved set speaks of the variables of a moved member
-pub moved-tree_vars : (i : Image) → IsShiftable i → (x : Var)
+pub moved-tree_vars : {i : Image} → IsShiftable i → (x : Var)
     → IsOneOf x (free_vars (moved_tree i)) ↔ IsOneOf x (moved_vars i)
-moved-tree_vars i is x =
+moved-tree_vars {i} is x =
     let outer = vars-ex_all x (gone i.shifts) (step i) in
     let inner = vars-and_all x (Among i.set i.vars) (map change i.shifts) in
     let among = free_vars-free (Among i.set i.vars) x in

@@ -33,11 +33,11 @@ sides-by s (negsuc n) = Down refl refl
 pub sides : (s : Shift) → Sides s (equation_of s)
 sides s = sides-by s s.by
 
-over-one : (s : Shift) (q : Equation) (vars : List Var) → Sides s q → IsOneOf s.new vars → IsOneOf s.gone vars
+over-one : {s : Shift} {q : Equation} (vars : List Var) → Sides s q → IsOneOf s.new vars → IsOneOf s.gone vars
     → IsOneOf q.greater vars × IsOneOf q.less vars
-over-one s q vars (Up greater less) new old =
+over-one vars (Up greater less) new old =
     (subst (λ x. IsOneOf x vars) (sym greater) new, subst (λ x. IsOneOf x vars) (sym less) old)
-over-one s q vars (Down greater less) new old =
+over-one vars (Down greater less) new old =
     (subst (λ x. IsOneOf x vars) (sym greater) old, subst (λ x. IsOneOf x vars) (sym less) new)
 
 pub over-more : (qs : List Equation) (vars more : List Var) → ((x : Var) → IsOneOf x vars → IsOneOf x more)
@@ -67,7 +67,7 @@ module _ (w p : Tree) (qs : List Equation) (e : Sets) (is : IsFactored w p qs e)
       let new = right (change s) s.new ((change-vars s.new s).1 (inl refl)) in
       let old = right (change s) s.gone ((change-vars s.gone s).1 (inr refl)) in
       let over = over-more qs (free_vars w) (free_vars (And w (change s))) (left (change s)) is.equation_vars in
-      let (greater, less) = over-one s (equation_of s) (free_vars (And w (change s))) (sides s) new old in
+      let (greater, less) = over-one (free_vars (And w (change s))) (sides s) new old in
       record {
         part_vars = λ x h. left (change s) x (is.part_vars x h);
         equation_vars = (greater, less, over);
@@ -91,11 +91,11 @@ module _ (w p : Tree) (qs : List Equation) (e : Sets) (is : IsFactored w p qs e)
     );
   }
 
-pub factored-changes : (shifts : List Shift) (w p : Tree) (qs : List Equation) (e : Sets) → IsFactored w p qs e
+pub factored-changes : (shifts : List Shift) {w p : Tree} {qs : List Equation} {e : Sets} → IsFactored w p qs e
     → IsFactored (and_all w (map change shifts)) p (turned shifts qs) e
-factored-changes [] w p qs e is = is
-factored-changes (s ∷ shifts) w p qs e is =
-    factored-changes shifts (And w (change s)) p (equation_of s ∷ qs) e (factored-change w p qs e is s)
+factored-changes [] is = is
+factored-changes (s ∷ shifts) {w} {p} {qs} {e} is =
+    factored-changes shifts (factored-change w p qs e is s)
 
 -- the equations of the changes are solved, and the others too
 later-solved : (shifts : List Shift) (qs : List Equation) (v : Values) → AreSolved (turned shifts qs) v → AreSolved qs v
@@ -113,7 +113,7 @@ each-solved (t ∷ shifts) qs v h s (inr k) = each-solved shifts (equation_of t 
 module _ (i : Image) (is : IsShiftable i) (e : Sets) where
   from-set : IsFactored (step i) (Among i.set i.vars) (turned i.shifts []) e
   from-set =
-      factored-changes i.shifts (Among i.set i.vars) (Among i.set i.vars) [] e (factored-self (Among i.set i.vars) e)
+      factored-changes i.shifts (factored-self (Among i.set i.vars) e)
 
   -- values of which the changes hold are settled by those that stay
   settled : (v w : Values) → AgreeBut (gone i.shifts) v w → AreSolved (turned i.shifts []) v
@@ -150,10 +150,10 @@ abbrev pub IsBeside : Var → List Equation → Type 0
 IsBeside x [] = Unit {0}
 IsBeside x (q ∷ qs) = (q.greater ≢ x) × (q.less ≢ x) × IsBeside x qs
 
-pub beside-one : (s : Shift) (x : Var) (q : Equation) → Sides s q → s.new ≢ x → s.gone ≢ x
+pub beside-one : {s : Shift} (x : Var) {q : Equation} → Sides s q → s.new ≢ x → s.gone ≢ x
     → (q.greater ≢ x) × (q.less ≢ x)
-beside-one s x q (Up greater less) new old = (λ e. new (sym greater ∙ e), λ e. old (sym less ∙ e))
-beside-one s x q (Down greater less) new old = (λ e. old (sym greater ∙ e), λ e. new (sym less ∙ e))
+beside-one x (Up greater less) new old = (λ e. new (sym greater ∙ e), λ e. old (sym less ∙ e))
+beside-one x (Down greater less) new old = (λ e. old (sym greater ∙ e), λ e. new (sym less ∙ e))
 
 over-without : (x : Var) (qs : List Equation) (vars : List Var) → IsBeside x qs → AreOver qs vars
     → AreOver qs (without_var x vars)

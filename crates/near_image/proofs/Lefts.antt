@@ -31,8 +31,8 @@ use Rattle.near_image.specs.declared.shift.Shift.{Shift}
 use Rattle.near_image.proofs.Variables.{same-ascending}
 
 -- an automaton of the same words
-pub moved-same : {a b c : Automaton} (track : ℕ) (d : ℤ) → DecidesMoved a b track d → AcceptSame b c → DecidesMoved a c track d
-moved-same track d moved same = record {
+pub moved-same : {a b c : Automaton} {track : ℕ} {d : ℤ} → DecidesMoved a b track d → AcceptSame b c → DecidesMoved a c track d
+moved-same moved same = record {
   tracks = same.tracks ∙ moved.tracks;
   words = λ u v is k.
       let w = same.words u (subst (λ t. IsWord (length t) u) (sym moved.tracks) is) in
@@ -48,20 +48,20 @@ drop-here : {X : Type 0} (xs : List X) (i : ℕ) (d : X) → i < length xs → g
 drop-here xs i d within = rw add-one (sym (drop-cons xs i d within))
 
 -- one shift more
-pub moved-more : (shifts : List Shift) (i : ℕ) (d : Shift) (a m next : Automaton) → i < length shifts
+pub moved-more : (shifts : List Shift) (i : ℕ) (d : Shift) (a : Automaton) {m next : Automaton} → i < length shifts
     → ((b : Automaton) → IsMovedBy (drop i shifts) m b → IsMovedBy shifts a b)
     → DecidesMoved m next (place m.tracks (get_or shifts i d).new) (negated (get_or shifts i d).by)
     → (b : Automaton) → IsMovedBy (drop (i + 1) shifts) next b → IsMovedBy shifts a b
-moved-more shifts i d a m next within rest moved b h =
+moved-more shifts i d a {m} {next} within rest moved b h =
     let from : IsMovedBy (get_or shifts i d ∷ drop (i + 1) shifts) m b = (next, moved, h) in
     rest b (subst (λ l. IsMovedBy l m b) (drop-here shifts i d within) from)
 
 -- one formula more
-pub left-more : (e : ℕ → SetOf) (budget each : ℕ) (gs : List Tree) (i : ℕ) (g : Tree) (a m next : Automaton) → i < length gs
+pub left-more : {e : ℕ → SetOf} {budget each : ℕ} (gs : List Tree) (i : ℕ) {g : Tree} (a : Automaton) {m next : Automaton} → i < length gs
     → get_or gs i g ≡ g → ((b : Automaton) → AreLeftOf e budget each (drop i gs) m b → AreLeftOf e budget each gs a b)
     → IsLeftOf e budget each g m next
     → (b : Automaton) → AreLeftOf e budget each (drop (i + 1) gs) next b → AreLeftOf e budget each gs a b
-left-more e budget each gs i g a m next within is rest left b h =
+left-more {e} {budget} {each} gs i {g} a {m} {next} within is rest left b h =
     let from : AreLeftOf e budget each (g ∷ drop (i + 1) gs) m b = (next, left, h) in
     let here = ap (λ h. h ∷ drop (i + 1) gs) (sym is) ∙ drop-here gs i g within in
     rest b (subst (λ l. AreLeftOf e budget each l m b) here from)
@@ -86,7 +86,7 @@ integers-same integers same = record {
       let is = subst (λ t. IsWord (length t) word) same.tracks is_c in
       let s = integers.stable word is in
       let once = same.words word is in
-      let twice = same.words (repeat_first word) (IsWord-again _ word is) in
+      let twice = same.words (repeat_first word) (IsWord-again is) in
       (λ h. twice.1 (s.0 (once.0 h)), λ h. once.1 (s.1 (twice.0 h)));
 }
 

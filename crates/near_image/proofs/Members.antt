@@ -26,14 +26,14 @@ module _ (e : ℕ → SetOf) (number : ℕ) (vars : List Var) (set : Automaton) 
   abbrev read : List ℕ → List ℕ
   read word = part_of over vars word
 
-  read-word : (word : List ℕ) → IsWord (length over) word → IsWord (length set.tracks) (read word)
-  read-word word is_word = subst (λ k. IsWord k (read word)) arity (IsWord-part over vars word is_word)
+  read-word : {word : List ℕ} → IsWord (length over) word → IsWord (length set.tracks) (read word)
+  read-word {word} is_word = subst (λ k. IsWord k (read word)) arity (IsWord-part over vars is_word)
 
-  says-read : (word : List ℕ) → IsWord (length over) word
+  says-read : {word : List ℕ} → IsWord (length over) word
       → Says (Among number vars) (members e) word ↔ Accepts set (read word)
-  says-read word is_word =
+  says-read {word} is_word =
       let apart = apart-ascending set.tracks valid.ascending in
-      let accepted = accepted-values set (read word) integers apart (read-word word is_word) in
+      let accepted = accepted-values integers apart (read-word is_word) in
       let same = values-part over vars set.tracks word apart arity in
       let At : SetOf → Type 0 = λ s. Member s (values_at vars (word_values over word)) in (
         λ h. accepted.1 (subst (IsAccepted set) (sym same) (subst At is h)),
@@ -50,8 +50,8 @@ module _ (e : ℕ → SetOf) (number : ℕ) (vars : List Var) (set : Automaton) 
         same = λ letters all.
             let few = subst (λ k. All (λ l. l < 2 ^ k) (read letters)) arity (letters-part over vars letters all) in
             let both = alike.same (read letters) few in
-            let at_v = says-read (v ++ letters) (IsWord-append (length over) v letters is_v all) in
-            let at_w = says-read (w ++ letters) (IsWord-append (length over) w letters is_w all) in
+            let at_v = says-read (IsWord-append (length over) v letters is_v all) in
+            let at_w = says-read (IsWord-append (length over) w letters is_w all) in
             let split_v = part-append over vars v letters in
             let split_w = part-append over vars w letters in (
               λ h. at_w.1 (subst (Accepts set) (sym split_w) (both.0 (subst (Accepts set) split_v (at_v.0 h)))),
@@ -62,5 +62,5 @@ module _ (e : ℕ → SetOf) (number : ℕ) (vars : List Var) (set : Automaton) 
   pub members-bound : ¬ HasMoreResiduals (Among number vars) (members e) (length set.accept)
   members-bound more =
       few-colours (length over) (SaysAlike (Among number vars) (members e)) (length set.accept)
-      (λ w. state_of set (read w)) (λ w _. state_within set valid (read w)) read-alike (length set.accept)
+      (λ w. state_of set (read w)) (λ w _. state_within valid (read w)) read-alike (length set.accept)
       (omega arith) more

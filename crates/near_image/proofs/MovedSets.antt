@@ -36,17 +36,17 @@ module _ (i : Image) (is : IsShiftable i) where
   pub same-vars : free_vars (moved_tree i) ≡ free_vars (Among i.set (moved_vars i))
   same-vars =
       same-ascending _ _ (free_vars-ascend (moved_tree i)) (free_vars-ascend (Among i.set (moved_vars i)))
-      (λ x h. (free_vars-free (Among i.set (moved_vars i)) x).1 ((moved-tree_vars i is x).0 h))
-      (λ x h. (moved-tree_vars i is x).1 ((free_vars-free (Among i.set (moved_vars i)) x).0 h))
+      (λ x h. (free_vars-free (Among i.set (moved_vars i)) x).1 ((moved-tree_vars is x).0 h))
+      (λ x h. (moved-tree_vars is x).1 ((free_vars-free (Among i.set (moved_vars i)) x).0 h))
 
   new-within : (s : Shift) → IsAmong s i.shifts → IsOneOf s.new (free_vars (moved_tree i))
-  new-within s h = (moved-tree_vars i is s.new).1 ((moved-vars i is s.new).1 (inl (new-among s i.shifts h)))
+  new-within s h = (moved-tree_vars is s.new).1 ((moved-vars i is s.new).1 (inl (new-among s i.shifts h)))
 
   module _ (u v : Values) (back : AreTakenBack (free_vars (moved_tree i)) i.shifts u v) where
     -- a variable that stays has the same value in both
     stays-same : (x : Var) → IsOneOf x i.vars → (¬ IsOneOf x (gone i.shifts)) → v x.0 ≡ u x.0
     stays-same x h none =
-        back.others x ((moved-tree_vars i is x).1 ((moved-vars i is x).1 (inr (none, h))))
+        back.others x ((moved-tree_vars is x).1 ((moved-vars i is x).1 (inr (none, h))))
         (λ k. let by = new-by x i.shifts k in new i is by.shift by.among (subst (λ y. IsOneOf y i.vars) by.is h))
 
     -- values that are u's where nothing changes and v's where something does are those of the member
@@ -112,7 +112,7 @@ module _ (i : Image) (is : IsShiftable i) where
         tracks = tracks-moved i.shifts a b moved ∙ tracks;
         words = λ u word.
             let (v, back) =
-            taken-back can (free_vars (moved_tree i)) i.shifts a b u tracks new-within is.apart moved word in
+            taken-back can (free_vars (moved_tree i)) i.shifts a b tracks new-within is.apart moved word in
             let there = decides.words v (subst (λ t. IsWord (length t) v) same-vars back.is_word) in
             let At : List Var → Type 0 = λ t. members e i.set (values_at (moved_vars i) (word_values t v)) in
             let says = set-moved _ _ back.values (members e) in (

@@ -45,9 +45,9 @@ place-other x z (y ∷ ys) other same h = elim (cases_of x y) [
 ]
 
 -- a word that is moved and then moved once more
-moved-again : (tracks track : ℕ) (d f : ℤ) (u v w : List ℕ) → IsMoved tracks track d u v → IsMoved tracks track f v w
+moved-again : {tracks track : ℕ} {d f : ℤ} {u v w : List ℕ} → IsMoved tracks track d u v → IsMoved tracks track f v w
     → IsMoved tracks track (d +ℤ f) u w
-moved-again tracks track d f u v w one other = record {
+moved-again {track} {d} {f} {u} one other = record {
   is_word = other.is_word;
   moved = other.moved ∙ ap (λ z. z +ℤ f) one.moved ∙ add (val u track) d f;
   others = λ t within differs. other.others t within differs ∙ one.others t within differs;
@@ -64,7 +64,7 @@ module _ (can : WordsCanBeMoved) (tracks track : ℕ) (u : List ℕ) (within : t
   once-more : (d g : ℤ) (up : Bool) → d +ℤ by_one up ≡ g → HasMoved d → HasMoved g
   once-more d g up sum (v, one) =
       let (w, other) = can tracks track v within one.is_word up in
-      (w, subst (λ k. IsMoved tracks track k u w) sum (moved-again tracks track d (by_one up) u v w one other))
+      (w, subst (λ k. IsMoved tracks track k u w) sum (moved-again one other))
 
   stays : HasMoved (pos 0)
   stays = (u, record { is_word = is; moved = zero-more (val u track); others = λ t h differs. refl })
@@ -99,10 +99,10 @@ pub tracks-moved : (shifts : List Shift) (a b : Automaton) → IsMovedBy shifts 
 tracks-moved [] a b is = ap (λ (m : Automaton). m.tracks) is
 tracks-moved (s ∷ shifts) a b (m, one, rest) = tracks-moved shifts m b rest ∙ one.tracks
 
-pub taken-back : WordsCanBeMoved → (vars : List Var) (shifts : List Shift) (a b : Automaton) (u : List ℕ)
+pub taken-back : WordsCanBeMoved → (vars : List Var) (shifts : List Shift) (a b : Automaton) {u : List ℕ}
     → a.tracks ≡ vars → ((s : Shift) → IsAmong s shifts → IsOneOf s.new vars) → AllPairs AreOtherVars shifts
     → IsMovedBy shifts a b → IsWord (length vars) u → (v : List ℕ) × IsTakenBack vars shifts a b u v
-taken-back can vars [] a b u tracks within apart is is_word = (
+taken-back can vars [] a b {u} tracks within apart is is_word = (
   u,
   record {
     is_word = is_word;
@@ -110,10 +110,10 @@ taken-back can vars [] a b u tracks within apart is is_word = (
     values = record { new = λ s h. absurd h; others = λ x h none. refl };
   },
 )
-taken-back can vars (s ∷ shifts) a b u tracks within apart (m, one, rest) is_word =
+taken-back can vars (s ∷ shifts) a b {u} tracks within apart (m, one, rest) is_word =
     let fewer = λ (t : Shift) (h : IsAmong t shifts). within t (inr h) in
     let (v, back) =
-    taken-back can vars shifts m b u (one.tracks ∙ tracks) fewer (later s shifts apart) rest is_word in
+    taken-back can vars shifts m b (one.tracks ∙ tracks) fewer (later s shifts apart) rest is_word in
     further can vars s shifts a b u tracks within apart m one v back
   where
     further : WordsCanBeMoved → (vars : List Var) (s : Shift) (shifts : List Shift) (a b : Automaton) (u : List ℕ)

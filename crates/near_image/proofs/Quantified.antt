@@ -23,9 +23,9 @@ use Rattle.near_image.proofs.Factors.{factored-self, factored-step, factored-ex}
 use Rattle.near_image.proofs.Members.{members-bound}
 use Rattle.near_image.proofs.Chains.{within-changes, factored-clear, within-clear}
 
-settles-old : (s : Shift) (q : Equation) → Sides s q → s.new ≢ s.gone → Settles s.gone q
-settles-old s q (Up greater less) differ = inl (less, λ e. differ (sym greater ∙ e))
-settles-old s q (Down greater less) differ = inr (greater, λ e. differ (sym less ∙ e))
+settles-old : {s : Shift} {q : Equation} → Sides s q → s.new ≢ s.gone → Settles s.gone q
+settles-old (Up greater less) differ = inl (less, λ e. differ (sym greater ∙ e))
+settles-old (Down greater less) differ = inr (greater, λ e. differ (sym less ∙ e))
 
 -- the old variables are not new ones, and stand neither in the part nor in the other equations
 pub record AreSettled (shifts : List Shift) (p : Tree) (qs : List Equation) : Type 0 where
@@ -34,15 +34,15 @@ pub record AreSettled (shifts : List Shift) (p : Tree) (qs : List Equation) : Ty
   pub part : (s : Shift) → IsAmong s shifts → (y : Var) → IsOneOf y (free_vars p) → y ≢ s.gone
   pub others : (s : Shift) → IsAmong s shifts → IsBeside s.gone qs
 
-settled-later : (s : Shift) (shifts : List Shift) (p : Tree) (qs : List Equation) → AreSettled (s ∷ shifts) p qs
+settled-later : (s : Shift) (shifts : List Shift) {p : Tree} {qs : List Equation} → AreSettled (s ∷ shifts) p qs
     → AreSettled shifts p (equation_of s ∷ qs)
-settled-later s shifts p qs are = record {
+settled-later s shifts are = record {
   new = λ t r h k. are.new t r (inr h) (inr k);
   apart = later s shifts are.apart;
   part = λ t h. are.part t (inr h);
   others = λ t h.
       let old = (beside s shifts are.apart t h).gone in
-      let (greater, less) = beside-one s t.gone (equation_of s) (sides s) (are.new s t (inl refl) (inr h)) old in
+      let (greater, less) = beside-one t.gone (sides s) (are.new s t (inl refl) (inr h)) old in
       (greater, less, are.others t (inr h));
 }
 
@@ -52,19 +52,19 @@ module _ (bound : ExBound) (e : ℕ → SetOf) (budget each : ℕ) (p : Tree)
     pub factored : IsFactored (ex_all (gone shifts) w) p qs (members e)
     pub within : AreWithin (steps (ex_all (gone shifts) w)) (members e) budget
 
-  bind : (shifts : List Shift) (w : Tree) (qs : List Equation) → AreSettled shifts p qs
+  bind : {shifts : List Shift} {w : Tree} {qs : List Equation} → AreSettled shifts p qs
       → IsFactored w p (turned shifts qs) (members e) → colours (turned shifts qs) * each ≤ budget
       → AreWithin (steps w) (members e) budget → AreBound shifts w qs
-  bind [] w qs are is enough within = record { factored = is; within = within }
-  bind (s ∷ shifts) w qs are is enough within =
-      let inner = bind shifts w (equation_of s ∷ qs) (settled-later s shifts p qs are) is enough within in
+  bind {shifts = []} are is enough within = record { factored = is; within = within }
+  bind {shifts = s ∷ shifts} {w} {qs} are is enough within =
+      let inner = bind (settled-later s shifts are) is enough within in
       let differ = are.new s s (inl refl) (inl refl) in
       let others = are.part s (inl refl) in
       let beside = are.others s (inl refl) in
       let outer = factored-ex s (ex_all (gone shifts) w) p qs (members e) inner.factored differ others beside in
       let later = colours-later (s ∷ shifts) qs in
       let fewer = mul-le (colours qs) each (colours (turned (s ∷ shifts) qs)) each later (omega arith) in
-      let settles = settles-old s (equation_of s) (sides s) differ in
+      let settles = settles-old (sides s) differ in
       let none : ¬ Exceeds (Ex s.gone (ex_all (gone shifts) w)) (members e) budget = λ more.
       few (bound s.gone (ex_all (gone shifts) w) p (equation_of s) qs e budget each inner.factored settles others
       outer.equation_vars (omega (arith, fewer, enough)) more) in
@@ -78,11 +78,11 @@ module _ (bound : ExBound) (e : ℕ → SetOf) (budget each : ℕ) (p : Tree)
   pub bound-within : (shifts : List Shift) (w : Tree) → AreSettled shifts p []
       → IsFactored w p (turned shifts []) (members e) → colours (turned shifts []) * each ≤ budget
       → AreWithin (steps w) (members e) budget → AreWithin (steps (ex_all (gone shifts) w)) (members e) budget
-  bound-within shifts w are is enough within = (bind shifts w [] are is enough within).within
+  bound-within shifts w are is enough within = (bind are is enough within).within
 
 -- the old variables do not stand in the part of an image
-part-settled : (i : Image) → IsShiftable i → AreSettled i.shifts (part_tree i) []
-part-settled i is = record {
+part-settled : {i : Image} → IsShiftable i → AreSettled i.shifts (part_tree i) []
+part-settled {i} is = record {
   new = new-gone i is;
   apart = is.apart;
   part = λ s h y free same.
@@ -103,9 +103,9 @@ pub record Bounds : Type 0 where
   pub projections : ExBound
   pub states : StatesBound
 
-pub steps-within : Bounds → (i : Image) (e : ℕ → SetOf) (budget each : ℕ) → IsShiftable i → HasFewStates i e budget each
+pub steps-within : Bounds → {i : Image} {e : ℕ → SetOf} {budget each : ℕ} → IsShiftable i → HasFewStates i e budget each
     → FirstOver (steps (image_tree i)) (members e) budget 1 None
-steps-within bounds i e budget each is few =
+steps-within bounds {i} {e} {budget} {each} is few =
     let once : 1 * start_colours i.shifts ≡ start_colours i.shifts = omega arith in
     let room : 1 * start_colours i.shifts * length few.set.accept ≤ budget =
     subst (λ n. n * length few.set.accept ≤ budget) (sym once) few.start in
@@ -117,8 +117,8 @@ steps-within bounds i e budget each is few =
     subst (λ n. n * each ≤ budget) (sym (colours-turned i.shifts)) few.changes in
     let asked = within-clear e budget each bounds.conjunctions i.clear (step i) (moved_tree i) (turned i.shifts [])
     factored enough few.clear start in
-    let whole = factored-clear e budget each i.clear (step i) (moved_tree i) (turned i.shifts []) factored in
+    let whole = factored-clear e budget each i.clear factored in
     let part_few = bounds.states few.part (part_tree i) e each few.is_part few.decides few.few in
     none-over (steps (image_tree i)) (members e) budget 1
     (bound-within bounds.projections e budget each (part_tree i) part_few i.shifts (and_all (step i) (map Not i.clear))
-    (part-settled i is) whole enough asked)
+    (part-settled is) whole enough asked)

@@ -24,27 +24,27 @@ all-among P [] h = All-nil P
 all-among P (s ∷ shifts) h = All-cons P s shifts (h s (inl refl)) (all-among P shifts (λ t among. h t (inr among)))
 
 -- the new values have tracks in the set that is renamed
-pub new-places : (i : Image) → IsShiftable i → (tracks : List Var) → tracks ≡ with_vars (moved_vars i) []
+pub new-places : {i : Image} → IsShiftable i → (tracks : List Var) → tracks ≡ with_vars (moved_vars i) []
     → All (λ s. place tracks s.new < length tracks) i.shifts
-new-places i is tracks same =
+new-places {i} is tracks same =
     all-among (λ s. place tracks s.new < length tracks) i.shifts (λ s among.
     let one = (moved-vars i is s.new).1 (inl (new-among s i.shifts among)) in
     rw same (place-within s.new (with_vars (moved_vars i) []) ((one_of-with_vars s.new (moved_vars i) []).1 (inl one))))
 
 module _ (e : ℕ → SetOf) (budget each : ℕ) where
-  pub decides-all : (f : Tree) (gs : List Tree) (a b : Automaton) → Decides a f (members e) → AreLeftOf e budget each gs a b
+  pub decides-all : {f : Tree} (gs : List Tree) {a : Automaton} (b : Automaton) → Decides a f (members e) → AreLeftOf e budget each gs a b
       → Decides b (and_all f (map Not gs)) (members e)
-  decides-all f [] a b decides same = subst (λ c. Decides c f (members e)) (sym same) decides
-  decides-all f (g ∷ gs) a b decides (m, left, rest) = decides-all (And f (Not g)) gs m b (left.decides f decides) rest
+  decides-all {f} [] b decides same = subst (λ c. Decides c f (members e)) (sym same) decides
+  decides-all {f} (g ∷ gs) b decides (m, left, rest) = decides-all gs b (left.decides f decides) rest
 
-  pub clear-within : (f : Tree) (gs : List Tree) (a b : Automaton) → Decides a f (members e) → AreLeftOf e budget each gs a b
+  pub clear-within : {f : Tree} (gs : List Tree) {a : Automaton} (b : Automaton) → Decides a f (members e) → AreLeftOf e budget each gs a b
       → AreClearWithin f gs e budget each
-  clear-within f [] a b decides same = tt
-  clear-within f (g ∷ gs) a b decides (m, left, rest) =
-      (left.asked, left.within f decides, clear-within (And f (Not g)) gs m b (left.decides f decides) rest)
+  clear-within [] b decides same = tt
+  clear-within {f} (g ∷ gs) b decides (m, left, rest) =
+      (left.asked, left.within f decides, clear-within gs b (left.decides f decides) rest)
 
-decides-says : (f g : Tree) (e : ℕ → SetOf) (a : Automaton) → SaysTheSame f g → Decides a g (members e) → Decides a f (members e)
-decides-says f g e a same decides = record {
+decides-says : {f g : Tree} (e : ℕ → SetOf) {a : Automaton} → SaysTheSame f g → Decides a g (members e) → Decides a f (members e)
+decides-says {f} {g} e same decides = record {
   tracks = decides.tracks ∙ sym same.vars;
   words = λ word is.
       let w = decides.words word (subst (λ t. IsWord (length t) word) same.vars is) in
@@ -68,7 +68,7 @@ pub compiled-on : (i : Image) (e : ℕ → SetOf) (budget each : ℕ) (part : Au
     → IsCompiledOn (image_tree i) e 0 budget part
 compiled-on i e budget each part says within is few decides accessible = record {
   made = record {
-    decides = decides-says (image_tree i) (part_tree i) e part (says i is) decides;
+    decides = decides-says e (says i is) decides;
     within = within i e budget each is few;
   };
   reached = accessible.reached;

@@ -39,10 +39,10 @@ taken_stands (suc t) p z h k m e low is =
     let same : h.0 ≡ m = cc in subst (λ a. StandsOn a z) same h.2
 
 -- each man of q is the man of the stock on his new square
-man_is : (stock : List Man) (mask i n t : ℕ) (man : Man) (r : Ray) → IsOption stock mask i n t man r → (f : ℕ → Square)
-    → IsApart (placed stock (is_live mask) man.side f) → (q : Position) → (h : StepsBy i r t (placed stock (is_live mask) man.side f) q)
+man_is : {stock : List Man} {mask i n t : ℕ} {man : Man} {r : Ray} → IsOption stock mask i n t man r → (f : ℕ → Square)
+    → IsApart (placed stock (is_live mask) man.side f) → {q : Position} → (h : StepsBy i r t (placed stock (is_live mask) man.side f) q)
     → (k : ℕ) (m b : Man) → stock_man stock k ≡ Some m → man_at q k ≡ Some b → b ≡ man_placed (without (is_live mask) t) (moved f i h.to) k m
-man_is stock mask i n t man r o f apart q h k m b is at =
+man_is {stock} {mask} {i} {t} {man} o f apart {q} h k m b is at =
     let p : Position = placed stock (is_live mask) man.side f in
     let live : ℕ → Bool = is_live mask in
     elim (same_number k i) [
@@ -55,7 +55,7 @@ man_is stock mask i n t man r o f apart q h k m b is at =
           subst (λ j. man_at q j ≡ Some (record h.man { place = At h.to.x h.to.y })) (sym e) (h.step.after.mover h.man h.is_man) in
           let two : Some b ≡ Some (record h.man { place = At h.to.x h.to.y }) = sym at ∙ there in
           let b_is : b ≡ record h.man { place = At h.to.x h.to.y } = cc in
-          let on : without live t k ≡ true = kept_live (live k) k t (subst (λ j. live j ≡ true) (sym e) o.live) (λ w. option_untaken stock mask i n t man r o (sym e ∙ w)) in
+          let on : without live t k ≡ true = kept_live (live k) k t (subst (λ j. live j ≡ true) (sym e) o.live) (λ w. option_untaken o (sym e ∙ w)) in
           let place : place_at (without live t k) (moved f i h.to k) ≡ At h.to.x h.to.y =
           place_is (without live t k) (moved f i h.to k) on ∙ ap (λ (z : Square). At z.x z.y) (moved_same f i k h.to e) in
           b_is
@@ -80,16 +80,16 @@ man_is stock mask i n t man r o f apart q h k m b is at =
     ]
 
 -- where live men stand apart, the option leads to the position with man i on his new square and man t gone
-pub after_is : (stock : List Man) (mask i n t : ℕ) (man : Man) (r : Ray) → IsOption stock mask i n t man r → (f : ℕ → Square)
-    → IsApart (placed stock (is_live mask) man.side f) → (q : Position) → (h : StepsBy i r t (placed stock (is_live mask) man.side f) q)
+pub after_is : {stock : List Man} {mask i n t : ℕ} {man : Man} {r : Ray} → IsOption stock mask i n t man r → (f : ℕ → Square)
+    → IsApart (placed stock (is_live mask) man.side f) → {q : Position} → (h : StepsBy i r t (placed stock (is_live mask) man.side f) q)
     → q ≡ placed stock (without (is_live mask) t) (other man.side) (moved f i h.to)
-after_is stock mask i n t man r o f apart q h =
+after_is {stock} {mask} {i} {t} {man} o f apart {q} h =
     let live : ℕ → Bool = is_live mask in
     let count : length q.men ≡ length (men_from 1 stock (without live t) (moved f i h.to)) =
     h.step.after.same_count ∙ length_placed 1 stock live f ∙ sym (length_placed 1 stock (without live t) (moved f i h.to)) in
     let men : q.men ≡ men_from 1 stock (without live t) (moved f i h.to) = list_same q.men (men_from 1 stock (without live t) (moved f i h.to)) count
     (λ k b c at is_c.
     let w = from_placed stock (without live t) (other man.side) (moved f i h.to) (suc k) c is_c in
-    man_is stock mask i n t man r o f apart q h (suc k) w.man b w.is_man at ∙ sym w.is)
+    man_is o f apart h (suc k) w.man b w.is_man at ∙ sym w.is)
     in
     ap (λ xs. record { men = xs; turn = q.turn }) men ∙ ap (λ s. record { men = men_from 1 stock (without live t) (moved f i h.to); turn = s }) h.step.after.turn

@@ -77,14 +77,14 @@ bears_from p m a z stands h =
 abbrev pub IsClearTo : List Man → (ℕ → Bool) → (ℕ → Square) → Ray → Square → ℕ → Type 0
 IsClearTo stock live f r a t = (k : ℕ) (m : Man) → stock_man stock k ≡ Some m → live k ≡ true → IsWithin r a (f k) t → ⊥
 
-open_along : (stock : List Man) (live : ℕ → Bool) (turn : Side) (f : ℕ → Square) (r : Ray) → IsFair r → r.far ≡ true
-    → (a b : Square) (w : LiesOn r a b) → IsOpen (placed stock live turn f) a b ↔ IsClearTo stock live f r a w.distance
-open_along stock live turn f r (far x y some) is_far a b w =
+open_along : (stock : List Man) (live : ℕ → Bool) (turn : Side) (f : ℕ → Square) {r : Ray} → IsFair r → r.far ≡ true
+    → {a b : Square} (w : LiesOn r a b) → IsOpen (placed stock live turn f) a b ↔ IsClearTo stock live f r a w.distance
+open_along stock live turn f (far x y some) is_far {a} {b} w =
     let o = open_is stock live turn f a b in (
-      λ h k m is on within. o.0 h k m is on ((between_is x y some a b (f k) w.distance w.positive w.steps).1 within),
-      λ h. o.1 (λ k m is on between. h k m is on ((between_is x y some a b (f k) w.distance w.positive w.steps).0 between)),
+      λ h k m is on within. o.0 h k m is on ((between_is x y some (f k) w.positive w.steps).1 within),
+      λ h. o.1 (λ k m is on between. h k m is on ((between_is x y some (f k) w.positive w.steps).0 between)),
     )
-open_along stock live turn f r (near dx dy some) is_far a b w = absurd (cc)
+open_along stock live turn f (near dx dy some) is_far w = absurd (cc)
 
 -- a man bears along his ray exactly where a far ray is clear
 pub bears_along : (stock : List Man) (live : ℕ → Bool) (turn : Side) (f : ℕ → Square) (m : Man) (n : ℕ) (r : Ray) (a b : Square)
@@ -92,24 +92,24 @@ pub bears_along : (stock : List Man) (live : ℕ → Bool) (turn : Side) (f : �
     → Bears (placed stock live turn f) m b ↔ (r.far ≡ true → IsClearTo stock live f r a w.distance)
 bears_along stock live turn f m n r a b is serves stands w =
     let p : Position = placed stock live turn f in (
-      λ h is_far. (open_along stock live turn f r is.fair is_far a b w).0 ((bears_from p m a b stands h).1 (is.slides is_far)),
+      λ h is_far. (open_along stock live turn f is.fair is_far w).0 ((bears_from p m a b stands h).1 (is.slides is_far)),
       λ h.
           bears_at p m a b stands (
-            reach_along m.side m.kind n r a b is serves w,
+            reach_along is serves w,
             λ slider.
                 elim (true_or_not r.far) [
-                  | inl is_far ↦ (open_along stock live turn f r is.fair is_far a b w).1 (h is_far)
+                  | inl is_far ↦ (open_along stock live turn f is.fair is_far w).1 (h is_far)
                   | inr is_near ↦ absurd (is.leaps is_near slider)
                 ],
           ),
     )
 
 -- who stands on an end of a slide is not on the way
-pub not_at_start : (r : Ray) → IsFair r → r.far ≡ true → (a : Square) (t : ℕ) → IsWithin r a a t → ⊥
-not_at_start r fair is_far a t w =
-    along_moves r fair a a (record { distance = w.distance; positive = w.positive; near = λ e. absurd (cc); steps = w.steps }) refl
+pub not_at_start : {r : Ray} → IsFair r → r.far ≡ true → {a : Square} {t : ℕ} → IsWithin r a a t → ⊥
+not_at_start fair is_far {a} w =
+    along_moves fair a a (record { distance = w.distance; positive = w.positive; near = λ e. absurd (cc); steps = w.steps }) refl
 
-pub not_at_end : (r : Ray) → IsFair r → r.far ≡ true → (a b : Square) (t : ℕ) → IsSteps r a b t → IsWithin r a b t → ⊥
-not_at_end r (far x y some) is_far a b t steps w =
-    let same : w.distance ≡ t = slide_steps_same x y some a b w.distance t w.steps steps in omega (arith, w.before)
-not_at_end r (near dx dy some) is_far a b t steps w = absurd (cc)
+pub not_at_end : {r : Ray} → IsFair r → r.far ≡ true → {a b : Square} {t : ℕ} → IsSteps r a b t → IsWithin r a b t → ⊥
+not_at_end (far x y some) is_far {t} steps w =
+    let same : w.distance ≡ t = slide_steps_same x y some w.steps steps in omega (arith, w.before)
+not_at_end (near dx dy some) is_far steps w = absurd (cc)

@@ -96,8 +96,8 @@ listed stock mask s g (suc n) b h =
 bearing_is : (b : Bearing) (g : ℕ) → b.king ≡ g → bearing b.man b.ray g ≡ b
 bearing_is b g e = ap (bearing b.man b.ray) (sym e)
 
-man_lists : (stock : List Man) (mask : ℕ) (s : Side) (g : ℕ) (b : Bearing) → IsListed stock mask s g b → Contains (man_bearings mask s g b.man (stock_man stock b.man)) b
-man_lists stock mask s g b h =
+man_lists : {stock : List Man} {mask : ℕ} {s : Side} {g : ℕ} {b : Bearing} → IsListed stock mask s g b → Contains (man_bearings mask s g b.man (stock_man stock b.man)) b
+man_lists {mask} {s} {g} {b} h =
     let along : IsAlongRays h.man.kind b.man g (length (rays_of h.man.kind h.man.side)) b = record { is = bearing_is b g h.king; low = h.low; serves = h.serves } in
     let inside : Contains (man_bearings mask s g b.man (Some h.man)) b =
     (only_if (is_live mask b.man && is_side h.man.side s) (along_rays h.man.kind b.man g (length (rays_of h.man.kind h.man.side))) b).1
@@ -111,7 +111,7 @@ lists stock mask s g (suc n) b h high =
     let step = appended (bearings_to stock mask s g n) (man_bearings mask s g (suc n) (stock_man stock (suc n))) b in
     elim (last_or_before b.man n high) [
       | inl earlier ↦ step.1 (inl (lists stock mask s g n b h earlier))
-      | inr last ↦ step.1 (inr (subst (λ j. Contains (man_bearings mask s g j (stock_man stock j)) b) last (man_lists stock mask s g b h)))
+      | inr last ↦ step.1 (inr (subst (λ j. Contains (man_bearings mask s g j (stock_man stock j)) b) last (man_lists h)))
     ]
 
 is_kingly : (stock : List Man) (s : Side) (k : ℕ) (m : Man) → stock_man stock k ≡ Some m → m.side ≡ s → m.kind ≡ King → is_king_man s (stock_man stock k) ≡ true
@@ -148,16 +148,16 @@ if_king : (b : Bool) (k rest number : ℕ) → (b ≡ true → k ≡ number) →
 if_king true k rest number yes' no' = yes' refl
 if_king false k rest number yes' no' = no' refl
 
-king_to_is : (p : Position) (s : Side) (had : HasOneKing p s) (n : ℕ) → had.number ≤ n → king_to p.men s n ≡ had.number
-king_to_is p s had zero high =
+king_to_is : {p : Position} {s : Side} (had : HasOneKing p s) (n : ℕ) → had.number ≤ n → king_to p.men s n ≡ had.number
+king_to_is {p} had zero high =
     let at = stock_number p.men had.number had.king (stock_man-men p had.number ∙ had.is_man) in absurd (omega (arith, at.low, high))
-king_to_is p s had (suc n) high =
+king_to_is {p} {s} had (suc n) high =
     if_king (is_king_man s (stock_man p.men (suc n))) (suc n) (king_to p.men s n) had.number
     (λ e.
     let w = kingly_is p.men s (suc n) e in had.only (suc n) w.man (sym (stock_man-men p (suc n)) ∙ w.is_man) w.side w.king)
     (λ e.
     elim (last_or_before had.number n high) [
-      | inl earlier ↦ king_to_is p s had n earlier
+      | inl earlier ↦ king_to_is had n earlier
       | inr last ↦
           let there : is_king_man s (stock_man p.men (suc n)) ≡ true =
           subst (λ j. is_king_man s (stock_man p.men j) ≡ true) last (is_kingly p.men s had.number had.king (stock_man-men p had.number ∙ had.is_man) had.is_king.0 had.is_king.1) in
@@ -165,16 +165,16 @@ king_to_is p s had (suc n) high =
     ])
 
 -- where each side has one king, that is his number
-pub king_is : (p : Position) (s : Side) (had : HasOneKing p s) → king_number p.men s ≡ had.number
-king_is p s had =
+pub king_is : {p : Position} {s : Side} (had : HasOneKing p s) → king_number p.men s ≡ had.number
+king_is {p} had =
     let at = stock_number p.men had.number had.king (stock_man-men p had.number ∙ had.is_man) in
-    king_to_is p s had (length p.men) at.high
+    king_to_is had (length p.men) at.high
 
 -- the list has exactly the bearings of the men of the side on the other side's king
-pub bearings_are : (p : Position) (m : ℕ) (s : Side) (b : Bearing) → ((t : Side) → HasOneKing p t) → IsGameMask p m → Contains (bearings_of p.men m s) b ↔ IsBearingOf p.men m s b
-bearings_are p m s b kings game =
+pub bearings_are : {p : Position} {m : ℕ} (s : Side) (b : Bearing) → ((t : Side) → HasOneKing p t) → IsGameMask p m → Contains (bearings_of p.men m s) b ↔ IsBearingOf p.men m s b
+bearings_are {p} {m} s b kings game =
     let had = kings (other s) in
-    let number : king_number p.men (other s) ≡ had.number = king_is p (other s) had in
+    let number : king_number p.men (other s) ≡ had.number = king_is had in
     let king_there : stock_man p.men had.number ≡ Some had.king = stock_man-men p had.number ∙ had.is_man in (
       λ h.
           let w = listed p.men m s (king_number p.men (other s)) (length p.men) b h in
@@ -220,9 +220,9 @@ bearings_are p m s b kings game =
     )
 
 -- the man of the one list who is man k of the other
-pub alike_man : (ms ns : List Man) → AreAlike ms ns → (k : ℕ) (m : Man) → stock_man ms k ≡ Some m → (n : Man) × (stock_man ns k ≡ Some n) × (n.side ≡ m.side) × (n.kind ≡ m.kind)
-alike_man ms ns h zero m is = absurd (cc)
-alike_man ms ns h (suc i) m is =
+pub alike_man : {ms ns : List Man} → AreAlike ms ns → (k : ℕ) (m : Man) → stock_man ms k ≡ Some m → (n : Man) × (stock_man ns k ≡ Some n) × (n.side ≡ m.side) × (n.kind ≡ m.kind)
+alike_man h zero m is = absurd (cc)
+alike_man {ms} {ns} h (suc i) m is =
     let within : i < length ns = omega (arith, h.count, slice_get_within ms i m is) in
     let (n, there) = stock_has ns (suc i) (omega arith) (omega (arith, within)) in
     let same = h.men i m n is there in (n, there, same.0, same.1)
@@ -277,12 +277,12 @@ check_of q s h =
       bears = bears;
     }
 
-bearing_by : (p : Position) (side s : Side) (q : Position) → Fits p side q → IsCheck q s → (b : Bearing) × IsBearingOf p.men (mask_of q) s b × BearsBy b.man b.ray b.king q
-bearing_by p side s q fits c =
+bearing_by : {p : Position} {side s : Side} {q : Position} → Fits p side q → IsCheck q s → (b : Bearing) × IsBearingOf p.men (mask_of q) s b × BearsBy b.man b.ray b.king q
+bearing_by {side} {s} {q} fits c =
     let way = way_of_bears q c.man c.from c.at c.from_stands c.bears in
-    let back = alike_back p.men q.men (alike_of p.men q fits.stock) in
-    let (man, is_man, man_side, man_kind) = alike_man q.men p.men back c.by_number c.man (stock_man-men q c.by_number ∙ c.is_man) in
-    let (king, is_king, king_side, king_kind) = alike_man q.men p.men back c.number c.king (stock_man-men q c.number ∙ c.is_king) in
+    let back = alike_back (alike_of fits.stock) in
+    let (man, is_man, man_side, man_kind) = alike_man back c.by_number c.man (stock_man-men q c.by_number ∙ c.is_man) in
+    let (king, is_king, king_side, king_kind) = alike_man back c.number c.king (stock_man-men q c.number ∙ c.is_king) in
     let b : Bearing = bearing c.by_number way.number c.number in (
       b,
       record {
@@ -321,14 +321,14 @@ bearing_by p side s q fits c =
           is_target = c.is_king;
           stands = c.from_stands;
           target_stands = c.stands;
-          along = is_along way.ray c.from c.at way.along;
+          along = is_along way.along;
           bears = c.bears;
         };
       },
     )
 
-check_by : (p : Position) (side s : Side) (q : Position) → Fits p side q → (b : Bearing) → IsBearingOf p.men (mask_of q) s b → BearsBy b.man b.ray b.king q → InCheck q (other s)
-check_by p side s q fits b is by =
+check_by : {p : Position} {side s : Side} {q : Position} → Fits p side q → {b : Bearing} → IsBearingOf p.men (mask_of q) s b → BearsBy b.man b.ray b.king q → InCheck q (other s)
+check_by {s} {q} fits {b} is by =
     let w = by.bears in
     let man = fits.stock.men b.man is.bearer.man w.man is.bearer.is.is_man w.is_man in
     let king = fits.stock.men b.king is.bearer.target w.target is.bearer.is.is_target w.is_target in
@@ -338,8 +338,8 @@ check_by p side s q fits b is by =
     (king.0 ∙ is.other_side, king.1 ∙ is.king, live_at w.target w.to (Attacked q (other (other s))) w.target_stands attacked')
 
 -- the king is in check exactly where some bearing on him bears
-pub checks_are : (p : Position) (side s : Side) (q : Position) → Fits p side q → InCheck q (other s) ↔ ((b : Bearing) × IsBearingOf p.men (mask_of q) s b × BearsBy b.man b.ray b.king q)
-checks_are p side s q fits = (
-  λ h. bearing_by p side s q fits (check_of q s h),
-  λ (b, is, by). check_by p side s q fits b is by,
+pub checks_are : {p : Position} {side : Side} (s : Side) {q : Position} → Fits p side q → InCheck q (other s) ↔ ((b : Bearing) × IsBearingOf p.men (mask_of q) s b × BearsBy b.man b.ray b.king q)
+checks_are s {q} fits = (
+  λ h. bearing_by fits (check_of q s h),
+  λ (b, is, by). check_by fits is by,
 )

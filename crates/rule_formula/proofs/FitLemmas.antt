@@ -81,26 +81,26 @@ pub record AreAlike (ms ns : List Man) : Type 0 where
   pub count : length ns ≡ length ms
   pub men : (k : ℕ) (m n : Man) → slice_get ms k ≡ Some m → slice_get ns k ≡ Some n → (n.side ≡ m.side) × (n.kind ≡ m.kind)
 
-pub alike_back : (ms ns : List Man) → AreAlike ms ns → AreAlike ns ms
-alike_back ms ns h = record { count = sym h.count; men = λ k m n is at. let w = h.men k n m at is in (sym w.0, sym w.1) }
+pub alike_back : {ms ns : List Man} → AreAlike ms ns → AreAlike ns ms
+alike_back h = record { count = sym h.count; men = λ k m n is at. let w = h.men k n m at is in (sym w.0, sym w.1) }
 
-pub alike_of : (stock : List Man) (q : Position) → HasStock stock q → AreAlike stock q.men
-alike_of stock q h = record { count = h.count; men = λ k m n is at. h.men (suc k) m n is at }
+pub alike_of : {stock : List Man} {q : Position} → HasStock stock q → AreAlike stock q.men
+alike_of h = record { count = h.count; men = λ k m n is at. h.men (suc k) m n is at }
 
 man_alike : (m n : Man) (x : Place) → n.side ≡ m.side → n.kind ≡ m.kind → record m { place = x } ≡ record n { place = x }
 man_alike m n x side sort =
     ap (λ s. record { side = s; kind = m.kind; place = x }) (sym side) ∙ ap (λ k. record { side = n.side; kind = k; place = x }) (sym sort)
 
-pub men_alike : (i : ℕ) (ms ns : List Man) (live : ℕ → Bool) (f : ℕ → Square) → AreAlike ms ns → men_from i ms live f ≡ men_from i ns live f
-men_alike i [] [] live f h = refl
-men_alike i [] (n ∷ ns) live f h = absurd (omega (arith, h.count))
-men_alike i (m ∷ ms) [] live f h = absurd (omega (arith, h.count))
-men_alike i (m ∷ ms) (n ∷ ns) live f h =
+pub men_alike : (i : ℕ) {ms ns : List Man} (live : ℕ → Bool) (f : ℕ → Square) → AreAlike ms ns → men_from i ms live f ≡ men_from i ns live f
+men_alike i {ms = []} {ns = []} live f h = refl
+men_alike i {ms = []} {ns = n ∷ ns} live f h = absurd (omega (arith, h.count))
+men_alike i {ms = m ∷ ms} {ns = []} live f h = absurd (omega (arith, h.count))
+men_alike i {ms = m ∷ ms} {ns = n ∷ ns} live f h =
     let first = h.men 0 m n refl refl in
     let rest : AreAlike ms ns = record { count = omega (arith, h.count); men = λ k a b is at. h.men (suc k) a b is at } in
     let place : Place = place_at (live i) (f i) in
     ap (λ a. a ∷ men_from (suc i) ms live f) (man_alike m n place first.0 first.1)
-    ∙ ap (λ xs. record n { place = place } ∷ xs) (men_alike (suc i) ms ns live f rest)
+    ∙ ap (λ xs. record n { place = place } ∷ xs) (men_alike (suc i) live f rest)
 
 place_bit_small : (x : Place) → live_bit (place_square x) < 2
 place_bit_small Gone = omega arith
@@ -164,8 +164,8 @@ same_bit a b P low less h k =
     ]
 
 -- and no other number is
-pub mask_one : (q : Position) (mask : ℕ) → IsMaskOf q mask → mask ≡ mask_of q
-mask_one q mask h =
+pub mask_one : {q : Position} {mask : ℕ} → IsMaskOf q mask → mask ≡ mask_of q
+mask_one {q} {mask} h =
     let tells = mask_tells q in
     same_from_bits_below (length q.men) mask (mask_of q) h.no_more tells.no_more
     (λ i low.

@@ -77,25 +77,25 @@ abbrev pub GoesClear : List Man → (ℕ → Bool) → ℕ → ℕ → Ray → (
 GoesClear stock live i t r h a b =
     (along : LiesOn r a b) × EachOther stock live i t (λ k. IsWithin r a (h k) (suc along.distance) → ⊥)
 
-pub move_chain_holds : (stock : List Man) (d : Man) (live : ℕ → Bool) (i t : ℕ) (r : Ray) → IsFair r → (f : Tree) (a b : Seat) → Suits r a b
+pub move_chain_holds : (stock : List Man) (d : Man) (live : ℕ → Bool) (i t : ℕ) {r : Ray} → IsFair r → (f : Tree) {a b : Seat} → Suits r a b
     → (e : Sets) (v : Values)
     → Holds (clear (and_all f (ray_atoms r a b)) (λ k. on r a b Onto (own k)) live i t (length stock)) e v
     ↔ (Holds f e v × GoesClear stock live i t r (λ k. at v (own k)) (at v a) (at v b))
-move_chain_holds stock d live i t r fair f a b suits e v =
+move_chain_holds stock d live i t {r} fair f {a} {b} suits e v =
     let n : ℕ = length stock in
     let chain = clear_holds (and_all f (ray_atoms r a b)) (λ k. on r a b Onto (own k)) live i t n e v in
     let all = and_all_holds f (ray_atoms r a b) e v in
-    let ray = ray_atoms_hold r fair a b suits e v in
+    let ray = ray_atoms_hold fair suits e v in
     let each = each_other stock live i t (λ k. ¬ Holds (on r a b Onto (own k)) e v) d in (
       λ h.
           let c = chain.0 h in
           let w = all.0 c.0 in
           let along : LiesOn r (at v a) (at v b) = ray.0 w.1 in
-          (w.0, (along, λ k m is on first second within. each.0 c.1 k m is on first second ((on_holds r fair a b (own k) e v along).1 within))),
+          (w.0, (along, λ k m is on first second within. each.0 c.1 k m is on first second ((on_holds fair a b (own k) e v along).1 within))),
       λ h.
           chain.1 (
             all.1 (h.0, ray.1 h.1.0),
-            each.1 (λ k m is on first second hit. h.1.1 k m is on first second ((on_holds r fair a b (own k) e v h.1.0).0 hit)),
+            each.1 (λ k m is on first second hit. h.1.1 k m is on first second ((on_holds fair a b (own k) e v h.1.0).0 hit)),
           ),
     )
 
@@ -113,23 +113,23 @@ abbrev pub SeesAlong : List Man → (ℕ → Bool) → ℕ → ℕ → Ray → (
 SeesAlong stock live k g r f =
     (along : LiesOn r (f k) (f g)) × (r.far ≡ true → EachOther stock live k g (λ l. IsWithin r (f k) (f l) along.distance → ⊥))
 
-pub bear_chain_holds : (stock : List Man) (d : Man) (live : ℕ → Bool) (k g : ℕ) (r : Ray) → IsFair r → (f : Tree) → Suits r (own k) (own g)
+pub bear_chain_holds : (stock : List Man) (d : Man) (live : ℕ → Bool) (k g : ℕ) {r : Ray} → IsFair r → (f : Tree) → Suits r (own k) (own g)
     → (e : Sets) (v : Values)
     → Holds (clear_as r.far (and_all f (ray_atoms r (own k) (own g))) (λ l. on r (own k) (own g) Before (own l)) live k g (length stock)) e v
     ↔ (Holds f e v × SeesAlong stock live k g r (squares v))
-bear_chain_holds stock d live k g r fair f suits e v =
+bear_chain_holds stock d live k g {r} fair f suits e v =
     let chain = clear_as_holds r.far (and_all f (ray_atoms r (own k) (own g))) (λ l. on r (own k) (own g) Before (own l)) live k g (length stock) e v in
     let all = and_all_holds f (ray_atoms r (own k) (own g)) e v in
-    let ray = ray_atoms_hold r fair (own k) (own g) suits e v in
+    let ray = ray_atoms_hold fair suits e v in
     let each = each_other stock live k g (λ l. ¬ Holds (on r (own k) (own g) Before (own l)) e v) d in (
       λ h.
           let c = chain.0 h in
           let w = all.0 c.0 in
           let along : LiesOn r (squares v k) (squares v g) = ray.0 w.1 in
-          (w.0, (along, λ is_far l m is on first second within. each.0 (c.1 is_far) l m is on first second ((between_holds r fair is_far (own k) (own g) (own l) e v along).1 within))),
+          (w.0, (along, λ is_far l m is on first second within. each.0 (c.1 is_far) l m is on first second ((between_holds fair is_far (own k) (own g) (own l) e v along).1 within))),
       λ h.
           chain.1 (
             all.1 (h.0, ray.1 h.1.0),
-            λ is_far. each.1 (λ l m is on first second hit. h.1.1 is_far l m is on first second ((between_holds r fair is_far (own k) (own g) (own l) e v h.1.0).0 hit)),
+            λ is_far. each.1 (λ l m is on first second hit. h.1.1 is_far l m is on first second ((between_holds fair is_far (own k) (own g) (own l) e v h.1.0).0 hit)),
           ),
     )

@@ -43,8 +43,8 @@ at_gone : (b : Bool) (z : Square) → place_at b z ≡ Gone → b ≡ false
 at_gone true z e = absurd (cc)
 at_gone false z e = refl
 
-placed_king : (p : Position) (live : ℕ → Bool) (turn : Side) (g : ℕ → Square) → KeepsKings p.men live → (s : Side) → HasOneKing p s → HasOneKing (placed p.men live turn g) s
-placed_king p live turn g keeps s had =
+placed_king : {p : Position} (live : ℕ → Bool) (turn : Side) (g : ℕ → Square) → KeepsKings p.men live → {s : Side} → HasOneKing p s → HasOneKing (placed p.men live turn g) s
+placed_king {p} live turn g keeps had =
     let in_stock : stock_man p.men had.number ≡ Some had.king = stock_man-men p had.number ∙ had.is_man in
     let on : live had.number ≡ true = keeps had.number had.king in_stock had.is_king.1 in
     record {
@@ -72,13 +72,13 @@ placed_fits p live turn g apart kings keeps gone =
           ];
       turn = refl;
       apart = apart;
-      kings = λ s. placed_king p live turn g keeps s (kings s);
+      kings = λ s. placed_king live turn g keeps (kings s);
     }
 
 -- the mask of a placed position is the one with the same men
 pub placed_mask : (stock : List Man) (live : ℕ → Bool) (turn : Side) (g : ℕ → Square) (m : ℕ) → m < 2 ^ length stock
     → ((k : ℕ) → 0 < k → k ≤ length stock → is_live m k ≡ live k) → m ≡ mask_of (placed stock live turn g)
-placed_mask stock live turn g m small tells = mask_one (placed stock live turn g) m tells_it
+placed_mask stock live turn g m small tells = mask_one tells_it
   where
     tells_it : IsMaskOf (placed stock live turn g) m
     tells_it =
@@ -109,38 +109,38 @@ live_by_mask q zero n is on = absurd (cc)
 live_by_mask q (suc i) n is on = ((mask_tells q).live i n is).0 (live_bit_is (mask_of q) i on)
 
 -- the man of the position who is man k of the stock
-pub man_of_stock : (stock : List Man) (q : Position) → HasStock stock q → (k : ℕ) (m : Man) → stock_man stock k ≡ Some m → (n : Man) × (man_at q k ≡ Some n)
-man_of_stock stock q has k m is =
+pub man_of_stock : {stock : List Man} {q : Position} → HasStock stock q → (k : ℕ) (m : Man) → stock_man stock k ≡ Some m → (n : Man) × (man_at q k ≡ Some n)
+man_of_stock {stock} {q} has k m is =
     let at = stock_number stock k m is in
     let high : k ≤ length q.men = omega (arith, at.high, has.count) in
     let (n, there) = stock_has q.men k at.low high in
     (n, sym (stock_man-men q k) ∙ there)
 
-pub fits_kings : (p : Position) (side : Side) (q : Position) → Fits p side q → KeepsKings p.men (is_live (mask_of q))
-fits_kings p side q fits k m is king =
-    let (n, at) = man_of_stock p.men q fits.stock k m is in
+pub fits_kings : {p : Position} {side : Side} {q : Position} → Fits p side q → KeepsKings p.men (is_live (mask_of q))
+fits_kings {q} fits k m is king =
+    let (n, at) = man_of_stock fits.stock k m is in
     let same = fits.stock.men k m n is at in
     let had = fits.kings n.side in
     let number : k ≡ had.number = had.only k n at refl (same.1 ∙ king) in
     let there : man_at q k ≡ Some had.king = subst (λ j. man_at q j ≡ Some had.king) (sym number) had.is_man in
     live_in_mask q k had.king there had.live
 
-pub fits_gone : (p : Position) (side : Side) (q : Position) → Fits p side q → KeepsGone p.men (is_live (mask_of q))
-fits_gone p side q fits k m is on gone =
-    let (n, at) = man_of_stock p.men q fits.stock k m is in
+pub fits_gone : {p : Position} {side : Side} {q : Position} → Fits p side q → KeepsGone p.men (is_live (mask_of q))
+fits_gone {p} {q} fits k m is on gone =
+    let (n, at) = man_of_stock fits.stock k m is in
     live_by_mask q k n at on (fits.none_back k m n (sym (stock_man-men p k) ∙ is) at gone)
 
-pub fits_mask : (p : Position) (side : Side) (q : Position) → Fits p side q → IsGameMask p (mask_of q)
-fits_mask p side q fits =
+pub fits_mask : {p : Position} (side : Side) (q : Position) → Fits p side q → IsGameMask p (mask_of q)
+fits_mask {p} side q fits =
     record {
       no_more = subst (λ n. mask_of q < 2 ^ n) fits.stock.count (mask_small q.men);
-      live = λ k m is on. fits_gone p side q fits k m (stock_man-men p k ∙ is) on;
-      kings = λ k m is king. fits_kings p side q fits k m (stock_man-men p k ∙ is) king;
+      live = λ k m is on. fits_gone fits k m (stock_man-men p k ∙ is) on;
+      kings = λ k m is king. fits_kings fits k m (stock_man-men p k ∙ is) king;
     }
 
 -- in a position where each side has one live king, each king has his one number: so the start is of the game, too
-pub sound_fits : (p : Position) → Sound p → Fits p p.turn p
-sound_fits p sound =
+pub sound_fits : {p : Position} → Sound p → Fits p p.turn p
+sound_fits {p} sound =
     record {
       stock = record {
         count = refl;
@@ -153,10 +153,10 @@ sound_fits p sound =
     }
 
 -- no two live men stand on one square after the step
-moved_apart : (stock : List Man) (mask i t : ℕ) (r : Ray) (side turn : Side) (f : ℕ → Square) → IsApart (placed stock (is_live mask) side f)
-    → (q : Position) → (h : StepsBy i r t (placed stock (is_live mask) side f) q)
+moved_apart : (stock : List Man) (mask : ℕ) {i t : ℕ} {r : Ray} (side turn : Side) (f : ℕ → Square) → IsApart (placed stock (is_live mask) side f)
+    → {q : Position} → (h : StepsBy i r t (placed stock (is_live mask) side f) q)
     → IsApart (placed stock (without (is_live mask) t) turn (moved f i h.to))
-moved_apart stock mask i t r side turn f apart q h a b ma mb z is_a is_b on_a on_b =
+moved_apart stock mask {i} {t} side turn f apart h a b ma mb z is_a is_b on_a on_b =
     let live : ℕ → Bool = is_live mask in
     let p : Position = placed stock live side f in
     let g : ℕ → Square = moved f i h.to in
@@ -202,8 +202,8 @@ prey_no_king stock mask side (suc t) k m prey is king same =
     prey.4 (ap (λ (a : Man). a.kind) who ∙ king)
 
 -- the mask after the option is one of the game
-pub target_mask : (p : Position) (m : ℕ) (o : Opt) → IsGameMask p m → IsOptionOf p.men m o → IsGameMask p (target_of m o)
-target_mask p m o h w =
+pub target_mask : {p : Position} {m : ℕ} {o : Opt} → IsGameMask p m → IsOptionOf p.men m o → IsGameMask p (target_of m o)
+target_mask {p} {m} {o} h w =
     let alive : 0 < o.taken → is_live m o.taken ≡ true = prey_live p.men m w.man.side o.taken w.is.prey in
     let bits : (k : ℕ) → 0 < k → is_live (target_of m o) k ≡ without (is_live m) o.taken k = λ k low. without_is m o.taken k low alive in
     let less = without_less m o.taken in
@@ -225,26 +225,26 @@ pub record Arrives (p : Position) (side : Side) (m : ℕ) (o : Opt) (r : Positio
   pub fits : Fits p (other side) r
   pub mask : mask_of r ≡ target_of m o
 
-pub arrives : (p : Position) (side : Side) (o : Opt) (q r : Position) → ((s : Side) → HasOneKing p s) → Fits p side q
+pub arrives : {p : Position} {side : Side} {o : Opt} {q r : Position} → ((s : Side) → HasOneKing p s) → Fits p side q
     → IsOptionOfSide p.men (mask_of q) side o → TakesOption o q r → Arrives p side (mask_of q) o r
-arrives p side o q r kings fits (w, his) takes =
+arrives {p} {side} {o} {q} {r} kings fits (w, his) takes =
     let m : ℕ = mask_of q in
     let live : ℕ → Bool = is_live m in
     let f : ℕ → Square = squares_of q in
-    let q_is : placed p.men live w.man.side f ≡ q = ap (λ s. placed p.men live s f) his ∙ fits_placed p side q fits in
+    let q_is : placed p.men live w.man.side f ≡ q = ap (λ s. placed p.men live s f) his ∙ fits_placed fits in
     let apart : IsApart (placed p.men live w.man.side f) = subst IsApart (sym q_is) fits.apart in
     let there : TakesOption o (placed p.men live w.man.side f) r = subst (λ x. TakesOption o x r) (sym q_is) takes in
     let steps : StepsBy o.man w.ray o.taken (placed p.men live w.man.side f) r = (takes_is p.men live w.man.side f o w.man w.ray r w.is.is_man w.is.ray).1 there in
     let g : ℕ → Square = moved f o.man steps.to in
-    let after : r ≡ placed p.men (without live o.taken) (other w.man.side) g = after_is p.men m o.man o.ray o.taken w.man w.ray w.is f apart r steps in
+    let after : r ≡ placed p.men (without live o.taken) (other w.man.side) g = after_is w.is f apart steps in
     let r_is : r ≡ placed p.men (without live o.taken) (other side) g = after ∙ ap (λ s. placed p.men (without live o.taken) (other s) g) his in
-    let game : IsGameMask p (target_of m o) = target_mask p m o (fits_mask p side q fits) w in
+    let game : IsGameMask p (target_of m o) = target_mask (fits_mask side q fits) w in
     let bits : (k : ℕ) → 0 < k → is_live (target_of m o) k ≡ without live o.taken k = λ k low. without_is m o.taken k low (prey_live p.men m w.man.side o.taken w.is.prey) in
     let keeps : KeepsKings p.men (without live o.taken) = λ k a is king. sym (bits k (stock_number p.men k a is).low) ∙ game.kings k a (sym (stock_man-men p k) ∙ is) king in
     let gone : KeepsGone p.men (without live o.taken) = λ k a is on. game.live k a (sym (stock_man-men p k) ∙ is) (bits k (stock_number p.men k a is).low ∙ on) in
     let here : Fits p (other side) (placed p.men (without live o.taken) (other side) g) =
     placed_fits p (without live o.taken) (other side) g
-    (moved_apart p.men m o.man o.taken w.ray w.man.side (other side) f apart r steps) kings keeps gone in
+    (moved_apart p.men m w.man.side (other side) f apart steps) kings keeps gone in
     record {
       squares = g;
       is = r_is;

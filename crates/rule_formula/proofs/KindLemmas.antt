@@ -95,8 +95,8 @@ pub offset_to : (a b : ℤ) (m : ℤ) → b -ℤ a ≡ m → b ≡ a +ℤ m
 offset_to a b m h = omega (arith, ints)
 
 -- a man reaches what lies on his ray
-pub reach_along : (s : Side) (k : Kind) (n : ℕ) (r : Ray) (a b : Square) → IsRayOf s k n r → serves_captures k n ≡ true → LiesOn r a b → HasReach s k (b.x -ℤ a.x) (b.y -ℤ a.y)
-reach_along s k n r a b is serves w =
+pub reach_along : {s : Side} {k : Kind} {n : ℕ} {r : Ray} {a b : Square} → IsRayOf s k n r → serves_captures k n ≡ true → LiesOn r a b → HasReach s k (b.x -ℤ a.x) (b.y -ℤ a.y)
+reach_along {s} {k} {r} {a} {b} is serves w =
     subst (λ d. HasReach s k d (b.y -ℤ a.y)) (sym (offset_is a.x b.x (pos w.distance *ℤ r.dx) w.steps.right))
     (subst (λ d. HasReach s k (pos w.distance *ℤ r.dx) d) (sym (offset_is a.y b.y (pos w.distance *ℤ r.dy) w.steps.up)) (is.reaches serves w.distance w.positive w.near))
 
@@ -131,8 +131,8 @@ is_direction Minus Plus some = refl
 is_direction Minus Minus some = refl
 
 -- where b lies t steps along a slide, to be strictly between is to be fewer steps along it
-pub between_is : (x y : Sign) → IsSome x y → (a b z : Square) (t : ℕ) → 0 < t → IsSteps (slide (num x) (num y)) a b t → IsBetween a b z ↔ IsWithin (slide (num x) (num y)) a z t
-between_is x y some a b z t low steps = (
+pub between_is : (x y : Sign) → IsSome x y → {a b : Square} (z : Square) {t : ℕ} → 0 < t → IsSteps (slide (num x) (num y)) a b t → IsBetween a b z ↔ IsWithin (slide (num x) (num y)) a z t
+between_is x y some {a} {b} z {t} low steps = (
   λ h.
       let begun : 0 < h.part = h.begun in
       let fewer : h.part < h.whole = h.fewer in
@@ -145,7 +145,7 @@ between_is x y some a b z t low steps = (
         up = subst (λ d. b.y ≡ a.y +ℤ (pos h.whole *ℤ d)) is_y whole_up;
       }
       in
-      let same : h.whole ≡ t = slide_steps_same x y some a b h.whole t whole steps in
+      let same : h.whole ≡ t = slide_steps_same x y some whole steps in
       record {
         distance = h.part;
         positive = begun;
@@ -169,16 +169,16 @@ between_is x y some a b z t low steps = (
       },
 )
 
-pub fair_moves : (r : Ray) → IsFair r → r.dx ≡ pos 0 → r.dy ≡ pos 0 → ⊥
-fair_moves r (far Zero Zero some) across along = absurd some
-fair_moves r (far Zero Plus some) across along = omega (arith, ints, along)
-fair_moves r (far Zero Minus some) across along = omega (arith, ints, along)
-fair_moves r (far Plus y some) across along = omega (arith, ints, across)
-fair_moves r (far Minus y some) across along = omega (arith, ints, across)
-fair_moves r (near dx dy some) across along = some across along
+pub fair_moves : {r : Ray} → IsFair r → r.dx ≡ pos 0 → r.dy ≡ pos 0 → ⊥
+fair_moves (far Zero Zero some) across along = absurd some
+fair_moves (far Zero Plus some) across along = omega (arith, ints, along)
+fair_moves (far Zero Minus some) across along = omega (arith, ints, along)
+fair_moves (far Plus y some) across along = omega (arith, ints, across)
+fair_moves (far Minus y some) across along = omega (arith, ints, across)
+fair_moves (near dx dy some) across along = some across along
 
 pub ray_moves : (s : Side) (k : Kind) (n : ℕ) (o : Option Ray) → o ≡ ray_of k s n → IfSome o (λ r. r.dx ≡ pos 0 → r.dy ≢ pos 0)
 ray_moves s k n None e = tt
-ray_moves s k n (Some r) e = fair_moves r (ray_is s k n r (sym e)).fair
+ray_moves s k n (Some r) e = fair_moves (ray_is s k n r (sym e)).fair
 
 pub ruleset moving = (ray_moves)

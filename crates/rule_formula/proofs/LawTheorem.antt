@@ -72,8 +72,8 @@ in_stock p i k m e is =
     let there : suc i ≡ k = omega (arith, e) in subst (λ j. stock_man p.men j ≡ Some m) there is
 
 -- a position is that of its own men on their squares
-pub self_placed : (p : Position) (mask : ℕ) → IsMaskOf p mask → placed p.men (is_live mask) p.turn (squares_of p) ≡ p
-self_placed p mask h =
+pub self_placed : {p : Position} {mask : ℕ} → IsMaskOf p mask → placed p.men (is_live mask) p.turn (squares_of p) ≡ p
+self_placed {p} {mask} h =
     let men : men_from 1 p.men (is_live mask) (squares_of p) ≡ p.men = men_self 1 p.men (is_live mask) (squares_of p)
     (λ i k m e is.
     let live = h.live i m is in
@@ -85,8 +85,8 @@ self_placed p mask h =
     ap (λ xs. record { men = xs; turn = p.turn }) men
 
 -- in a sound position no step takes a king
-pub no_king_taken : (p : Position) (i : ℕ) (z : Square) (q : Position) → Sound p → Step p i z q → IsNoKing p (other p.turn) z
-no_king_taken p i z q sound step k m is enemy stands king =
+pub no_king_taken : {p : Position} {i : ℕ} {z : Square} {q : Position} → Sound p → Step p i z q → IsNoKing p (other p.turn) z
+no_king_taken {p} {i} {z} sound step k m is enemy stands king =
     let full : IsEmptySquare p z → ⊥ = λ empty. (all_men p (λ m. StandsOn m z → ⊥)).0 empty k m is stands in
     let bears : Bears p step.man z = goes_capture step.man.kind p step.man z full step.goes in
     let attacked : Attacked p (other (other p.turn)) z = any_at p (λ m. (m.side ≡ other (other p.turn)) × Bears p m z) i step.man step.is_man (step.his_turn ∙ sym (other_other p.turn), bears) in
@@ -94,24 +94,24 @@ no_king_taken p i z q sound step k m is enemy stands king =
     let check : InCheck p (other p.turn) = any_at p (λ m. (m.side ≡ other p.turn) × (m.kind ≡ King) × IsLiveAnd m (Attacked p (other (other p.turn)))) k m is (enemy, king, live) in
     sound.other_safe check
 
-side_of_option : (p : Position) (mask : ℕ) (f : ℕ → Square) (q : Position) (o : Opt) (w : IsOptionOf p.men mask o)
+side_of_option : (p : Position) {mask : ℕ} (f : ℕ → Square) {q : Position} {o : Opt} (w : IsOptionOf p.men mask o)
     → TakesOption o (placed p.men (is_live mask) p.turn f) q → w.man.side ≡ p.turn
-side_of_option p mask f q o w takes =
+side_of_option p {mask} f {o} w takes =
     let same : takes.steps.step.man ≡ man_placed (is_live mask) f o.man w.man = same_man p.men (is_live mask) p.turn f o.man w.man takes.steps.step.man w.is.is_man takes.steps.step.is_man in
     sym (ap (λ (a : Man). a.side) same) ∙ takes.steps.step.his_turn
 
-option_in : (p : Position) (mask i : ℕ) (z : Square) (q : Position) → Sound p → IsMaskOf p mask → Step p i z q → SomeOptionLeads mask p q
-option_in p mask i z q sound is step =
+option_in : {p : Position} {mask i : ℕ} {z : Square} {q : Position} → Sound p → IsMaskOf p mask → Step p i z q → SomeOptionLeads mask p q
+option_in {p} {mask} {i} {z} {q} sound is step =
     let own_place : Position = placed p.men (is_live mask) p.turn (squares_of p) in
-    let same : own_place ≡ p = self_placed p mask is in
-    let kings : IsNoKing own_place (other p.turn) z = subst (λ x. IsNoKing x (other p.turn) z) (sym same) (no_king_taken p i z q sound step) in
+    let same : own_place ≡ p = self_placed is in
+    let kings : IsNoKing own_place (other p.turn) z = subst (λ x. IsNoKing x (other p.turn) z) (sym same) (no_king_taken sound step) in
     let there : Step own_place i z q = subst (λ x. Step x i z q) (sym same) step in
-    let (o, of_man, is_option, takes) = option_of_step p.men mask p.turn (squares_of p) i z q kings there in
-    let turned : is_option.man.side ≡ p.turn = side_of_option p mask (squares_of p) q o is_option takes in
+    let (o, of_man, is_option, takes) = option_of_step p.men mask p.turn (squares_of p) kings there in
+    let turned : is_option.man.side ≡ p.turn = side_of_option p (squares_of p) is_option takes in
     (o, (options_are p.men mask p.turn o).1 (is_option, turned), subst (λ x. TakesOption o x q) same takes)
 
 pub steps_by_options : (p q : Position) (mask : ℕ) → Sound p → IsMaskOf p mask → StepsTo p q ↔ SomeOptionLeads mask p q
 steps_by_options p q mask sound is = (
-  λ (i, z, step). option_in p mask i z q sound is step,
+  λ (i, z, step). option_in sound is step,
   λ (o, listed, takes). (o.man, takes.steps.to, takes.steps.step),
 )

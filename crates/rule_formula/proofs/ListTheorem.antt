@@ -245,9 +245,9 @@ along_from stock mask s sort i n (suc t) serves prey =
     let w = prey_to stock mask (suc t) s (omega arith) prey in
     inr (serves, record { is = refl; low = omega arith; high = w.1; prey = w.0 })
 
-man_lists : (stock : List Man) (mask : ℕ) (s : Side) (o : Opt) (m : Man) (r : Ray) → IsOption stock mask o.man o.ray o.taken m r → m.side ≡ s
+man_lists : {stock : List Man} {mask : ℕ} (s : Side) (o : Opt) {m : Man} {r : Ray} → IsOption stock mask o.man o.ray o.taken m r → m.side ≡ s
     → Contains (man_options stock mask s o.man (stock_man stock o.man)) o
-man_lists stock mask s o m r is his =
+man_lists {stock} {mask} s o {m} {r} is his =
     let within : o.ray < length (rays_of m.kind m.side) = slice_get_within (rays_of m.kind m.side) o.ray r is.ray in
     let along : IsAlongRay stock mask s m.kind o.man o.ray o = along_from stock mask s m.kind o.man o.ray o.taken is.serves (subst (λ x. IsPrey stock mask x o.taken) his is.prey) in
     let inside : Contains (man_options stock mask s o.man (Some m)) o = (only_if (is_live mask o.man && is_side m.side s) (rays_to stock mask s m.kind o.man (length (rays_of m.kind m.side))) o).1
@@ -255,15 +255,15 @@ man_lists stock mask s o m r is his =
     in
     subst (λ x. Contains (man_options stock mask s o.man x) o) (sym is.is_man) inside
 
-lists : (stock : List Man) (mask : ℕ) (s : Side) (n : ℕ) (o : Opt) (m : Man) (r : Ray)
+lists : {stock : List Man} {mask : ℕ} (s : Side) (n : ℕ) (o : Opt) {m : Man} {r : Ray}
     → IsOption stock mask o.man o.ray o.taken m r → m.side ≡ s → o.man ≤ n → Contains (options_to stock mask s n) o
-lists stock mask s zero o m r is his high =
+lists {stock} s zero o {m} is his high =
     let at = stock_number stock o.man m is.is_man in absurd (omega (arith, at.low))
-lists stock mask s (suc n) o m r is his high =
+lists {stock} {mask} s (suc n) o is his high =
     let step = appended (options_to stock mask s n) (man_options stock mask s (suc n) (stock_man stock (suc n))) o in
     elim (last_or_before o.man n high) [
-      | inl earlier ↦ step.1 (inl (lists stock mask s n o m r is his earlier))
-      | inr last ↦ step.1 (inr (subst (λ j. Contains (man_options stock mask s j (stock_man stock j)) o) last (man_lists stock mask s o m r is his)))
+      | inl earlier ↦ step.1 (inl (lists s n o is his earlier))
+      | inr last ↦ step.1 (inr (subst (λ j. Contains (man_options stock mask s j (stock_man stock j)) o) last (man_lists s o is his)))
     ]
 
 -- the list has exactly the options of the men of the side
@@ -272,7 +272,7 @@ options_are stock mask s o = (
   λ h. listed stock mask s (length stock) o h,
   λ (w, his).
       let at = stock_number stock o.man w.man w.is.is_man in
-      lists stock mask s (length stock) o w.man w.ray w.is his at.high,
+      lists s (length stock) o w.is his at.high,
 )
 
 push_few : (b : Bool) (xs : List Opt) (y : Opt) → length (if b then xs ++ y ∷ [] else xs) ≤ length xs + 1

@@ -136,8 +136,8 @@ live_of : (p : Position) (m : ℕ) → is_part m (mask_of p) ≡ true → (k : �
 live_of p m part zero a is on = absurd (cc)
 live_of p m part (suc i) a is on = ((mask_tells p).live i a is).0 (part_bits m (mask_of p) part i (live_bit_is m i on))
 
-mask_of_listed : (p : Position) (m : ℕ) → IsListed p (mask_of p + 1) m → IsGameMask p m
-mask_of_listed p m h =
+mask_of_listed : {p : Position} {m : ℕ} → IsListed p (mask_of p + 1) m → IsGameMask p m
+mask_of_listed {p} {m} h =
     let tells = mask_tells p in
     record {
       no_more = omega (arith, h.low, tells.no_more);
@@ -147,8 +147,8 @@ mask_of_listed p m h =
           kings_in p.men m (length p.men) h.kings k a in_stock king (stock_number p.men k a in_stock).high;
     }
 
-listed_of_mask : (p : Position) (m : ℕ) → IsGameMask p m → IsListed p (mask_of p + 1) m
-listed_of_mask p m h =
+listed_of_mask : {p : Position} {m : ℕ} → IsGameMask p m → IsListed p (mask_of p + 1) m
+listed_of_mask {p} {m} h =
     let tells = mask_tells p in
     let part : is_part m (mask_of p) ≡ true = bits_part (length p.men) m (mask_of p) h.no_more
     (λ i low one.
@@ -162,6 +162,6 @@ listed_of_mask p m h =
 pub masks_are : (p : Position) (m : ℕ) → Contains (masks_of p) m ↔ IsGameMask p m
 masks_are p m =
     let all = masks_in p (mask_of p + 1) m in (
-      λ h. mask_of_listed p m (all.0 h),
-      λ h. all.1 (listed_of_mask p m h),
+      λ h. mask_of_listed (all.0 h),
+      λ h. all.1 (listed_of_mask h),
     )

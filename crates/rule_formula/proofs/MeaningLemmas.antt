@@ -36,14 +36,14 @@ takes_is stock live turn f o man r q is ray = (
   λ h. subst (λ y. StepsBy o.man y o.taken (placed stock live turn f) q) (ray_placed stock live turn f o.man o.ray man h.man r h.ray is h.is_man ray h.is_ray) h.steps,
 )
 
-pub image_means : (stock : List Man) (mask : ℕ) (o : Opt) (s : ℕ) (man : Man) (r : Ray) (t : Tree) → length stock ≤ 8
+pub image_means : {stock : List Man} {mask : ℕ} (o : Opt) (s : ℕ) {man : Man} {r : Ray} (t : Tree) → length stock ≤ 8
     → IsOption stock mask o.man o.ray o.taken man r → t ≡ image_tree (length stock) mask o.man r o.taken s → (e : Sets)
     → ImageHolds e stock mask o s t
-image_means stock mask o s man r t short is tree e man' v is' apart =
+image_means {stock} {mask} o s {man} {r} t short is tree e man' v is' apart =
     let both : Some man ≡ Some man' = sym is.is_man ∙ is' in
     let same : man ≡ man' = cc in
     let here : HoldsApart e s stock (is_live mask) man.side = subst (λ (m : Man). HoldsApart e s stock (is_live mask) m.side) (sym same) apart in
-    let main = image_holds stock mask o.man o.ray o.taken man r short is s e v here in
+    let main = image_holds short is s e v here in
     let takes = λ (f : ℕ → Square). takes_is stock (is_live mask) man.side f o man r (placed stock (without (is_live mask) o.taken) (other man.side) (squares v)) is.is_man is.ray in
     let told : Holds t e v ↔ IsReached e s stock mask man.side o (placed stock (without (is_live mask) o.taken) (other man.side) (squares v)) = (
       λ h. let (f, member, steps) = main.0 (subst (λ t. Holds t e v) tree h) in (f, member, (takes f).0 steps),
@@ -52,10 +52,10 @@ image_means stock mask o s man r t short is tree e man' v is' apart =
     in
     subst (λ (m : Man). Holds t e v ↔ IsReached e s stock mask m.side o (placed stock (without (is_live mask) o.taken) (other m.side) (squares v))) same told
 
-pub bear_means : (stock : List Man) (mask k n g : ℕ) (s : ℕ) (man target : Man) (r : Ray) (t : Tree) → IsBearing stock mask k n g man target r
+pub bear_means : {stock : List Man} {mask k n g : ℕ} (s : ℕ) {man target : Man} {r : Ray} (t : Tree) → IsBearing stock mask k n g man target r
     → t ≡ bear_tree (length stock) mask k r g s → (e : Sets) → BearHolds e stock mask k n g s t
-bear_means stock mask k n g s man target r t is tree e turn v =
-    let main = bear_holds stock turn mask k n g man target r is s e v in (
+bear_means {stock} {mask} {k} {n} {g} s {man} {r} t is tree e turn v =
+    let main = bear_holds turn is s e v in (
       λ h.
           let w = main.0 (subst (λ t. Holds t e v) tree h) in
           (w.0, record { man = man_placed (is_live mask) (squares v) k man; ray = r; is_man = placed_man stock (is_live mask) turn (squares v) k man is.is_man; is_ray = is.ray; bears = w.1 }),
@@ -65,33 +65,33 @@ bear_means stock mask k n g s man target r t is tree e turn v =
     )
 
 -- pre, at values whose position has its live men on distinct squares if it is in the set
-pub pre_at : (stock : List Man) (mask : ℕ) (o : Opt) (s q : ℕ) (man : Man) (r : Ray) (t : Tree) → length stock ≤ 8
+pub pre_at : {stock : List Man} {mask : ℕ} (o : Opt) (s q : ℕ) {man : Man} {r : Ray} (t : Tree) → length stock ≤ 8
     → IsOption stock mask o.man o.ray o.taken man r → t ≡ pre_tree (length stock) mask o.man r o.taken s q → (e : Sets) (v : Values)
     → (IsMember e s (placed stock (is_live mask) man.side (squares v)) → IsApart (placed stock (is_live mask) man.side (squares v)))
     → Holds t e v
     ↔ (IsMember e s (placed stock (is_live mask) man.side (squares v))
     × Reaches e q stock mask man.side o (placed stock (is_live mask) man.side (squares v)))
-pre_at stock mask o s q man r t short is tree e v apart =
-    let main = pre_holds stock mask o.man o.ray o.taken man r short is s q e v apart in
+pre_at {stock} {mask} o s q {man} {r} t short is tree e v apart =
+    let main = pre_holds short is s q e v apart in
     let takes = λ (g : ℕ → Square). takes_is stock (is_live mask) man.side (squares v) o man r (placed stock (without (is_live mask) o.taken) (other man.side) g) is.is_man is.ray in (
       λ h. let (member, (g, there, steps)) = main.0 (subst (λ t. Holds t e v) tree h) in (member, (g, there, (takes g).0 steps)),
       λ (member, (g, there, steps)). subst (λ t. Holds t e v) (sym tree) (main.1 (member, (g, there, (takes g).1 steps))),
     )
 
-pub pre_means : (stock : List Man) (mask : ℕ) (o : Opt) (s q : ℕ) (man : Man) (r : Ray) (t : Tree) → length stock ≤ 8
+pub pre_means : {stock : List Man} {mask : ℕ} (o : Opt) (s q : ℕ) {man : Man} {r : Ray} (t : Tree) → length stock ≤ 8
     → IsOption stock mask o.man o.ray o.taken man r → t ≡ pre_tree (length stock) mask o.man r o.taken s q → (e : Sets)
     → PreHolds e stock mask o s q t
-pre_means stock mask o s q man r t short is tree e man' v is' apart =
+pre_means {stock} {mask} o s q {man} t short is tree e man' v is' apart =
     let both : Some man ≡ Some man' = sym is.is_man ∙ is' in
     let same : man ≡ man' = cc in
     let here : HoldsApart e s stock (is_live mask) man.side = subst (λ (m : Man). HoldsApart e s stock (is_live mask) m.side) (sym same) apart in
-    let told = pre_at stock mask o s q man r t short is tree e v (here (squares v)) in
+    let told = pre_at o s q t short is tree e v (here (squares v)) in
     subst (λ (m : Man). Holds t e v ↔ (IsMember e s (placed stock (is_live mask) m.side (squares v)) × Reaches e q stock mask m.side o (placed stock (is_live mask) m.side (squares v)))) same told
 
-pub safe_means : (stock : List Man) (mask k n g : ℕ) (s : ℕ) (man target : Man) (r : Ray) (t : Tree) → IsBearing stock mask k n g man target r
+pub safe_means : {stock : List Man} {mask k n g : ℕ} (s : ℕ) {man target : Man} {r : Ray} (t : Tree) → IsBearing stock mask k n g man target r
     → t ≡ safe_tree (length stock) mask k r g s → (e : Sets) → SafeHolds e stock mask k n g s t
-safe_means stock mask k n g s man target r t is tree e turn v =
-    let main = safe_holds stock turn mask k n g man target r is s e v in (
+safe_means {stock} {mask} {k} {n} {g} s {man} {r} t is tree e turn v =
+    let main = safe_holds turn is s e v in (
       λ h.
           let w = main.0 (subst (λ t. Holds t e v) tree h) in (
             w.0,
@@ -127,33 +127,33 @@ found_ray stock k n m found r is ray here =
 pub tree_at : (make : ℕ → Ray → Tree) (t : Tree) (n m : ℕ) (r q : Ray) → t ≡ make n r → n ≡ m → r ≡ q → t ≡ make m q
 tree_at make t n m r q is count ray = is ∙ ap (λ k. make k r) count ∙ ap (make m) ray
 
-pub image_told : (stock : List Man) (mask : ℕ) (o : Opt) (s : ℕ) (t : Tree) → length stock ≤ 8
+pub image_told : {stock : List Man} {mask : ℕ} {o : Opt} (s : ℕ) (t : Tree) → length stock ≤ 8
     → IsOptionOf stock mask o → t ≡ image_of stock mask o s → (e : Sets) → ImageHolds e stock mask o s t
-image_told stock mask o s t few w is =
-    image_means stock mask o s w.man w.ray t few w.is
+image_told {stock} {mask} {o} s t few w is =
+    image_means o s t few w.is
     (is ∙ ap (λ r. image_tree (length stock) mask o.man r o.taken s) (sym (ray_at_is stock o.man o.ray w.man w.ray w.is.is_man w.is.ray)))
 
-pub pre_told : (stock : List Man) (mask : ℕ) (o : Opt) (s q : ℕ) (t : Tree) → length stock ≤ 8
+pub pre_told : {stock : List Man} {mask : ℕ} {o : Opt} (s q : ℕ) (t : Tree) → length stock ≤ 8
     → IsOptionOf stock mask o → t ≡ pre_of stock mask o s q → (e : Sets) → PreHolds e stock mask o s q t
-pre_told stock mask o s q t few w is =
-    pre_means stock mask o s q w.man w.ray t few w.is
+pre_told {stock} {mask} {o} s q t few w is =
+    pre_means o s q t few w.is
     (is ∙ ap (λ r. pre_tree (length stock) mask o.man r o.taken s q) (sym (ray_at_is stock o.man o.ray w.man w.ray w.is.is_man w.is.ray)))
 
-pub pre_told_at : (stock : List Man) (mask : ℕ) (o : Opt) (s q : ℕ) → length stock ≤ 8 → (w : IsOptionOf stock mask o) → (e : Sets) (v : Values)
+pub pre_told_at : {stock : List Man} {mask : ℕ} {o : Opt} (s q : ℕ) → length stock ≤ 8 → (w : IsOptionOf stock mask o) → (e : Sets) (v : Values)
     → (IsMember e s (placed stock (is_live mask) w.man.side (squares v)) → IsApart (placed stock (is_live mask) w.man.side (squares v)))
     → Holds (pre_of stock mask o s q) e v
     ↔ (IsMember e s (placed stock (is_live mask) w.man.side (squares v))
     × Reaches e q stock mask w.man.side o (placed stock (is_live mask) w.man.side (squares v)))
-pre_told_at stock mask o s q few w e v apart =
-    pre_at stock mask o s q w.man w.ray (pre_of stock mask o s q) few w.is
+pre_told_at {stock} {mask} {o} s q few w e v apart =
+    pre_at o s q (pre_of stock mask o s q) few w.is
     (ap (λ r. pre_tree (length stock) mask o.man r o.taken s q) (sym (ray_at_is stock o.man o.ray w.man w.ray w.is.is_man w.is.ray))) e v apart
 
-pub bear_told : (stock : List Man) (mask k n g s : ℕ) (t : Tree) → IsBearer stock mask k n g → t ≡ bear_of stock mask k n g s → (e : Sets) → BearHolds e stock mask k n g s t
-bear_told stock mask k n g s t w is =
-    bear_means stock mask k n g s w.man w.target w.ray t w.is
+pub bear_told : {stock : List Man} {mask k n g : ℕ} (s : ℕ) (t : Tree) → IsBearer stock mask k n g → t ≡ bear_of stock mask k n g s → (e : Sets) → BearHolds e stock mask k n g s t
+bear_told {stock} {mask} {k} {n} {g} s t w is =
+    bear_means s t w.is
     (is ∙ ap (λ r. bear_tree (length stock) mask k r g s) (sym (ray_at_is stock k n w.man w.ray w.is.is_man w.is.ray)))
 
-pub safe_told : (stock : List Man) (mask k n g s : ℕ) (t : Tree) → IsBearer stock mask k n g → t ≡ safe_of stock mask k n g s → (e : Sets) → SafeHolds e stock mask k n g s t
-safe_told stock mask k n g s t w is =
-    safe_means stock mask k n g s w.man w.target w.ray t w.is
+pub safe_told : {stock : List Man} {mask k n g : ℕ} (s : ℕ) (t : Tree) → IsBearer stock mask k n g → t ≡ safe_of stock mask k n g s → (e : Sets) → SafeHolds e stock mask k n g s t
+safe_told {stock} {mask} {k} {n} {g} s t w is =
+    safe_means s t w.is
     (is ∙ ap (λ r. safe_tree (length stock) mask k r g s) (sym (ray_at_is stock k n w.man w.ray w.is.is_man w.is.ray)))

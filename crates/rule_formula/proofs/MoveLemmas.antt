@@ -121,12 +121,12 @@ some_number stock zero m is = absurd (cc)
 some_number stock (suc k) m is = omega arith
 
 -- whoever stands where man i goes is taken
-taken_there : (stock : List Man) (mask i n t : ℕ) (man : Man) (r : Ray) → IsOption stock mask i n t man r → (f g : ℕ → Square)
+taken_there : {stock : List Man} {mask i n t : ℕ} {man : Man} {r : Ray} → IsOption stock mask i n t man r → {f g : ℕ → Square}
     → IsMove stock (is_live mask) i r t f g → (k : ℕ) (m : Man) → stock_man stock k ≡ Some m → is_live mask k ≡ true → f k ≡ g i → k ≡ t
-taken_there stock mask i n t man r o f g w k m is live there =
+taken_there {i} {n} {t} {man} {r} o {f} {g} w k m is live there =
     let ray : IsRayOf man.side man.kind n r = ray_is man.side man.kind n r o.ray in
     elim (same_number k i) [
-      | inl e ↦ absurd (along_moves r ray.fair (f i) (g i) w.along (subst (λ j. f j ≡ g i) e there))
+      | inl e ↦ absurd (along_moves ray.fair (f i) (g i) w.along (subst (λ j. f j ≡ g i) e there))
       | inr other_than ↦ elim (same_number k t) [
         | inl e ↦ e
         | inr untaken ↦ absurd (w.clear k m is live other_than untaken (record {
@@ -144,30 +144,30 @@ empty_there stock mask i n man r o f g w =
     (each_placed stock (is_live mask) man.side f (λ m. StandsOn m (g i) → ⊥)).1
     (λ k m is stands.
     let s = stands_placed (is_live mask k) (f k) (g i) stands in
-    let none : k ≡ 0 = taken_there stock mask i n 0 man r o f g w k m is s.0 s.1 in
+    let none : k ≡ 0 = taken_there o w k m is s.0 s.1 in
     let low : 0 < k = some_number stock k m is in
     omega arith)
 
-prey_stands : (stock : List Man) (mask i n t : ℕ) (man : Man) (r : Ray) → (o : IsOption stock mask i n (suc t) man r) → (f g : ℕ → Square)
+prey_stands : {stock : List Man} {mask i n : ℕ} (t : ℕ) {man : Man} {r : Ray} → (o : IsOption stock mask i n (suc t) man r) → {f g : ℕ → Square}
     → IsMove stock (is_live mask) i r (suc t) f g → StandsOn (man_placed (is_live mask) f (suc t) o.prey.0) (g i)
-prey_stands stock mask i n t man r o f g w =
+prey_stands {mask} t o {f} w =
     let there : place_square (place_at (is_live mask (suc t)) (f (suc t))) ≡ Some (f (suc t)) = stands_at (is_live mask (suc t)) (f (suc t)) o.prey.2 in
     there ∙ ap (λ (z : Square). Some z) (w.taken (omega arith))
 
-takes_there : (stock : List Man) (mask i n t : ℕ) (man : Man) (r : Ray) → IsOption stock mask i n t man r → (f g : ℕ → Square)
+takes_there : {stock : List Man} {mask i n t : ℕ} {man : Man} {r : Ray} → IsOption stock mask i n t man r → {f g : ℕ → Square}
     → IsMove stock (is_live mask) i r t f g → Takes t (placed stock (is_live mask) man.side f) (g i)
-takes_there stock mask i n zero man r o f g w = empty_there stock mask i n man r o f g w
-takes_there stock mask i n (suc t) man r o f g w =
-    (man_placed (is_live mask) f (suc t) o.prey.0, placed_man stock (is_live mask) man.side f (suc t) o.prey.0 o.prey.1, prey_stands stock mask i n t man r o f g w)
+takes_there {stock} {mask} {i} {n} {t = zero} {man} {r} o {f} {g} w = empty_there stock mask i n man r o f g w
+takes_there {stock} {mask} {t = suc t} {man} o {f} w =
+    (man_placed (is_live mask) f (suc t) o.prey.0, placed_man stock (is_live mask) man.side f (suc t) o.prey.0 o.prey.1, prey_stands t o w)
 
-no_own_there : (stock : List Man) (mask i n t : ℕ) (man : Man) (r : Ray) → IsOption stock mask i n t man r → (f g : ℕ → Square)
+no_own_there : {stock : List Man} {mask i n t : ℕ} {man : Man} {r : Ray} → IsOption stock mask i n t man r → {f g : ℕ → Square}
     → IsMove stock (is_live mask) i r t f g → IsHeldBy (placed stock (is_live mask) man.side f) man.side (g i) → ⊥
-no_own_there stock mask i n t man r o f g w h =
+no_own_there {stock} {mask} {i} {t} {man} o {f} {g} w h =
     let p : Position = placed stock (is_live mask) man.side f in
     let (k, q, is, (side, stands)) = any_is p (λ m. (m.side ≡ man.side) × StandsOn m (g i)) h in
     let m = from_placed stock (is_live mask) man.side f k q is in
     let s = stands_placed (is_live mask k) (f k) (g i) (subst (λ a. StandsOn a (g i)) m.is stands) in
-    let e : k ≡ t = taken_there stock mask i n t man r o f g w k m.man m.is_man s.0 s.1 in
+    let e : k ≡ t = taken_there o w k m.man m.is_man s.0 s.1 in
     let enemy : m.man.side ≡ other man.side = prey_is stock mask t man.side o.prey k m.man e m.is_man in
     let same : q.side ≡ m.man.side = ap (λ (a : Man). a.side) m.is in
     other_differs man.side (sym side ∙ same ∙ enemy)
@@ -177,48 +177,48 @@ clear_way : (stock : List Man) (mask i n t : ℕ) (man : Man) (r : Ray) → IsOp
 clear_way stock mask i n t man r o f g w is_far k m is live within =
     let ray : IsRayOf man.side man.kind n r = ray_is man.side man.kind n r o.ray in
     elim (same_number k i) [
-      | inl e ↦ not_at_start r ray.fair is_far (f i) w.along.distance (subst (λ j. IsWithin r (f i) (f j) w.along.distance) e within)
+      | inl e ↦ not_at_start ray.fair is_far (subst (λ j. IsWithin r (f i) (f j) w.along.distance) e within)
       | inr other_than ↦ elim (same_number k t) [
         | inl e ↦
             let low : 0 < t = subst (λ j. 0 < j) e (some_number stock k m is) in
             let there : f k ≡ g i = ap f e ∙ w.taken low in
-            not_at_end r ray.fair is_far (f i) (g i) w.along.distance w.along.steps (subst (λ z. IsWithin r (f i) z w.along.distance) there within)
+            not_at_end ray.fair is_far w.along.steps (subst (λ z. IsWithin r (f i) z w.along.distance) there within)
         | inr untaken ↦
             let early : within.distance < w.along.distance = within.before in
             w.clear k m is live other_than untaken (record { distance = within.distance; positive = within.positive; before = omega arith; steps = within.steps })
       ]
     ]
 
-stands_here : (stock : List Man) (mask i n t : ℕ) (man : Man) (r : Ray) → IsOption stock mask i n t man r → (f : ℕ → Square) → StandsOn (man_placed (is_live mask) f i man) (f i)
-stands_here stock mask i n t man r o f = stands_at (is_live mask i) (f i) o.live
+stands_here : {stock : List Man} {mask i n t : ℕ} {man : Man} {r : Ray} → IsOption stock mask i n t man r → (f : ℕ → Square) → StandsOn (man_placed (is_live mask) f i man) (f i)
+stands_here {mask} {i} o f = stands_at (is_live mask i) (f i) o.live
 
-goes_there : (stock : List Man) (mask i n t : ℕ) (man : Man) (r : Ray) → IsOption stock mask i n t man r → (f g : ℕ → Square)
+goes_there : {stock : List Man} {mask i n t : ℕ} {man : Man} {r : Ray} → IsOption stock mask i n t man r → {f g : ℕ → Square}
     → (w : IsMove stock (is_live mask) i r t f g) → Goes (placed stock (is_live mask) man.side f) (man_placed (is_live mask) f i man) (g i)
-goes_there stock mask i n zero man r o f g w =
+goes_there {stock} {mask} {i} {n} {t = zero} {man} {r} o {f} {g} w =
     let ray : IsRayOf man.side man.kind n r = ray_is man.side man.kind n r o.ray in
-    let stands = stands_here stock mask i n zero man r o f in
+    let stands = stands_here o f in
     goes_quiet man.kind n (placed stock (is_live mask) man.side f) (man_placed (is_live mask) f i man) (g i) o.serves
     (λ serves. (bears_along stock (is_live mask) man.side f (man_placed (is_live mask) f i man) n r (f i) (g i) ray serves stands w.along).1 (clear_way stock mask i n zero man r o f g w))
     (λ quiet. stands ∙ ap (λ (z : Square). Some z) (step_back man.side r (f i) (g i) (ray.quiet quiet) w.along))
     (empty_there stock mask i n man r o f g w)
-goes_there stock mask i n (suc t) man r o f g w =
+goes_there {stock} {mask} {i} {n} {t = suc t} {man} {r} o {f} {g} w =
     let p : Position = placed stock (is_live mask) man.side f in
     let ray : IsRayOf man.side man.kind n r = ray_is man.side man.kind n r o.ray in
-    let stands = stands_here stock mask i n (suc t) man r o f in
+    let stands = stands_here o f in
     goes_as man.kind p (man_placed (is_live mask) f i man) (g i)
     ((bears_along stock (is_live mask) man.side f (man_placed (is_live mask) f i man) n r (f i) (g i) ray o.serves stands w.along).1 (clear_way stock mask i n (suc t) man r o f g w))
     (any_at p (λ m. (m.side ≡ other man.side) × StandsOn m (g i)) (suc t) (man_placed (is_live mask) f (suc t) o.prey.0)
-    (placed_man stock (is_live mask) man.side f (suc t) o.prey.0 o.prey.1) (o.prey.3, prey_stands stock mask i n t man r o f g w))
+    (placed_man stock (is_live mask) man.side f (suc t) o.prey.0 o.prey.1) (o.prey.3, prey_stands t o w))
 
 -- the position after the move, man by man
-man_after : (stock : List Man) (mask i n t : ℕ) (man : Man) (r : Ray) → IsOption stock mask i n t man r → (f g : ℕ → Square)
+man_after : {stock : List Man} {mask i n t : ℕ} {man : Man} {r : Ray} → IsOption stock mask i n t man r → {f g : ℕ → Square}
     → IsMove stock (is_live mask) i r t f g → (k : ℕ) (m : Man) → k ≢ i → stock_man stock k ≡ Some m
     → IsLeftBy (g i) (man_placed (is_live mask) f k m) (man_placed (without (is_live mask) t) g k m)
-man_after stock mask i n t man r o f g w k m other_than is =
+man_after {stock} {mask} {i} {t} o {f} {g} w k m other_than is =
     record {
       taken = λ stands.
           let s = stands_placed (is_live mask k) (f k) (g i) stands in
-          let e : k ≡ t = taken_there stock mask i n t man r o f g w k m is s.0 s.1 in
+          let e : k ≡ t = taken_there o w k m is s.0 s.1 in
           ap (λ a. record m { place = a }) (place_gone (without (is_live mask) t k) (g k) (taken_gone (is_live mask k) k t e));
       kept = λ away.
           elim (true_or_not (is_live mask k)) [
@@ -236,18 +236,18 @@ man_after stock mask i n t man r o f g w k m other_than is =
           ];
     }
 
-pub option_untaken : (stock : List Man) (mask i n t : ℕ) (man : Man) (r : Ray) → IsOption stock mask i n t man r → i ≢ t
-option_untaken stock mask i n t man r o e = other_differs man.side (prey_is stock mask t man.side o.prey i man e o.is_man)
+pub option_untaken : {stock : List Man} {mask i n t : ℕ} {man : Man} {r : Ray} → IsOption stock mask i n t man r → i ≢ t
+option_untaken {stock} {mask} {i} {t} {man} o e = other_differs man.side (prey_is stock mask t man.side o.prey i man e o.is_man)
 
 pub same_man : (stock : List Man) (live : ℕ → Bool) (turn : Side) (f : ℕ → Square) (k : ℕ) (m q : Man) → stock_man stock k ≡ Some m
     → man_at (placed stock live turn f) k ≡ Some q → q ≡ man_placed live f k m
 same_man stock live turn f k m q is at =
     let both : Some q ≡ Some (man_placed live f k m) = sym at ∙ placed_man stock live turn f k m is in cc
 
-is_after : (stock : List Man) (mask i n t : ℕ) (man : Man) (r : Ray) → IsOption stock mask i n t man r → (f g : ℕ → Square)
+is_after : {stock : List Man} {mask i n t : ℕ} {man : Man} {r : Ray} → IsOption stock mask i n t man r → {f g : ℕ → Square}
     → IsMove stock (is_live mask) i r t f g
     → IsAfter (placed stock (is_live mask) man.side f) i (g i) (placed stock (without (is_live mask) t) (other man.side) g)
-is_after stock mask i n t man r o f g w =
+is_after {stock} {mask} {i} {t} {man} o {f} {g} w =
     record {
       same_count = length_placed 1 stock (without (is_live mask) t) g ∙ sym (length_placed 1 stock (is_live mask) f);
       mover = λ m is.
@@ -255,36 +255,36 @@ is_after stock mask i n t man r o f g w =
           let there : man_at (placed stock (without (is_live mask) t) (other man.side) g) i ≡ Some (man_placed (without (is_live mask) t) g i man) =
           placed_man stock (without (is_live mask) t) (other man.side) g i man o.is_man in
           let place : man_placed (without (is_live mask) t) g i man ≡ record man { place = At (g i).x (g i).y } =
-          ap (λ a. record man { place = a }) (place_is (without (is_live mask) t i) (g i) (kept_live (is_live mask i) i t o.live (option_untaken stock mask i n t man r o))) in
+          ap (λ a. record man { place = a }) (place_is (without (is_live mask) t i) (g i) (kept_live (is_live mask i) i t o.live (option_untaken o))) in
           there ∙ ap (λ (a : Man). Some a) (place ∙ ap (λ (a : Man). record a { place = At (g i).x (g i).y }) (sym same));
       others = λ k m q other_than is_m is_q.
           let a = from_placed stock (is_live mask) man.side f k m is_m in
           let b : q ≡ man_placed (without (is_live mask) t) g k a.man = same_man stock (without (is_live mask) t) (other man.side) g k a.man q a.is_man is_q in
           subst (λ m. IsLeftBy (g i) m q) (sym a.is)
-          (subst (IsLeftBy (g i) (man_placed (is_live mask) f k a.man)) (sym b) (man_after stock mask i n t man r o f g w k a.man other_than a.is_man));
+          (subst (IsLeftBy (g i) (man_placed (is_live mask) f k a.man)) (sym b) (man_after o w k a.man other_than a.is_man));
       turn = refl;
     }
 
 -- such a move is a step by the option
-pub steps_by : (stock : List Man) (mask i n t : ℕ) (man : Man) (r : Ray) → IsOption stock mask i n t man r → (f g : ℕ → Square)
+pub steps_by : {stock : List Man} {mask i n t : ℕ} {man : Man} {r : Ray} → IsOption stock mask i n t man r → {f g : ℕ → Square}
     → IsMove stock (is_live mask) i r t f g
     → StepsBy i r t (placed stock (is_live mask) man.side f) (placed stock (without (is_live mask) t) (other man.side) g)
-steps_by stock mask i n t man r o f g w =
+steps_by {stock} {mask} {i} {man} o {f} {g} w =
     record {
       man = man_placed (is_live mask) f i man;
       from = f i;
       to = g i;
       is_man = placed_man stock (is_live mask) man.side f i man o.is_man;
-      stands = stands_here stock mask i n t man r o f;
-      along = is_along r (f i) (g i) w.along;
-      takes = takes_there stock mask i n t man r o f g w;
+      stands = stands_here o f;
+      along = is_along w.along;
+      takes = takes_there o w;
       step = record {
         man = man_placed (is_live mask) f i man;
         is_man = placed_man stock (is_live mask) man.side f i man o.is_man;
         his_turn = refl;
-        not_own = no_own_there stock mask i n t man r o f g w;
-        goes = goes_there stock mask i n t man r o f g w;
-        after = is_after stock mask i n t man r o f g w;
+        not_own = no_own_there o w;
+        goes = goes_there o w;
+        after = is_after o w;
       };
     }
 
@@ -295,10 +295,10 @@ record IsStepOf (stock : List Man) (mask i : ℕ) (r : Ray) (t : ℕ) (man : Man
   goes : Goes (placed stock (is_live mask) man.side f) (man_placed (is_live mask) f i man) (g i)
   after : IsAfter (placed stock (is_live mask) man.side f) i (g i) (placed stock (without (is_live mask) t) (other man.side) g)
 
-step_of : (stock : List Man) (mask i n t : ℕ) (man : Man) (r : Ray) → IsOption stock mask i n t man r → (f g : ℕ → Square)
+step_of : {stock : List Man} {mask i n t : ℕ} {man : Man} {r : Ray} → IsOption stock mask i n t man r → (f g : ℕ → Square)
     → StepsBy i r t (placed stock (is_live mask) man.side f) (placed stock (without (is_live mask) t) (other man.side) g)
     → IsStepOf stock mask i r t man f g
-step_of stock mask i n t man r o f g h =
+step_of {stock} {mask} {i} {t} {man} {r} o f g h =
     let p : Position = placed stock (is_live mask) man.side f in
     let q : Position = placed stock (without (is_live mask) t) (other man.side) g in
     let is : h.man ≡ man_placed (is_live mask) f i man = same_man stock (is_live mask) man.side f i man h.man o.is_man h.is_man in
@@ -328,27 +328,27 @@ slider_serves Bishop n s = refl
 slider_serves Knight n s = refl
 slider_serves Pawn n s = absurd s
 
-nobody_stands : (stock : List Man) (mask i n t : ℕ) (man : Man) (r : Ray) (f g : ℕ → Square) → IsApart (placed stock (is_live mask) man.side f)
+nobody_stands : {stock : List Man} {mask i : ℕ} (n : ℕ) {t : ℕ} {man : Man} {r : Ray} {f g : ℕ → Square} → IsApart (placed stock (is_live mask) man.side f)
     → IsStepOf stock mask i r t man f g → (k : ℕ) (m : Man) → stock_man stock k ≡ Some m → is_live mask k ≡ true → k ≢ t → f k ≡ g i → ⊥
-nobody_stands stock mask i n t man r f g apart h k m is live untaken there =
+nobody_stands {stock} {mask} {i} n {t} {man} {f} {g} apart h k m is live untaken there =
     nobody_there t (placed stock (is_live mask) man.side f) (g i) h.takes apart k (man_placed (is_live mask) f k m) (placed_man stock (is_live mask) man.side f k m is)
     (stands_at (is_live mask k) (f k) live ∙ ap (λ (z : Square). Some z) there) untaken
 
-nobody_within : (stock : List Man) (mask i n t : ℕ) (man : Man) (r : Ray) → IsOption stock mask i n t man r → (f g : ℕ → Square)
+nobody_within : {stock : List Man} {mask i n t : ℕ} {man : Man} {r : Ray} → IsOption stock mask i n t man r → {f g : ℕ → Square}
     → IsApart (placed stock (is_live mask) man.side f) → (h : IsStepOf stock mask i r t man f g) → (k : ℕ) (m : Man) → stock_man stock k ≡ Some m
     → is_live mask k ≡ true → k ≢ t → IsWithin r (f i) (f k) (suc h.along.distance) → ⊥
-nobody_within stock mask i n t man r o f g apart h k m is live untaken within =
+nobody_within {stock} {mask} {i} {n} {man} {r} o {f} {g} apart h k m is live untaken within =
     let ray : IsRayOf man.side man.kind n r = ray_is man.side man.kind n r o.ray in
     let low : within.distance < suc h.along.distance = within.before in
     let positive : 0 < within.distance = within.positive in
     elim (same_number within.distance h.along.distance) [
       | inl e ↦
-          nobody_stands stock mask i n t man r f g apart h k m is live untaken
-          (steps_same r (f i) (f k) (g i) h.along.distance (subst (IsSteps r (f i) (f k)) e within.steps) h.along.steps)
+          nobody_stands n apart h k m is live untaken
+          (steps_same (subst (IsSteps r (f i) (f k)) e within.steps) h.along.steps)
       | inr earlier ↦ elim (true_or_not r.far) [
         | inl is_far ↦
             let slider : IsSlider man.kind = ray.slides is_far in
-            (bears_along stock (is_live mask) man.side f (man_placed (is_live mask) f i man) n r (f i) (g i) ray (slider_serves man.kind n slider) (stands_here stock mask i n t man r o f) h.along).0
+            (bears_along stock (is_live mask) man.side f (man_placed (is_live mask) f i man) n r (f i) (g i) ray (slider_serves man.kind n slider) (stands_here o f) h.along).0
             (goes_bears man.kind (placed stock (is_live mask) man.side f) (man_placed (is_live mask) f i man) (g i) slider h.goes)
             is_far k m is live (record { distance = within.distance; positive = positive; before = omega arith; steps = within.steps })
         | inr is_near ↦ let one : h.along.distance ≡ 1 = h.along.near is_near in omega arith
@@ -360,33 +360,33 @@ placed_square true true y z e d h = let s : Some y ≡ Some z = ap place_square 
 placed_square true false y z e d h = absurd (cc)
 placed_square false c y z e d h = absurd (cc)
 
-taken_square : (stock : List Man) (mask i n t : ℕ) (man : Man) (r : Ray) → IsOption stock mask i n t man r
-    → (f g : ℕ → Square) → IsStepOf stock mask i r t man f g → 0 < t → f t ≡ g i
-taken_square stock mask i n zero man r o f g h low = absurd (omega arith)
-taken_square stock mask i n (suc t) man r o f g h low =
+taken_square : {stock : List Man} {mask i n t : ℕ} {man : Man} {r : Ray} → IsOption stock mask i n t man r
+    → {f g : ℕ → Square} → IsStepOf stock mask i r t man f g → 0 < t → f t ≡ g i
+taken_square {t = zero} o h low = absurd (omega arith)
+taken_square {stock} {mask} {i} {t = suc t} {man} o {f} {g} h low =
     let same : h.takes.0 ≡ man_placed (is_live mask) f (suc t) o.prey.0 = same_man stock (is_live mask) man.side f (suc t) o.prey.0 h.takes.0 o.prey.1 h.takes.1 in
     (stands_placed (is_live mask (suc t)) (f (suc t)) (g i) (subst (λ m. StandsOn m (g i)) same h.takes.2)).1
 
-stays_there : (stock : List Man) (mask i n t : ℕ) (man : Man) (r : Ray) (f g : ℕ → Square) → IsApart (placed stock (is_live mask) man.side f)
+stays_there : {stock : List Man} {mask i : ℕ} (n : ℕ) {t : ℕ} {man : Man} {r : Ray} {f g : ℕ → Square} → IsApart (placed stock (is_live mask) man.side f)
     → IsStepOf stock mask i r t man f g → EachOther stock (is_live mask) i t (λ k. f k ≡ g k)
-stays_there stock mask i n t man r f g apart h k m is live other_than untaken =
+stays_there {stock} {mask} {i} n {t} {man} {f} {g} apart h k m is live other_than untaken =
     let left = h.after.others k (man_placed (is_live mask) f k m) (man_placed (without (is_live mask) t) g k m) other_than
     (placed_man stock (is_live mask) man.side f k m is) (placed_man stock (without (is_live mask) t) (other man.side) g k m is) in
     let same : man_placed (without (is_live mask) t) g k m ≡ man_placed (is_live mask) f k m = left.kept
-    (λ stands. nobody_stands stock mask i n t man r f g apart h k m is live untaken (stands_placed (is_live mask k) (f k) (g i) stands).1)
+    (λ stands. nobody_stands n apart h k m is live untaken (stands_placed (is_live mask k) (f k) (g i) stands).1)
     in
     placed_square (is_live mask k) (without (is_live mask) t k) (f k) (g k) live (kept_live (is_live mask k) k t live untaken) (sym (ap (λ (a : Man). a.place) same))
 
 -- where live men stand apart, a step by the option is such a move
-pub move_of : (stock : List Man) (mask i n t : ℕ) (man : Man) (r : Ray) → IsOption stock mask i n t man r → (f g : ℕ → Square)
+pub move_of : {stock : List Man} {mask i n t : ℕ} {man : Man} {r : Ray} → IsOption stock mask i n t man r → (f g : ℕ → Square)
     → IsApart (placed stock (is_live mask) man.side f)
     → StepsBy i r t (placed stock (is_live mask) man.side f) (placed stock (without (is_live mask) t) (other man.side) g)
     → IsMove stock (is_live mask) i r t f g
-move_of stock mask i n t man r o f g apart steps =
-    let h : IsStepOf stock mask i r t man f g = step_of stock mask i n t man r o f g steps in
+move_of {stock} {mask} {i} {n} {t} {man} {r} o f g apart steps =
+    let h : IsStepOf stock mask i r t man f g = step_of o f g steps in
     record {
       along = h.along;
-      clear = λ k m is live other_than untaken within. nobody_within stock mask i n t man r o f g apart h k m is live untaken within;
-      stay = stays_there stock mask i n t man r f g apart h;
-      taken = taken_square stock mask i n t man r o f g h;
+      clear = λ k m is live other_than untaken within. nobody_within o apart h k m is live untaken within;
+      stay = stays_there n apart h;
+      taken = taken_square o h;
     }

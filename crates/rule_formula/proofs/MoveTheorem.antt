@@ -81,23 +81,23 @@ parts_of stock live i r t f g h a b from to before w =
       λ k m is on first second within. w.clear k m is on first second (subst (λ z. IsWithin r (f i) z (suc w.along.distance)) (sym (before k m is on first second)) within),
     ))
 
-ray_of_option : (stock : List Man) (mask i n t : ℕ) (man : Man) (r : Ray) → IsOption stock mask i n t man r → IsRayOf man.side man.kind n r
-ray_of_option stock mask i n t man r o = ray_is man.side man.kind n r o.ray
+ray_of_option : {stock : List Man} {mask i n t : ℕ} {man : Man} {r : Ray} → IsOption stock mask i n t man r → IsRayOf man.side man.kind n r
+ray_of_option {n} {man} {r} o = ray_is man.side man.kind n r o.ray
 
 -- image holds of the positions to which a step by the option leads from a position of the set
-pub image_holds : (stock : List Man) (mask i n t : ℕ) (man : Man) (r : Ray) → length stock ≤ 8 → IsOption stock mask i n t man r
+pub image_holds : {stock : List Man} {mask i n t : ℕ} {man : Man} {r : Ray} → length stock ≤ 8 → IsOption stock mask i n t man r
     → (s : ℕ) (e : Sets) (v : Values) → HoldsApart e s stock (is_live mask) man.side
     → Holds (image_tree (length stock) mask i r t s) e v
     ↔ ((f : ℕ → Square) × IsMember e s (placed stock (is_live mask) man.side f)
     × StepsBy i r t (placed stock (is_live mask) man.side f) (placed stock (without (is_live mask) t) (other man.side) (squares v)))
-image_holds stock mask i n t man r short o s e v apart =
+image_holds {stock} {mask} {i} {n} {t} {man} {r} short o s e v apart =
     let live : ℕ → Bool = is_live mask in
-    let ray : IsRayOf man.side man.kind n r = ray_of_option stock mask i n t man r o in
+    let ray : IsRayOf man.side man.kind n r = ray_of_option o in
     let number : IsNumber stock i = stock_number stock i man o.is_man in
     let low : 0 < i = number.low in
     let high : i ≤ 8 = omega (arith, number.high) in
-    let untaken : i ≢ t = option_untaken stock mask i n t man r o in
-    let chain = λ (w : Values). move_chain_holds stock man live i t r ray.fair (tree.Among s (vars_to (old_seats r i t) live (length stock))) (spare r i) (own i) (from_spare r i low high) e w in
+    let untaken : i ≢ t = option_untaken o in
+    let chain = λ (w : Values). move_chain_holds stock man live i t ray.fair (tree.Among s (vars_to (old_seats r i t) live (length stock))) (from_spare r i low high) e w in
     let among = λ (w : Values). among_holds stock live man.side (old_seats r i t) s e w in
     let outer = ex_swept_holds r.dx elsewhere.x (ex_swept r.dy elsewhere.y (image_body (length stock) mask i r t s)) e v in
     let inner = λ (u : Values). ex_swept_holds r.dy elsewhere.y (image_body (length stock) mask i r t s) e u in
@@ -118,12 +118,12 @@ image_holds stock mask i n t man r short o s e v apart =
           (λ k m is on first second. sym (kept z k m is))
           (λ some. ap (at w) (old_taken r i t (λ e. untaken (sym e))) ∙ kept z i man o.is_man)
           in
-          (f, member, steps_by stock mask i n t man r o f (squares v) move),
+          (f, member, steps_by o move),
       λ (f, member, steps).
-          let move : IsMove stock live i r t f (squares v) = move_of stock mask i n t man r o f (squares v) (apart f member) steps in
+          let move : IsMove stock live i r t f (squares v) = move_of o f (squares v) (apart f member) steps in
           let z : Square = f i in
           let w : Values = swept_values r v z in
-          let from : at w (spare r i) ≡ f i = spare_is r v i z low high (along_x r (f i) (squares v i) move.along) (along_y r (f i) (squares v i) move.along) in
+          let from : at w (spare r i) ≡ f i = spare_is r v i z low high (along_x move.along) (along_y move.along) in
           let same : (k : ℕ) → 0 < k → k ≤ length stock → live k ≡ true → f k ≡ at w (old_seats r i t k) = λ k some last on.
           let (m, is) = stock_has stock k some last in
           old_squares r i t k w (f k)
@@ -172,22 +172,22 @@ own_there r zero v z low i = absurd (omega arith)
 own_there r (suc t) v z low i = refl
 
 -- pre holds of the positions of the set from which a step by the option leads into the other set
-pub pre_holds : (stock : List Man) (mask i n t : ℕ) (man : Man) (r : Ray) → length stock ≤ 8 → IsOption stock mask i n t man r
+pub pre_holds : {stock : List Man} {mask i n t : ℕ} {man : Man} {r : Ray} → length stock ≤ 8 → IsOption stock mask i n t man r
     → (s q : ℕ) (e : Sets) (v : Values)
     → (IsMember e s (placed stock (is_live mask) man.side (squares v)) → IsApart (placed stock (is_live mask) man.side (squares v)))
     → Holds (pre_tree (length stock) mask i r t s q) e v
     ↔ (IsMember e s (placed stock (is_live mask) man.side (squares v))
     × ((g : ℕ → Square) × IsMember e q (placed stock (without (is_live mask) t) (other man.side) g)
     × StepsBy i r t (placed stock (is_live mask) man.side (squares v)) (placed stock (without (is_live mask) t) (other man.side) g)))
-pre_holds stock mask i n t man r short o s q e v apart =
+pre_holds {stock} {mask} {i} {n} {t} {man} {r} short o s q e v apart =
     let live : ℕ → Bool = is_live mask in
-    let ray : IsRayOf man.side man.kind n r = ray_of_option stock mask i n t man r o in
+    let ray : IsRayOf man.side man.kind n r = ray_of_option o in
     let number : IsNumber stock i = stock_number stock i man o.is_man in
     let low : 0 < i = number.low in
     let high : i ≤ 8 = omega (arith, number.high) in
-    let untaken : i ≢ t = option_untaken stock mask i n t man r o in
+    let untaken : i ≢ t = option_untaken o in
     let sets : Tree = tree.And (tree.Among s (vars_to own live (length stock))) (tree.Among q (vars_to (new_seats r i t) (without live t) (length stock))) in
-    let chain = λ (w : Values). move_chain_holds stock man live i t r ray.fair sets (own i) (new_seat r i t) (new_suits r i t low high untaken) e w in
+    let chain = λ (w : Values). move_chain_holds stock man live i t ray.fair sets (new_suits r i t low high untaken) e w in
     let source = λ (w : Values). among_holds stock live man.side own s e w in
     let target = λ (w : Values). among_holds stock (without live t) (other man.side) (new_seats r i t) q e w in
     let whole = pre_tree_holds (length stock) mask i r t s q e v in
@@ -211,12 +211,12 @@ pre_holds stock mask i n t man r short o s q e v apart =
           (λ k m is on first second. ap (at w) (new_other r i t k first second))
           (λ some. sym (own_there r t v z some i) ∙ sym to)
           in
-          (member, (g, there, steps_by stock mask i n t man r o (squares v) g move)),
+          (member, (g, there, steps_by o move)),
       λ (member, (g, there, steps)).
-          let move : IsMove stock live i r t (squares v) g = move_of stock mask i n t man r o (squares v) g (apart member) steps in
+          let move : IsMove stock live i r t (squares v) g = move_of o (squares v) g (apart member) steps in
           let z : Square = g i in
           let w : Values = pre_values r t v z in
-          let to : at w (new_seat r i t) ≡ g i = new_place r i t v z low high (along_x r (squares v i) (g i) move.along) (along_y r (squares v i) (g i) move.along) move.taken in
+          let to : at w (new_seat r i t) ≡ g i = new_place r i t v z low high (along_x move.along) (along_y move.along) move.taken in
           let same : (k : ℕ) → 0 < k → k ≤ length stock → without live t k ≡ true → g k ≡ at w (new_seats r i t k) = λ k some last on.
           let (m, is) = stock_has stock k some last in
           let (alive, second) = was_live (live k) k t on in

@@ -145,11 +145,11 @@ takes_of p (suc k) m z is stands = (m, is, stands)
 abbrev pub IsNoKing : Position → Side → Square → Type 0
 IsNoKing p s z = (k : ℕ) (m : Man) → man_at p k ≡ Some m → m.side ≡ s → StandsOn m z → m.kind ≢ King
 
-option_by : (stock : List Man) (mask : ℕ) (side : Side) (f : ℕ → Square) (i t : ℕ) (z : Square) (q : Position) (a : Square)
+option_by : (stock : List Man) (mask : ℕ) (side : Side) (f : ℕ → Square) {i : ℕ} (t : ℕ) {z : Square} {q : Position} (a : Square)
     → (h : Step (placed stock (is_live mask) side f) i z q) → StandsOn h.man a → IsWay h.man t a z → IsPrey stock mask side t
     → Takes t (placed stock (is_live mask) side f) z
     → (o : Opt) × (o.man ≡ i) × IsOptionOf stock mask o × TakesOption o (placed stock (is_live mask) side f) q
-option_by stock mask side f i t z q a h stands way prey takes =
+option_by stock mask side f {i} t {z} a h stands way prey takes =
     let m = from_placed stock (is_live mask) side f i h.man h.is_man in
     let there : StandsOn (man_placed (is_live mask) f i m.man) a = subst (λ b. StandsOn b a) m.is stands in
     let his : IsWay (man_placed (is_live mask) f i m.man) t a z = subst (λ b. IsWay b t a z) m.is way in
@@ -173,15 +173,15 @@ option_by stock mask side f i t z q a h stands way prey takes =
         ray = way.ray;
         is_man = h.is_man;
         is_ray = way.is_ray;
-        steps = record { man = h.man; from = a; to = z; is_man = h.is_man; stands = stands; along = is_along way.ray a z way.along; takes = takes; step = h };
+        steps = record { man = h.man; from = a; to = z; is_man = h.is_man; stands = stands; along = is_along way.along; takes = takes; step = h };
       },
     )
 
 -- each step that takes no king is one by an option
-pub option_of_step : (stock : List Man) (mask : ℕ) (side : Side) (f : ℕ → Square) (i : ℕ) (z : Square) (q : Position)
+pub option_of_step : (stock : List Man) (mask : ℕ) (side : Side) (f : ℕ → Square) {i : ℕ} {z : Square} {q : Position}
     → IsNoKing (placed stock (is_live mask) side f) (other side) z → Step (placed stock (is_live mask) side f) i z q
     → (o : Opt) × (o.man ≡ i) × IsOptionOf stock mask o × TakesOption o (placed stock (is_live mask) side f) q
-option_of_step stock mask side f i z q kings h =
+option_of_step stock mask side f {z} kings h =
     let p : Position = placed stock (is_live mask) side f in
     let (a, stands) = goes_lives h.man.kind p h.man z h.goes in
     elim (nobody_or_here (is_live mask) f z (length stock)) [
@@ -195,7 +195,7 @@ option_of_step stock mask side f i z q kings h =
           let (k, m, is, (enemy, here)) = any_is p (λ m. (m.side ≡ other h.man.side) × StandsOn m z) w in
           (all_men p (λ m. StandsOn m z → ⊥)).0 empty k m is here
           in
-          option_by stock mask side f i 0 z q a h stands (step_way h.man.kind p h.man a z refl stands free h.goes) tt empty
+          option_by stock mask side f 0 a h stands (step_way h.man.kind p h.man a z refl stands free h.goes) tt empty
       | inr here ↦
           let k : ℕ = here.number in
           let (m, is) = stock_has stock k here.low here.high in
@@ -207,7 +207,7 @@ option_of_step stock mask side f i z q kings h =
           ]
           in
           let full : IsEmptySquare p z → ⊥ = λ empty. (all_men p (λ m. StandsOn m z → ⊥)).0 empty k (man_placed (is_live mask) f k m) at there in
-          option_by stock mask side f i k z q a h stands
+          option_by stock mask side f k a h stands
           (capture_way h.man.kind side k p h.man a z refl stands (goes_capture h.man.kind p h.man z full h.goes) here.low)
           (prey_of stock mask k side m is here.on enemy (kings k (man_placed (is_live mask) f k m) at enemy there))
           (takes_of p k (man_placed (is_live mask) f k m) z at there)

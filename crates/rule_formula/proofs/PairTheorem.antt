@@ -162,11 +162,11 @@ module _ (p : Position) (few : length p.men ≤ 8) (m : ℕ) (w : Pair) (game : 
   tracks : (s : ℕ) → free_vars (tree_at s) ≡ tracks_of p.men (is_live m)
   tracks s = eight s ∙ eight_vars m (length p.men) few game.no_more
 
-  placed_is : (q : Position) (v : Values) → HasStock p.men q → mask_of q ≡ m → values_at (tracks_of p.men (is_live m)) v ≡ tuple_of q → placed p.men (is_live m) q.turn (squares v) ≡ q
-  placed_is q v stock mask tuple =
+  placed_is : {q : Position} (v : Values) → HasStock p.men q → mask_of q ≡ m → values_at (tracks_of p.men (is_live m)) v ≡ tuple_of q → placed p.men (is_live m) q.turn (squares v) ≡ q
+  placed_is {q} v stock mask tuple =
       let here : Position = placed p.men (is_live m) q.turn (squares v) in
       let its_mask : mask_of here ≡ m = sym (placed_mask p.men (is_live m) q.turn (squares v) m game.no_more (λ k low high. refl)) in
-      stock_unique p.men here q (placed_stock p.men (is_live m) q.turn (squares v)) stock refl (its_mask ∙ sym mask) (sym (tuple_placed p.men (is_live m) q.turn v) ∙ tuple)
+      stock_unique (placed_stock p.men (is_live m) q.turn (squares v)) stock refl (its_mask ∙ sym mask) (sym (tuple_placed p.men (is_live m) q.turn v) ∙ tuple)
 
   pub pairs_mean : PairsMean p m w
   pairs_mean = record {
@@ -174,14 +174,14 @@ module _ (p : Position) (few : length p.men ≤ 8) (m : ℕ) (w : Pair) (game : 
     twins = λ s e q stock mask. (
       λ h.
           let tuple : values_at (tracks_of p.men (is_live m)) h.values ≡ tuple_of q = ap (λ vars. values_at vars h.values) (sym (tracks s)) ∙ h.is_tuple in
-          let at = placed_is q h.values stock mask tuple in
-          let (member, twins) = (twins_means m w.first w.second s (tree_at s) first_in second_in refl (members e) p.men q.turn h.values few game.no_more).0 h.holds in
+          let at = placed_is h.values stock mask tuple in
+          let (member, twins) = (twins_means s (tree_at s) first_in second_in refl (members e) p.men q.turn h.values few game.no_more).0 h.holds in
           (subst (λ x. Member (e s) (tuple_of x)) at member, subst (AreTwins w.first w.second) at twins),
       λ (member, twins).
           let v : Values = values_of (squares_of q) in
           let at : placed p.men (is_live m) q.turn (squares v) ≡ q =
-          placed_values p.men (is_live m) q.turn (squares_of q) ∙ (ap (λ k. placed p.men (is_live k) q.turn (squares_of q)) (sym mask) ∙ stock_placed p.men q stock) in
-          let told = twins_means m w.first w.second s (tree_at s) first_in second_in refl (members e) p.men q.turn v few game.no_more in
+          placed_values p.men (is_live m) q.turn (squares_of q) ∙ (ap (λ k. placed p.men (is_live k) q.turn (squares_of q)) (sym mask) ∙ stock_placed stock) in
+          let told = twins_means s (tree_at s) first_in second_in refl (members e) p.men q.turn v few game.no_more in
           record {
             values = v;
             is_tuple = ap (λ vars. values_at vars v) (tracks s) ∙ (tuple_placed p.men (is_live m) q.turn v ∙ ap tuple_of at);

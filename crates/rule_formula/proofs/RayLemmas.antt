@@ -44,8 +44,8 @@ lies_on r a b w =
       steps = record { right = ap (λ (z : Square). z.x) w.1.leads; up = ap (λ (z : Square). z.y) w.1.leads };
     }
 
-pub is_along : (r : Ray) (a b : Square) → LiesOn r a b → IsAlong r a b
-is_along r a b w =
+pub is_along : {r : Ray} {a b : Square} → LiesOn r a b → IsAlong r a b
+is_along {r} {a} {b} w =
     (w.distance, record { begun = omega (arith, w.positive); one = w.near; leads = square_at b (after_steps a w.distance r.dx r.dy) w.steps.right w.steps.up })
 
 pub data Sign : Type 0 where
@@ -93,27 +93,27 @@ steps_from_atoms Minus Plus some a b e v l h =
 steps_from_atoms Minus Minus some a b e v l h =
     let g = gap_above (v b.x.0) (v a.x.0) h in (g.0, g.1, record { right = omega (arith, ints, g.2); up = omega (arith, ints, l, g.2) })
 
-pub atoms_from_steps : (x y : Sign) → IsSome x y → (a b : Seat) (e : Sets) (v : Values) (t : ℕ) → 0 < t
+pub atoms_from_steps : (x y : Sign) → IsSome x y → (a b : Seat) (e : Sets) (v : Values) {t : ℕ} → 0 < t
     → IsSteps (slide (num x) (num y)) (at v a) (at v b) t → Holds (line (num x) (num y) a b) e v × Holds (ahead (num x) (num y) a b Before) e v
-atoms_from_steps Zero Zero some a b e v t low h = absurd some
-atoms_from_steps Zero Plus some a b e v t low h = (omega (arith, ints, h.right), omega (arith, ints, h.up))
-atoms_from_steps Zero Minus some a b e v t low h = (omega (arith, ints, h.right), omega (arith, ints, h.up))
-atoms_from_steps Plus Zero some a b e v t low h = (omega (arith, ints, h.up), omega (arith, ints, h.right))
-atoms_from_steps Plus Plus some a b e v t low h = (omega (arith, ints, h.right, h.up), omega (arith, ints, h.right))
-atoms_from_steps Plus Minus some a b e v t low h = (omega (arith, ints, h.right, h.up), omega (arith, ints, h.right))
-atoms_from_steps Minus Zero some a b e v t low h = (omega (arith, ints, h.up), omega (arith, ints, h.right))
-atoms_from_steps Minus Plus some a b e v t low h = (omega (arith, ints, h.right, h.up), omega (arith, ints, h.right))
-atoms_from_steps Minus Minus some a b e v t low h = (omega (arith, ints, h.right, h.up), omega (arith, ints, h.right))
+atoms_from_steps Zero Zero some a b e v low h = absurd some
+atoms_from_steps Zero Plus some a b e v low h = (omega (arith, ints, h.right), omega (arith, ints, h.up))
+atoms_from_steps Zero Minus some a b e v low h = (omega (arith, ints, h.right), omega (arith, ints, h.up))
+atoms_from_steps Plus Zero some a b e v low h = (omega (arith, ints, h.up), omega (arith, ints, h.right))
+atoms_from_steps Plus Plus some a b e v low h = (omega (arith, ints, h.right, h.up), omega (arith, ints, h.right))
+atoms_from_steps Plus Minus some a b e v low h = (omega (arith, ints, h.right, h.up), omega (arith, ints, h.right))
+atoms_from_steps Minus Zero some a b e v low h = (omega (arith, ints, h.up), omega (arith, ints, h.right))
+atoms_from_steps Minus Plus some a b e v low h = (omega (arith, ints, h.right, h.up), omega (arith, ints, h.right))
+atoms_from_steps Minus Minus some a b e v low h = (omega (arith, ints, h.right, h.up), omega (arith, ints, h.right))
 
 -- of two squares so many steps away, which is ahead of which
-pub ahead_is : (x y : Sign) → IsSome x y → (a b z : Seat) (e : Sets) (v : Values) (extent : Extent) (t s : ℕ)
+pub ahead_is : (x y : Sign) → IsSome x y → (a b z : Seat) (e : Sets) (v : Values) (extent : Extent) {t s : ℕ}
     → IsSteps (slide (num x) (num y)) (at v a) (at v b) t → IsSteps (slide (num x) (num y)) (at v a) (at v z) s
     → Holds (ahead (num x) (num y) z b extent) e v ↔ (pos s ≤ℤ (pos t +ℤ past extent))
-ahead_is Zero Zero some a b z e v extent t s h k = absurd some
-ahead_is Zero Plus some a b z e v extent t s h k = (λ w. omega (arith, ints, h.up, k.up), λ w. omega (arith, ints, h.up, k.up))
-ahead_is Zero Minus some a b z e v extent t s h k = (λ w. omega (arith, ints, h.up, k.up), λ w. omega (arith, ints, h.up, k.up))
-ahead_is Plus _ some a b z e v extent t s h k = (λ w. omega (arith, ints, h.right, k.right), λ w. omega (arith, ints, h.right, k.right))
-ahead_is Minus _ some a b z e v extent t s h k = (λ w. omega (arith, ints, h.right, k.right), λ w. omega (arith, ints, h.right, k.right))
+ahead_is Zero Zero some a b z e v extent h k = absurd some
+ahead_is Zero Plus some a b z e v extent h k = (λ w. omega (arith, ints, h.up, k.up), λ w. omega (arith, ints, h.up, k.up))
+ahead_is Zero Minus some a b z e v extent h k = (λ w. omega (arith, ints, h.up, k.up), λ w. omega (arith, ints, h.up, k.up))
+ahead_is Plus _ some a b z e v extent h k = (λ w. omega (arith, ints, h.right, k.right), λ w. omega (arith, ints, h.right, k.right))
+ahead_is Minus _ some a b z e v extent h k = (λ w. omega (arith, ints, h.right, k.right), λ w. omega (arith, ints, h.right, k.right))
 
 -- a ray of one step, or along a row, a column or a diagonal
 pub data IsFair : Ray → Type 0 where
@@ -152,18 +152,18 @@ pub one_step : (a b d : ℤ) (t : ℕ) → t ≡ 1 → b ≡ a +ℤ (pos t *ℤ 
 one_step a b d t one h = let f : b ≡ a +ℤ (pos 1 *ℤ d) = subst (λ n. b ≡ a +ℤ (pos n *ℤ d)) one h in omega (arith, ints)
 
 -- the atoms of a ray hold exactly where b lies on it
-pub ray_atoms_hold : (r : Ray) → IsFair r → (a b : Seat) → Suits r a b → (e : Sets) (v : Values) → AllHold (ray_atoms r a b) e v ↔ LiesOn r (at v a) (at v b)
-ray_atoms_hold r (far x y some) a b suits e v =
+pub ray_atoms_hold : {r : Ray} → IsFair r → {a b : Seat} → Suits r a b → (e : Sets) (v : Values) → AllHold (ray_atoms r a b) e v ↔ LiesOn r (at v a) (at v b)
+ray_atoms_hold (far x y some) {a} {b} suits e v =
     let both = all_hold-append (line_atoms (num x) (num y) a b) (ahead (num x) (num y) a b Before ∷ []) e v in
     let first = line_atoms_hold x y some a b e v in (
       λ h.
           let s = steps_from_atoms x y some a b e v (first.0 (both.0 h).0) (both.0 h).1.0 in
           record { distance = s.0; positive = s.1; near = λ w. absurd (cc); steps = s.2 },
       λ h.
-          let w = atoms_from_steps x y some a b e v h.distance h.positive h.steps in
+          let w = atoms_from_steps x y some a b e v h.positive h.steps in
           both.1 (first.1 w.0, (w.1, tt)),
     )
-ray_atoms_hold r (near dx dy some) a b suits e v =
+ray_atoms_hold (near dx dy some) {a} {b} suits e v =
     let both = all_hold-append (unless_same b.x a.x (difference b.x a.x Eq dx)) (unless_same b.y a.y (difference b.y a.y Eq dy)) e v in
     let first = unless_same_holds b.x a.x (difference b.x a.x Eq dx) e v (λ same. self_difference b.x a.x e v dx same (suits.across same)) in
     let second = unless_same_holds b.y a.y (difference b.y a.y Eq dy) e v (λ same. self_difference b.y a.y e v dy same (suits.along same)) in (
@@ -184,24 +184,24 @@ pub record IsWithin (r : Ray) (a z : Square) (n : ℕ) : Type 0 where
   pub before : distance < n
   pub steps : IsSteps r a z distance
 
-far_on_holds : (x y : Sign) → IsSome x y → (a b z : Seat) (e : Sets) (v : Values) (extent : Extent) (t : ℕ)
+far_on_holds : (x y : Sign) → IsSome x y → (a b z : Seat) (e : Sets) (v : Values) (extent : Extent) {t : ℕ}
     → IsSteps (slide (num x) (num y)) (at v a) (at v b) t → (m : ℕ) → (pos t +ℤ past extent) +ℤ pos 1 ≡ pos m
     → Holds (on (slide (num x) (num y)) a b extent z) e v ↔ IsWithin (slide (num x) (num y)) (at v a) (at v z) m
-far_on_holds x y some a b z e v extent t steps m is = (
+far_on_holds x y some a b z e v extent {t} steps m is = (
   λ h.
       let s = steps_from_atoms x y some a z e v h.0.0 h.0.1 in
-      let order : pos s.0 ≤ℤ (pos t +ℤ past extent) = (ahead_is x y some a b z e v extent t s.0 steps s.2).0 h.1 in
+      let order : pos s.0 ≤ℤ (pos t +ℤ past extent) = (ahead_is x y some a b z e v extent steps s.2).0 h.1 in
       record { distance = s.0; positive = s.1; before = omega (arith, ints, order, is); steps = s.2 },
   λ h.
-      let w = atoms_from_steps x y some a z e v h.distance h.positive h.steps in
+      let w = atoms_from_steps x y some a z e v h.positive h.steps in
       let low : h.distance < m = h.before in
-      (w, (ahead_is x y some a b z e v extent t h.distance steps h.steps).1 (omega (arith, ints, low, is))),
+      (w, (ahead_is x y some a b z e v extent steps h.steps).1 (omega (arith, ints, low, is))),
 )
 
 -- where b lies on the ray, what `on` says up to b and with it
-pub on_holds : (r : Ray) → IsFair r → (a b z : Seat) (e : Sets) (v : Values) (w : LiesOn r (at v a) (at v b)) → Holds (on r a b Onto z) e v ↔ IsWithin r (at v a) (at v z) (suc w.distance)
-on_holds r (far x y some) a b z e v w = far_on_holds x y some a b z e v Onto w.distance w.steps (suc w.distance) (omega (arith, ints))
-on_holds r (near dx dy some) a b z e v w =
+pub on_holds : {r : Ray} → IsFair r → (a b z : Seat) (e : Sets) (v : Values) (w : LiesOn r (at v a) (at v b)) → Holds (on r a b Onto z) e v ↔ IsWithin r (at v a) (at v z) (suc w.distance)
+on_holds (far x y some) a b z e v w = far_on_holds x y some a b z e v Onto w.steps (suc w.distance) (omega (arith, ints))
+on_holds (near dx dy some) a b z e v w =
     let right = one_step (v a.x.0) (v b.x.0) dx w.distance (w.near refl) w.steps.right in
     let up = one_step (v a.y.0) (v b.y.0) dy w.distance (w.near refl) w.steps.up in (
       λ h. record { distance = 1; positive = omega arith; before = omega (arith, w.positive); steps = record { right = omega (arith, ints, h.0, right); up = omega (arith, ints, h.1, up) } },
@@ -213,35 +213,35 @@ on_holds r (near dx dy some) a b z e v w =
     )
 
 -- and without b, for a far ray
-pub between_holds : (r : Ray) → IsFair r → r.far ≡ true → (a b z : Seat) (e : Sets) (v : Values) (w : LiesOn r (at v a) (at v b))
+pub between_holds : {r : Ray} → IsFair r → r.far ≡ true → (a b z : Seat) (e : Sets) (v : Values) (w : LiesOn r (at v a) (at v b))
     → Holds (on r a b Before z) e v ↔ IsWithin r (at v a) (at v z) w.distance
-between_holds r (far x y some) is_far a b z e v w = far_on_holds x y some a b z e v Before w.distance w.steps w.distance (omega (arith, ints, w.positive))
-between_holds r (near dx dy some) is_far a b z e v w = absurd (cc)
+between_holds (far x y some) is_far a b z e v w = far_on_holds x y some a b z e v Before w.steps w.distance (omega (arith, ints, w.positive))
+between_holds (near dx dy some) is_far a b z e v w = absurd (cc)
 
 -- a square is at most one number of steps away along a slide
-pub slide_steps_same : (x y : Sign) → IsSome x y → (a z : Square) (s t : ℕ) → IsSteps (slide (num x) (num y)) a z s → IsSteps (slide (num x) (num y)) a z t → s ≡ t
-slide_steps_same Zero Zero some a z s t h k = absurd some
-slide_steps_same Zero Plus some a z s t h k = omega (arith, ints, h.up, k.up)
-slide_steps_same Zero Minus some a z s t h k = omega (arith, ints, h.up, k.up)
-slide_steps_same Plus _ some a z s t h k = omega (arith, ints, h.right, k.right)
-slide_steps_same Minus _ some a z s t h k = omega (arith, ints, h.right, k.right)
+pub slide_steps_same : (x y : Sign) → IsSome x y → {a z : Square} {s t : ℕ} → IsSteps (slide (num x) (num y)) a z s → IsSteps (slide (num x) (num y)) a z t → s ≡ t
+slide_steps_same Zero Zero some h k = absurd some
+slide_steps_same Zero Plus some h k = omega (arith, ints, h.up, k.up)
+slide_steps_same Zero Minus some h k = omega (arith, ints, h.up, k.up)
+slide_steps_same Plus _ some h k = omega (arith, ints, h.right, k.right)
+slide_steps_same Minus _ some h k = omega (arith, ints, h.right, k.right)
 
 pub no_steps : (r : Ray) (a : Square) → IsSteps r a a 0
 no_steps r a = record { right = omega (arith, ints); up = omega (arith, ints) }
 
-pub steps_same : (r : Ray) (a b c : Square) (t : ℕ) → IsSteps r a b t → IsSteps r a c t → b ≡ c
-steps_same r a b c t h k =
+pub steps_same : {r : Ray} {a b c : Square} {t : ℕ} → IsSteps r a b t → IsSteps r a c t → b ≡ c
+steps_same {b} {c} h k =
     let right : b.x ≡ c.x = h.right ∙ sym k.right in let up : b.y ≡ c.y = h.up ∙ sym k.up in square_at b c right up
 
 stays_put : (a b d : ℤ) → b ≡ a +ℤ d → a ≡ b → d ≡ pos 0
 stays_put a b d h e = omega (arith, ints)
 
 -- who goes along a ray does not stay where he is
-pub along_moves : (r : Ray) → IsFair r → (a b : Square) → LiesOn r a b → a ≡ b → ⊥
-along_moves r (far x y some) a b w same =
+pub along_moves : {r : Ray} → IsFair r → (a b : Square) → LiesOn r a b → a ≡ b → ⊥
+along_moves (far x y some) a b w same =
     let k : IsSteps (slide (num x) (num y)) a b 0 = subst (λ z. IsSteps (slide (num x) (num y)) a z 0) same (no_steps (slide (num x) (num y)) a) in
-    let none : w.distance ≡ 0 = slide_steps_same x y some a b w.distance 0 w.steps k in
+    let none : w.distance ≡ 0 = slide_steps_same x y some w.steps k in
     omega (arith, w.positive)
-along_moves r (near dx dy some) a b w same =
+along_moves (near dx dy some) a b w same =
     some (stays_put a.x b.x dx (one_step a.x b.x dx w.distance (w.near refl) w.steps.right) (ap (λ (z : Square). z.x) same))
     (stays_put a.y b.y dy (one_step a.y b.y dy w.distance (w.near refl) w.steps.up) (ap (λ (z : Square). z.y) same))

@@ -113,30 +113,30 @@ past_bound Before = (omega (arith, ints), omega (arith, ints))
 difference_fine : (P : ℕ × List Var → Type 0) (x y : Var) (rel : Rel) (n : ℤ) → x.0 ≢ y.0 → x.0 < 18 → y.0 < 18 → IsBound n → IsFine P (difference x y rel n)
 difference_fine P x y rel n ne first second bound = (two_atom x y n ne bound, (first, (second, tt)))
 
-rising_fine : (P : ℕ × List Var → Type 0) (a b : Seat) → IsGood a → IsGood b → b.x.0 ≢ a.x.0 → b.y.0 ≢ a.y.0 → IsFine P (rising a b)
-rising_fine P a b from to across along = (
+rising_fine : (P : ℕ × List Var → Type 0) {a b : Seat} → IsGood a → IsGood b → b.x.0 ≢ a.x.0 → b.y.0 ≢ a.y.0 → IsFine P (rising a b)
+rising_fine P {a} {b} from to across along = (
   four_atom (pos 1) (negsuc 0) (negsuc 0) (pos 1) b.x a.x b.y a.y across along from.even to.even from.odd to.odd (inl refl) (inr refl) (inr refl) (inl refl),
   (to.x_low, (from.x_low, (to.y_low, (from.y_low, tt)))),
 )
 
-falling_fine : (P : ℕ × List Var → Type 0) (a b : Seat) → IsGood a → IsGood b → b.x.0 ≢ a.x.0 → b.y.0 ≢ a.y.0 → IsFine P (falling a b)
-falling_fine P a b from to across along = (
+falling_fine : (P : ℕ × List Var → Type 0) {a b : Seat} → IsGood a → IsGood b → b.x.0 ≢ a.x.0 → b.y.0 ≢ a.y.0 → IsFine P (falling a b)
+falling_fine P {a} {b} from to across along = (
   four_atom (pos 1) (negsuc 0) (pos 1) (negsuc 0) b.x a.x b.y a.y across along from.even to.even from.odd to.odd (inl refl) (inr refl) (inl refl) (inr refl),
   (to.x_low, (from.x_low, (to.y_low, (from.y_low, tt)))),
 )
 
-line_fine : (P : ℕ × List Var → Type 0) (dx dy : ℤ) (a b : Seat) → IsGood a → IsGood b → IsDrawn dx dy a b → IsFine P (line dx dy a b)
-line_fine P (pos zero) dy a b from to drawn = difference_fine P b.x a.x Eq (pos 0) (drawn.across refl) to.x_low from.x_low zero_bound
-line_fine P (pos (suc dx)) (pos zero) a b from to drawn = difference_fine P b.y a.y Eq (pos 0) (drawn.along refl) to.y_low from.y_low zero_bound
-line_fine P (negsuc dx) (pos zero) a b from to drawn = difference_fine P b.y a.y Eq (pos 0) (drawn.along refl) to.y_low from.y_low zero_bound
-line_fine P (pos (suc dx)) (pos (suc dy)) a b from to drawn =
-    let w = drawn.aslant (λ e. omega (arith, ints, e)) (λ e. omega (arith, ints, e)) in rising_fine P a b from to w.0 w.1
-line_fine P (pos (suc dx)) (negsuc dy) a b from to drawn =
-    let w = drawn.aslant (λ e. omega (arith, ints, e)) (λ e. omega (arith, ints, e)) in falling_fine P a b from to w.0 w.1
-line_fine P (negsuc dx) (pos (suc dy)) a b from to drawn =
-    let w = drawn.aslant (λ e. omega (arith, ints, e)) (λ e. omega (arith, ints, e)) in falling_fine P a b from to w.0 w.1
-line_fine P (negsuc dx) (negsuc dy) a b from to drawn =
-    let w = drawn.aslant (λ e. omega (arith, ints, e)) (λ e. omega (arith, ints, e)) in rising_fine P a b from to w.0 w.1
+line_fine : (P : ℕ × List Var → Type 0) {dx dy : ℤ} {a b : Seat} → IsGood a → IsGood b → IsDrawn dx dy a b → IsFine P (line dx dy a b)
+line_fine P {dx = pos zero} {a} {b} from to drawn = difference_fine P b.x a.x Eq (pos 0) (drawn.across refl) to.x_low from.x_low zero_bound
+line_fine P {dx = pos (suc dx)} {dy = pos zero} {a} {b} from to drawn = difference_fine P b.y a.y Eq (pos 0) (drawn.along refl) to.y_low from.y_low zero_bound
+line_fine P {dx = negsuc dx} {dy = pos zero} {a} {b} from to drawn = difference_fine P b.y a.y Eq (pos 0) (drawn.along refl) to.y_low from.y_low zero_bound
+line_fine P {dx = pos (suc dx)} {dy = pos (suc dy)} from to drawn =
+    let w = drawn.aslant (λ e. omega (arith, ints, e)) (λ e. omega (arith, ints, e)) in rising_fine P from to w.0 w.1
+line_fine P {dx = pos (suc dx)} {dy = negsuc dy} from to drawn =
+    let w = drawn.aslant (λ e. omega (arith, ints, e)) (λ e. omega (arith, ints, e)) in falling_fine P from to w.0 w.1
+line_fine P {dx = negsuc dx} {dy = pos (suc dy)} from to drawn =
+    let w = drawn.aslant (λ e. omega (arith, ints, e)) (λ e. omega (arith, ints, e)) in falling_fine P from to w.0 w.1
+line_fine P {dx = negsuc dx} {dy = negsuc dy} from to drawn =
+    let w = drawn.aslant (λ e. omega (arith, ints, e)) (λ e. omega (arith, ints, e)) in rising_fine P from to w.0 w.1
 
 ordered_fine : (P : ℕ × List Var → Type 0) (d : ℤ) (x y : Var) (n : ℤ) → x.0 ≢ y.0 → x.0 < 18 → y.0 < 18 → IsBound n → IsFine P (ordered d x y n)
 ordered_fine P (pos d) x y n ne first second bound = difference_fine P x y Le n ne first second bound
@@ -147,13 +147,13 @@ ahead_fine P (pos zero) dy a b extent from to counted = ordered_fine P dy a.y b.
 ahead_fine P (pos (suc dx)) dy a b extent from to counted = ordered_fine P (pos (suc dx)) a.x b.x (past extent) (counted.across (λ e. omega (arith, ints, e))) from.x_low to.x_low (past_bound extent)
 ahead_fine P (negsuc dx) dy a b extent from to counted = ordered_fine P (negsuc dx) a.x b.x (past extent) (counted.across (λ e. omega (arith, ints, e))) from.x_low to.x_low (past_bound extent)
 
-on_fine : (P : ℕ × List Var → Type 0) (far : Bool) (dx dy : ℤ) (a b z : Seat) (extent : Extent) → IsGood a → IsGood b
+on_fine : (P : ℕ × List Var → Type 0) (far : Bool) (dx dy : ℤ) {a b z : Seat} (extent : Extent) → IsGood a → IsGood b
     → IsGood z → AreApart a z → AreApart z b → IsFine P (on_as far dx dy a b z extent)
-on_fine P true dx dy a b z extent from to middle first last = (
-  (line_fine P dx dy a z from middle (apart_drawn dx dy a z first), ahead_fine P dx dy a z Before from middle (apart_counted dx dy a z first)),
-  ahead_fine P dx dy z b extent middle to (apart_counted dx dy z b last),
+on_fine P true dx dy {a} {b} {z} extent from to middle first last = (
+  (line_fine P from middle (apart_drawn dx dy first), ahead_fine P dx dy a z Before from middle (apart_counted dx dy first)),
+  ahead_fine P dx dy z b extent middle to (apart_counted dx dy last),
 )
-on_fine P false dx dy a b z extent from to middle first last =
+on_fine P false dx dy {b} {z} extent from to middle first last =
     (difference_fine P z.x b.x Eq (pos 0) last.across middle.x_low to.x_low zero_bound, difference_fine P z.y b.y Eq (pos 0) last.along middle.y_low to.y_low zero_bound)
 
 -- each formula of a list is fine
@@ -187,13 +187,13 @@ line_atoms_fine P r (pos (suc dx)) (pos zero) a b from to suits ex ey =
 line_atoms_fine P r (negsuc dx) (pos zero) a b from to suits ex ey =
     unless_fine P b.y a.y (line (negsuc dx) (pos zero) a b) (λ ne. difference_fine P b.y a.y Eq (pos 0) ne to.y_low from.y_low zero_bound)
 line_atoms_fine P r (pos (suc dx)) (pos (suc dy)) a b from to suits ex ey =
-    (rising_fine P a b from to (λ e. omega (arith, ints, ex ∙ suits.across e)) (λ e. omega (arith, ints, ey ∙ suits.along e)), tt)
+    (rising_fine P from to (λ e. omega (arith, ints, ex ∙ suits.across e)) (λ e. omega (arith, ints, ey ∙ suits.along e)), tt)
 line_atoms_fine P r (pos (suc dx)) (negsuc dy) a b from to suits ex ey =
-    (falling_fine P a b from to (λ e. omega (arith, ints, ex ∙ suits.across e)) (λ e. omega (arith, ints, ey ∙ suits.along e)), tt)
+    (falling_fine P from to (λ e. omega (arith, ints, ex ∙ suits.across e)) (λ e. omega (arith, ints, ey ∙ suits.along e)), tt)
 line_atoms_fine P r (negsuc dx) (pos (suc dy)) a b from to suits ex ey =
-    (falling_fine P a b from to (λ e. omega (arith, ints, ex ∙ suits.across e)) (λ e. omega (arith, ints, ey ∙ suits.along e)), tt)
+    (falling_fine P from to (λ e. omega (arith, ints, ex ∙ suits.across e)) (λ e. omega (arith, ints, ey ∙ suits.along e)), tt)
 line_atoms_fine P r (negsuc dx) (negsuc dy) a b from to suits ex ey =
-    (rising_fine P a b from to (λ e. omega (arith, ints, ex ∙ suits.across e)) (λ e. omega (arith, ints, ey ∙ suits.along e)), tt)
+    (rising_fine P from to (λ e. omega (arith, ints, ex ∙ suits.across e)) (λ e. omega (arith, ints, ey ∙ suits.along e)), tt)
 
 -- what a ray of the table needs for its atoms to be well made
 record IsGoodRay (r : Ray) : Type 0 where
@@ -203,11 +203,11 @@ record IsGoodRay (r : Ray) : Type 0 where
 suits_counted : (r : Ray) (a b : Seat) → IsGoodRay r → Suits r a b → IsCounted r.dx r.dy a b
 suits_counted r a b good suits = record { across = λ e same. e (suits.across (sym same)); along = λ e same. good.moves e (suits.along (sym same)) }
 
-ray_atoms_as : (P : ℕ × List Var → Type 0) (b : Bool) (r : Ray) (f g : Seat) → IsGoodRay r → IsGood f → IsGood g → Suits r f g → AreFine P (atoms_as b r.dx r.dy f g)
-ray_atoms_as P true r f g ray from to suits =
+ray_atoms_as : (P : ℕ × List Var → Type 0) (b : Bool) {r : Ray} {f g : Seat} → IsGoodRay r → IsGood f → IsGood g → Suits r f g → AreFine P (atoms_as b r.dx r.dy f g)
+ray_atoms_as P true {r} {f} {g} ray from to suits =
     are_fine-append P (line_atoms r.dx r.dy f g) (ahead r.dx r.dy f g Before ∷ []) (line_atoms_fine P r r.dx r.dy f g from to suits refl refl)
     (ahead_fine P r.dx r.dy f g Before from to (suits_counted r f g ray suits), tt)
-ray_atoms_as P false r f g ray from to suits =
+ray_atoms_as P false {r} {f} {g} ray from to suits =
     are_fine-append P (unless_same g.x f.x (difference g.x f.x Eq r.dx)) (unless_same g.y f.y (difference g.y f.y Eq r.dy))
     (unless_fine P g.x f.x (difference g.x f.x Eq r.dx) (λ ne. difference_fine P g.x f.x Eq r.dx ne to.x_low from.x_low (small_bound r.dx ray.small.0)))
     (unless_fine P g.y f.y (difference g.y f.y Eq r.dy) (λ ne. difference_fine P g.y f.y Eq r.dy ne to.y_low from.y_low (small_bound r.dy ray.small.1)))
@@ -261,8 +261,8 @@ vars_long seats others live zero = refl
 vars_long seats others live (suc n) =
     as_long (live (suc n)) (vars_to seats live n) (vars_to others live n) (seats (suc n)).x (seats (suc n)).y (others (suc n)).x (others (suc n)).y (vars_long seats others live n)
 
-seat_cases : (i j k : ℕ) (a b : Seat) → IsGood a → IsGood b → IsGood (own k) → IsGood (seats_with i a j b k)
-seat_cases i j k a b first second third = cases (k == i) (k == j) first second third
+seat_cases : (i j k : ℕ) {a b : Seat} → IsGood a → IsGood b → IsGood (own k) → IsGood (seats_with i a j b k)
+seat_cases i j k {a} {b} first second third = cases (k == i) (k == j) first second third
   where
     cases : (p q : Bool) → IsGood a → IsGood b → IsGood (own k) → IsGood (if p then a else if q then b else own k)
     cases true q first second third = first
@@ -276,19 +276,19 @@ path_fine : (P : ℕ × List Var → Type 0) (f : Tree) (r : Ray) (a b : Seat) (
     → IsFine P (clear (and_all f (ray_atoms r a b)) (λ k. on r a b extent (own k)) live i j m)
 path_fine P f r a b extent live i j m h ray from to suits few first last =
     clear_fine P (and_all f (ray_atoms r a b)) (λ k. on r a b extent (own k)) live i j m
-    (and_all_fine P f (ray_atoms r a b) h (ray_atoms_as P r.far r a b ray from to suits))
+    (and_all_fine P f (ray_atoms r a b) h (ray_atoms_as P r.far ray from to suits))
     (λ k low high other second. let small : k ≤ 8 = omega (arith, high, few) in
-    on_fine P r.far r.dx r.dy a b (own k) extent from to (own_good k low small) (first k low small other second) (last k low small other second))
+    on_fine P r.far r.dx r.dy extent from to (own_good k low small) (first k low small other second) (last k low small other second))
 
-image_fine : (P : ℕ × List Var → Type 0) (n mask i t s : ℕ) (r : Ray) → n ≤ 8 → 0 < i → i ≤ 8 → IsGoodRay r
+image_fine : (P : ℕ × List Var → Type 0) (n mask i t s : ℕ) {r : Ray} → n ≤ 8 → 0 < i → i ≤ 8 → IsGoodRay r
     → P (s, vars_to (old_seats r i t) (is_live mask) n) → IsFine P (image_tree n mask i r t s)
-image_fine P n mask i t s r few low high ray named =
+image_fine P n mask i t s {r} few low high ray named =
     let from : IsGood (spare r i) = spare_good r i low high in
     let to : IsGood (own i) = own_good i low high in
     swept_fine P r.dx elsewhere.x (ex_swept r.dy elsewhere.y (image_body n mask i r t s)) (omega arith)
     (swept_fine P r.dy elsewhere.y (image_body n mask i r t s) (omega arith)
     (path_fine P (tree.Among s (vars_to (old_seats r i t) (is_live mask) n)) r (spare r i) (own i) Onto (is_live mask) i t n
-    (named, vars_low (old_seats r i t) (is_live mask) n (λ k first last. seat_cases i t k (spare r i) (own i) from to (own_good k first (omega (arith, last, few)))))
+    (named, vars_low (old_seats r i t) (is_live mask) n (λ k first last. seat_cases i t k from to (own_good k first (omega (arith, last, few)))))
     ray from to (from_spare r i low high) few
     (λ k first last other second. spare_others r i k low high first last (λ e. other (sym e)))
     (λ k first last other second. own_others k i first low other)))
@@ -300,18 +300,18 @@ pre_body_fine P n mask i t s q r few low high last ne ray named target =
     let to : IsGood (new_seat r i t) = new_good r i t low high last in
     path_fine P (tree.And (tree.Among s (vars_to own (is_live mask) n)) (tree.Among q (vars_to (new_seats r i t) (without (is_live mask) t) n))) r (own i) (new_seat r i t) Onto (is_live mask) i t n (
       (named, vars_low own (is_live mask) n (λ k first end. own_good k first (omega (arith, end, few)))),
-      (target, vars_low (new_seats r i t) (without (is_live mask) t) n (λ k first end. seat_cases i t k (new_seat r i t) (new_seat r i t) to to (own_good k first (omega (arith, end, few))))),
+      (target, vars_low (new_seats r i t) (without (is_live mask) t) n (λ k first end. seat_cases i t k to to (own_good k first (omega (arith, end, few))))),
     )
     ray from to (new_suits r i t low high ne) few
     (λ k first end other second. own_others i k low first (λ e. other (sym e)))
-    (λ k first end other second. apart_back (new_seat r i t) (own k) (new_others r i t k low high first end (λ e. other (sym e)) second))
+    (λ k first end other second. apart_back (new_others r i t k low high first end (λ e. other (sym e)) second))
 
-pre_fine : (P : ℕ × List Var → Type 0) (n mask i t s q : ℕ) (r : Ray) → n ≤ 8 → 0 < i → i ≤ 8 → t ≤ 8 → i ≢ t → IsGoodRay r
+pre_fine : (P : ℕ × List Var → Type 0) (n mask i t s q : ℕ) {r : Ray} → n ≤ 8 → 0 < i → i ≤ 8 → t ≤ 8 → i ≢ t → IsGoodRay r
     → P (s, vars_to own (is_live mask) n) → P (q, vars_to (new_seats r i t) (without (is_live mask) t) n) → IsFine P (pre_tree n mask i r t s q)
-pre_fine P n mask i zero s q r few low high last ne ray named target =
+pre_fine P n mask i zero s q {r} few low high last ne ray named target =
     swept_fine P r.dx elsewhere.x (ex_swept r.dy elsewhere.y (pre_body n mask i r 0 s q)) (omega arith)
     (swept_fine P r.dy elsewhere.y (pre_body n mask i r 0 s q) (omega arith) (pre_body_fine P n mask i 0 s q r few low high last ne ray named target))
-pre_fine P n mask i (suc t) s q r few low high last ne ray named target = pre_body_fine P n mask i (suc t) s q r few low high last ne ray named target
+pre_fine P n mask i (suc t) s q {r} few low high last ne ray named target = pre_body_fine P n mask i (suc t) s q r few low high last ne ray named target
 
 bear_fine : (P : ℕ × List Var → Type 0) (n mask k g s : ℕ) (r : Ray) → n ≤ 8 → 0 < k → k ≤ 8 → 0 < g → g ≤ 8 → k ≢ g → IsGoodRay r
     → P (s, vars_to own (is_live mask) n) → IsFine P (bear_tree n mask k r g s)
@@ -320,10 +320,10 @@ bear_fine P n mask k g s r few low high first last ne ray named =
     let to : IsGood (own g) = own_good g first last in
     clear_as_fine P r.far (and_all (tree.Among s (vars_to own (is_live mask) n)) (ray_atoms r (own k) (own g))) (λ l. on r (own k) (own g) Before (own l)) (is_live mask) k g n
     (and_all_fine P (tree.Among s (vars_to own (is_live mask) n)) (ray_atoms r (own k) (own g)) (named, vars_low own (is_live mask) n (λ l begin end. own_good l begin (omega (arith, end, few))))
-    (ray_atoms_as P r.far r (own k) (own g) ray from to (own_apart k g r low first ne)))
+    (ray_atoms_as P r.far ray from to (own_apart k g r low first ne)))
     (λ l begin end other second.
     let small : l ≤ 8 = omega (arith, end, few) in
-    on_fine P r.far r.dx r.dy (own k) (own g) (own l) Before from to (own_good l begin small) (own_others k l low begin (λ e. other (sym e))) (own_others l g begin first second))
+    on_fine P r.far r.dx r.dy Before from to (own_good l begin small) (own_others k l low begin (λ e. other (sym e))) (own_others l g begin first second))
 
 safe_fine : (P : ℕ × List Var → Type 0) (n mask k g s : ℕ) (r : Ray) → n ≤ 8 → 0 < k → k ≤ 8 → 0 < g → g ≤ 8 → k ≢ g → IsGoodRay r
     → P (s, vars_to own (is_live mask) n) → IsFine P (safe_tree n mask k r g s)
@@ -348,16 +348,16 @@ unfolding maybe_fine
 and_maybe_fine P None g h k = k
 and_maybe_fine P (Some f) g h k = (h, k)
 
-with_square_fine : (P : ℕ × List Var → Type 0) (o : Option Tree) (s : Seat) (x : Option Square) → IsGood s → maybe_fine P o → maybe_fine P (with_square o s x)
+with_square_fine : (P : ℕ × List Var → Type 0) (o : Option Tree) {s : Seat} (x : Option Square) → IsGood s → maybe_fine P o → maybe_fine P (with_square o s x)
 unfolding maybe_fine
-with_square_fine P o s None good h = h
-with_square_fine P o s (Some z) good h = (and_maybe_fine P o (tree.Value s.x z.x) h good.x_low, good.y_low)
+with_square_fine P o None good h = h
+with_square_fine P o {s} (Some z) good h = (and_maybe_fine P o (tree.Value s.x z.x) h good.x_low, good.y_low)
 
 point_to_fine : (P : ℕ × List Var → Type 0) (men : List Man) (n : ℕ) → n ≤ 8 → maybe_fine P (point_to men n)
 unfolding maybe_fine
 point_to_fine P men zero few = tt
 point_to_fine P men (suc n) few =
-    with_square_fine P (point_to men n) (own (suc n)) (man_square (stock_man men (suc n))) (own_good (suc n) (omega arith) few) (point_to_fine P men n (omega (arith, few)))
+    with_square_fine P (point_to men n) (man_square (stock_man men (suc n))) (own_good (suc n) (omega arith) few) (point_to_fine P men n (omega (arith, few)))
 
 point_fine : (P : ℕ × List Var → Type 0) (men : List Man) (t : Tree) → length men ≤ 8 → point_of men ≡ Some t → IsFine P t
 unfolding maybe_fine
@@ -544,14 +544,14 @@ record IsGoodOption (stock : List Man) (o : Opt) : Type 0 where
 good_ray : (stock : List Man) (k n : ℕ) (m : Man) (r : Ray) → stock_man stock k ≡ Some m → ray_of m.kind m.side n ≡ Some r → IsGoodRay (ray_at stock k n)
 good_ray stock k n m r is ray =
     subst IsGoodRay (ray_at_is stock k n m r is ray)
-    (record { small = small_in (rays_of m.kind m.side) n r (rays_small m.kind m.side) ray; moves = fair_moves r (ray_is m.side m.kind n r ray).fair })
+    (record { small = small_in (rays_of m.kind m.side) n r (rays_small m.kind m.side) ray; moves = fair_moves (ray_is m.side m.kind n r ray).fair })
 
 prey_number : (stock : List Man) (mask t : ℕ) (side : Side) → IsPrey stock mask side t → t ≤ length stock
 prey_number stock mask zero side h = omega arith
 prey_number stock mask (suc t) side h = (stock_number stock (suc t) h.0 h.1).high
 
-good_option : (stock : List Man) (mask : ℕ) (o : Opt) → length stock ≤ 8 → IsOptionOf stock mask o → IsGoodOption stock o
-good_option stock mask o few w =
+good_option : {stock : List Man} {mask : ℕ} {o : Opt} → length stock ≤ 8 → IsOptionOf stock mask o → IsGoodOption stock o
+good_option {stock} {mask} {o} few w =
     let number : IsNumber stock o.man = stock_number stock o.man w.man w.is.is_man in
     let taken : o.taken ≤ length stock = prey_number stock mask o.taken w.man.side w.is.prey in
     record {
@@ -559,7 +559,7 @@ good_option stock mask o few w =
       low = number.low;
       high = omega (arith, number.high, few);
       taken = omega (arith, taken, few);
-      untaken = option_untaken stock mask o.man o.ray o.taken w.man w.ray w.is;
+      untaken = option_untaken w.is;
     }
 
 -- a formula that is fine and has few steps is modest
@@ -569,103 +569,103 @@ modest P t u is fine few = subst IsModest (sym is) (record { well_made = fine_ma
 any_set : ℕ × List Var → Type 0
 any_set m = Unit {0}
 
-image_is_fine : (P : ℕ × List Var → Type 0) (stock : List Man) (mask : ℕ) (o : Opt) (s : ℕ) → length stock ≤ 8 → IsOptionOf stock mask o
+image_is_fine : (P : ℕ × List Var → Type 0) {stock : List Man} {mask : ℕ} {o : Opt} (s : ℕ) → length stock ≤ 8 → IsOptionOf stock mask o
     → P (s, vars_to (old_seats (ray_at stock o.man o.ray) o.man o.taken) (is_live mask) (length stock)) → IsFine P (image_of stock mask o s)
-image_is_fine P stock mask o s few w named =
-    let g : IsGoodOption stock o = good_option stock mask o few w in
-    image_fine P (length stock) mask o.man o.taken s (ray_at stock o.man o.ray) few g.low g.high g.ray named
+image_is_fine P {stock} {mask} {o} s few w named =
+    let g : IsGoodOption stock o = good_option few w in
+    image_fine P (length stock) mask o.man o.taken s few g.low g.high g.ray named
 
-pub image_modest : (stock : List Man) (mask : ℕ) (o : Opt) (s : ℕ) (t : Tree) → length stock ≤ 8 → IsOptionOf stock mask o → t ≡ image_of stock mask o s → IsModest t
+pub image_modest : {stock : List Man} {mask : ℕ} {o : Opt} (s : ℕ) (t : Tree) → length stock ≤ 8 → IsOptionOf stock mask o → t ≡ image_of stock mask o s → IsModest t
 unfolding any_set
-image_modest stock mask o s t few w is =
-    modest any_set t (image_of stock mask o s) is (image_is_fine any_set stock mask o s few w tt) (image_steps (length stock) mask o.man o.taken s (ray_at stock o.man o.ray) few)
+image_modest {stock} {mask} {o} s t few w is =
+    modest any_set t (image_of stock mask o s) is (image_is_fine any_set s few w tt) (image_steps (length stock) mask o.man o.taken s (ray_at stock o.man o.ray) few)
 
-pub image_names : (stock : List Man) (mask : ℕ) (o : Opt) (s : ℕ) (t : Tree) → length stock ≤ 8
+pub image_names : {stock : List Man} {mask : ℕ} {o : Opt} (s : ℕ) (t : Tree) → length stock ≤ 8
     → IsOptionOf stock mask o → t ≡ image_of stock mask o s → NamesOnly s (tracks_of stock (is_live mask)) t
-image_names stock mask o s t few w is =
+image_names {stock} {mask} {o} s t few w is =
     let P = IsOver s (tracks_of stock (is_live mask)) in
     subst (NamesOnly s (tracks_of stock (is_live mask))) (sym is)
     (fine_names P (image_of stock mask o s)
-    (image_is_fine P stock mask o s few w (record { set = refl; count = vars_long (old_seats (ray_at stock o.man o.ray) o.man o.taken) own (is_live mask) (length stock) })))
+    (image_is_fine P s few w (record { set = refl; count = vars_long (old_seats (ray_at stock o.man o.ray) o.man o.taken) own (is_live mask) (length stock) })))
 
-pre_is_fine : (P : ℕ × List Var → Type 0) (stock : List Man) (mask : ℕ) (o : Opt) (s q : ℕ) → length stock ≤ 8 → IsOptionOf stock mask o
+pre_is_fine : (P : ℕ × List Var → Type 0) {stock : List Man} {mask : ℕ} {o : Opt} (s q : ℕ) → length stock ≤ 8 → IsOptionOf stock mask o
     → P (s, vars_to own (is_live mask) (length stock))
     → P (q, vars_to (new_seats (ray_at stock o.man o.ray) o.man o.taken) (without (is_live mask) o.taken) (length stock))
     → IsFine P (pre_of stock mask o s q)
-pre_is_fine P stock mask o s q few w named target =
-    let g : IsGoodOption stock o = good_option stock mask o few w in
-    pre_fine P (length stock) mask o.man o.taken s q (ray_at stock o.man o.ray) few g.low g.high g.taken g.untaken g.ray named target
+pre_is_fine P {stock} {mask} {o} s q few w named target =
+    let g : IsGoodOption stock o = good_option few w in
+    pre_fine P (length stock) mask o.man o.taken s q few g.low g.high g.taken g.untaken g.ray named target
 
-pub pre_modest : (stock : List Man) (mask : ℕ) (o : Opt) (s q : ℕ) (t : Tree) → length stock ≤ 8 → IsOptionOf stock mask o → t ≡ pre_of stock mask o s q → IsModest t
+pub pre_modest : {stock : List Man} {mask : ℕ} {o : Opt} (s q : ℕ) (t : Tree) → length stock ≤ 8 → IsOptionOf stock mask o → t ≡ pre_of stock mask o s q → IsModest t
 unfolding any_set
-pre_modest stock mask o s q t few w is =
-    modest any_set t (pre_of stock mask o s q) is (pre_is_fine any_set stock mask o s q few w tt tt) (pre_steps (length stock) mask o.man o.taken s q (ray_at stock o.man o.ray) few)
+pre_modest {stock} {mask} {o} s q t few w is =
+    modest any_set t (pre_of stock mask o s q) is (pre_is_fine any_set s q few w tt tt) (pre_steps (length stock) mask o.man o.taken s q (ray_at stock o.man o.ray) few)
 
-pub pre_names : (stock : List Man) (mask : ℕ) (o : Opt) (s q : ℕ) (t : Tree) → length stock ≤ 8 → IsOptionOf stock mask o
+pub pre_names : {stock : List Man} {mask : ℕ} {o : Opt} (s q : ℕ) (t : Tree) → length stock ≤ 8 → IsOptionOf stock mask o
     → t ≡ pre_of stock mask o s q → NamesBeforeAndAfter stock mask o s q t
-pre_names stock mask o s q t few w is =
+pre_names {stock} {mask} {o} s q t few w is =
     let tracks : List Var = tracks_of stock (is_live mask) in
     let others : List Var = tracks_of stock (without (is_live mask) o.taken) in
     let P = λ (m : ℕ × List Var). IsOver s tracks m ⊎ IsOver q others m in
     subst (NamesBoth s tracks q others) (sym is)
     (fine_names P (pre_of stock mask o s q)
-    (pre_is_fine P stock mask o s q few w (inl (record { set = refl; count = refl }))
+    (pre_is_fine P s q few w (inl (record { set = refl; count = refl }))
     (inr (record { set = refl; count = vars_long (new_seats (ray_at stock o.man o.ray) o.man o.taken) own (without (is_live mask) o.taken) (length stock) }))))
 
-bear_is_fine : (P : ℕ × List Var → Type 0) (stock : List Man) (mask k n g s : ℕ) → length stock ≤ 8 → IsBearer stock mask k n g
+bear_is_fine : (P : ℕ × List Var → Type 0) {stock : List Man} {mask k n g : ℕ} (s : ℕ) → length stock ≤ 8 → IsBearer stock mask k n g
     → P (s, vars_to own (is_live mask) (length stock)) → IsFine P (bear_of stock mask k n g s)
-bear_is_fine P stock mask k n g s few w named =
+bear_is_fine P {stock} {mask} {k} {n} {g} s few w named =
     let from : IsNumber stock k = stock_number stock k w.man w.is.is_man in
     let to : IsNumber stock g = stock_number stock g w.target w.is.is_target in
     bear_fine P (length stock) mask k g s (ray_at stock k n) few from.low (omega (arith, from.high, few)) to.low (omega (arith, to.high, few)) w.is.apart
     (good_ray stock k n w.man w.ray w.is.is_man w.is.ray) named
 
-safe_is_fine : (P : ℕ × List Var → Type 0) (stock : List Man) (mask k n g s : ℕ) → length stock ≤ 8 → IsBearer stock mask k n g
+safe_is_fine : (P : ℕ × List Var → Type 0) {stock : List Man} {mask k n g : ℕ} (s : ℕ) → length stock ≤ 8 → IsBearer stock mask k n g
     → P (s, vars_to own (is_live mask) (length stock)) → IsFine P (safe_of stock mask k n g s)
-safe_is_fine P stock mask k n g s few w named =
+safe_is_fine P {stock} {mask} {k} {n} {g} s few w named =
     let from : IsNumber stock k = stock_number stock k w.man w.is.is_man in
     let to : IsNumber stock g = stock_number stock g w.target w.is.is_target in
     safe_fine P (length stock) mask k g s (ray_at stock k n) few from.low (omega (arith, from.high, few)) to.low (omega (arith, to.high, few)) w.is.apart
     (good_ray stock k n w.man w.ray w.is.is_man w.is.ray) named
 
-pub bear_modest : (stock : List Man) (mask k n g s : ℕ) (t : Tree) → length stock ≤ 8 → IsBearer stock mask k n g → t ≡ bear_of stock mask k n g s → IsModest t
+pub bear_modest : {stock : List Man} {mask k n g : ℕ} (s : ℕ) (t : Tree) → length stock ≤ 8 → IsBearer stock mask k n g → t ≡ bear_of stock mask k n g s → IsModest t
 unfolding any_set
-bear_modest stock mask k n g s t few w is =
+bear_modest {stock} {mask} {k} {n} {g} s t few w is =
     let low = bear_steps (length stock) mask k g s (ray_at stock k n) few in
-    modest any_set t (bear_of stock mask k n g s) is (bear_is_fine any_set stock mask k n g s few w tt) (omega (arith, low))
+    modest any_set t (bear_of stock mask k n g s) is (bear_is_fine any_set s few w tt) (omega (arith, low))
 
-pub bear_names : (stock : List Man) (mask k n g s : ℕ) (t : Tree) → length stock ≤ 8 → IsBearer stock mask k n g
+pub bear_names : {stock : List Man} {mask k n g : ℕ} (s : ℕ) (t : Tree) → length stock ≤ 8 → IsBearer stock mask k n g
     → t ≡ bear_of stock mask k n g s → NamesOnly s (tracks_of stock (is_live mask)) t
-bear_names stock mask k n g s t few w is =
+bear_names {stock} {mask} {k} {n} {g} s t few w is =
     let P = IsOver s (tracks_of stock (is_live mask)) in
     subst (NamesOnly s (tracks_of stock (is_live mask))) (sym is)
-    (fine_names P (bear_of stock mask k n g s) (bear_is_fine P stock mask k n g s few w (record { set = refl; count = refl })))
+    (fine_names P (bear_of stock mask k n g s) (bear_is_fine P s few w (record { set = refl; count = refl })))
 
-pub safe_modest : (stock : List Man) (mask k n g s : ℕ) (t : Tree) → length stock ≤ 8 → IsBearer stock mask k n g → t ≡ safe_of stock mask k n g s → IsModest t
+pub safe_modest : {stock : List Man} {mask k n g : ℕ} (s : ℕ) (t : Tree) → length stock ≤ 8 → IsBearer stock mask k n g → t ≡ safe_of stock mask k n g s → IsModest t
 unfolding any_set
-safe_modest stock mask k n g s t few w is =
-    modest any_set t (safe_of stock mask k n g s) is (safe_is_fine any_set stock mask k n g s few w tt) (safe_steps (length stock) mask k g s (ray_at stock k n) few)
+safe_modest {stock} {mask} {k} {n} {g} s t few w is =
+    modest any_set t (safe_of stock mask k n g s) is (safe_is_fine any_set s few w tt) (safe_steps (length stock) mask k g s (ray_at stock k n) few)
 
-pub safe_names : (stock : List Man) (mask k n g s : ℕ) (t : Tree) → length stock ≤ 8 → IsBearer stock mask k n g
+pub safe_names : {stock : List Man} {mask k n g : ℕ} (s : ℕ) (t : Tree) → length stock ≤ 8 → IsBearer stock mask k n g
     → t ≡ safe_of stock mask k n g s → NamesOnly s (tracks_of stock (is_live mask)) t
-safe_names stock mask k n g s t few w is =
+safe_names {stock} {mask} {k} {n} {g} s t few w is =
     let P = IsOver s (tracks_of stock (is_live mask)) in
     subst (NamesOnly s (tracks_of stock (is_live mask))) (sym is)
-    (fine_names P (safe_of stock mask k n g s) (safe_is_fine P stock mask k n g s few w (record { set = refl; count = refl })))
+    (fine_names P (safe_of stock mask k n g s) (safe_is_fine P s few w (record { set = refl; count = refl })))
 
-twins_is_fine : (P : ℕ × List Var → Type 0) (mask a b s : ℕ) → a < b → IsLiveIn mask a → IsLiveIn mask b → P (s, vars_to own (is_live mask) 8) → IsFine P (twins_tree 8 mask a b s)
-twins_is_fine P mask a b s order first second named =
+twins_is_fine : (P : ℕ × List Var → Type 0) {mask a b : ℕ} (s : ℕ) → a < b → IsLiveIn mask a → IsLiveIn mask b → P (s, vars_to own (is_live mask) 8) → IsFine P (twins_tree 8 mask a b s)
+twins_is_fine P {mask} {a} {b} s order first second named =
     twins_fine P mask a b s (omega (arith, first.low)) first.high (omega (arith, second.low)) second.high (λ e. omega (arith, e, order)) named
 
-pub twins_modest : (mask a b s : ℕ) (t : Tree) → a < b → IsLiveIn mask a → IsLiveIn mask b → t ≡ twins_tree 8 mask a b s → IsModest t
+pub twins_modest : {mask a b : ℕ} (s : ℕ) (t : Tree) → a < b → IsLiveIn mask a → IsLiveIn mask b → t ≡ twins_tree 8 mask a b s → IsModest t
 unfolding any_set
-twins_modest mask a b s t order first second is =
-    modest any_set t (twins_tree 8 mask a b s) is (twins_is_fine any_set mask a b s order first second tt) (omega arith)
+twins_modest {mask} {a} {b} s t order first second is =
+    modest any_set t (twins_tree 8 mask a b s) is (twins_is_fine any_set s order first second tt) (omega arith)
 
-pub twins_names : (mask a b s : ℕ) (t : Tree) → a < b → IsLiveIn mask a → IsLiveIn mask b → t ≡ twins_tree 8 mask a b s → NamesOnly s (vars_to own (is_live mask) 8) t
-twins_names mask a b s t order first second is =
+pub twins_names : {mask a b : ℕ} (s : ℕ) (t : Tree) → a < b → IsLiveIn mask a → IsLiveIn mask b → t ≡ twins_tree 8 mask a b s → NamesOnly s (vars_to own (is_live mask) 8) t
+twins_names {mask} {a} {b} s t order first second is =
     let P = IsOver s (vars_to own (is_live mask) 8) in
-    subst (NamesOnly s (vars_to own (is_live mask) 8)) (sym is) (fine_names P (twins_tree 8 mask a b s) (twins_is_fine P mask a b s order first second (record { set = refl; count = refl })))
+    subst (NamesOnly s (vars_to own (is_live mask) 8)) (sym is) (fine_names P (twins_tree 8 mask a b s) (twins_is_fine P s order first second (record { set = refl; count = refl })))
 
 pub point_modest : (men : List Man) (t : Tree) → length men ≤ 8 → point_of men ≡ Some t → IsModest t
 unfolding any_set

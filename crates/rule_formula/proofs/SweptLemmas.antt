@@ -97,11 +97,11 @@ new_suits r i (suc t) low high ne = own_apart i (suc t) r low (omega arith) ne
 still : (a b d : ℤ) (t : ℕ) → b ≡ a +ℤ (pos t *ℤ d) → d ≡ pos 0 → b ≡ a
 still a b d t h none = let k : b ≡ a +ℤ (pos t *ℤ pos 0) = subst (λ d. b ≡ a +ℤ (pos t *ℤ d)) none h in omega (arith, ints)
 
-pub along_x : (r : Ray) (a b : Square) → LiesOn r a b → r.dx ≡ pos 0 → b.x ≡ a.x
-along_x r a b w none = still a.x b.x r.dx w.distance w.steps.right none
+pub along_x : {r : Ray} {a b : Square} → LiesOn r a b → r.dx ≡ pos 0 → b.x ≡ a.x
+along_x {r} {a} {b} w none = still a.x b.x r.dx w.distance w.steps.right none
 
-pub along_y : (r : Ray) (a b : Square) → LiesOn r a b → r.dy ≡ pos 0 → b.y ≡ a.y
-along_y r a b w none = still a.y b.y r.dy w.distance w.steps.up none
+pub along_y : {r : Ray} {a b : Square} → LiesOn r a b → r.dy ≡ pos 0 → b.y ≡ a.y
+along_y {r} {a} {b} w none = still a.y b.y r.dy w.distance w.steps.up none
 
 place_same : (b : Bool) (y z : Square) → (b ≡ true → y ≡ z) → place_at b y ≡ place_at b z
 place_same true y z h = ap (place_at true) (h refl)

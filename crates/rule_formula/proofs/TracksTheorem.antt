@@ -208,11 +208,11 @@ and_in : (T : Var → Type 0) (f g : Tree) → FreeIn T f → FreeIn T g → Fre
 and_in T f g h k z (inl w) = h z w
 and_in T f g h k z (inr w) = k z w
 
-on_in : (T : Var → Type 0) (b : Bool) (dx dy : ℤ) (a c m : Seat) (extent : Extent) → SeatIn T a → SeatIn T c → SeatIn T m → FreeIn T (on_as b dx dy a c m extent)
-on_in T true dx dy a c m extent f t w =
+on_in : {T : Var → Type 0} (b : Bool) (dx dy : ℤ) {a c m : Seat} (extent : Extent) → SeatIn T a → SeatIn T c → SeatIn T m → FreeIn T (on_as b dx dy a c m extent)
+on_in {T = T} true dx dy {a} {c} {m} extent f t w =
     and_in T (tree.And (line dx dy a m) (ahead dx dy a m Before)) (ahead dx dy m c extent)
     (and_in T (line dx dy a m) (ahead dx dy a m Before) (line_in T dx dy a m f w) (ahead_in T dx dy a m Before f w)) (ahead_in T dx dy m c extent w t)
-on_in T false dx dy a c m extent f t w =
+on_in {T = T} false dx dy {c} {m} extent f t w =
     and_in T (difference m.x c.x Eq (pos 0)) (difference m.y c.y Eq (pos 0)) (difference_in T m.x c.x Eq (pos 0) w.across t.across) (difference_in T m.y c.y Eq (pos 0) w.along t.along)
 
 abbrev AllIn : (Var → Type 0) → List Tree → Type 0
@@ -231,18 +231,18 @@ unless_in : (T : Var → Type 0) (b : Bool) (f : Tree) → FreeIn T f → AllIn 
 unless_in T true f h = tt
 unless_in T false f h = (h, tt)
 
-line_atoms_in : (T : Var → Type 0) (dx dy : ℤ) (a b : Seat) → SeatIn T a → SeatIn T b → AllIn T (line_atoms dx dy a b)
-line_atoms_in T (pos zero) dy a b f t = unless_in T (b.x.0 == a.x.0) (line (pos zero) dy a b) (line_in T (pos zero) dy a b f t)
-line_atoms_in T (pos (suc dx)) (pos zero) a b f t = unless_in T (b.y.0 == a.y.0) (line (pos (suc dx)) (pos zero) a b) (line_in T (pos (suc dx)) (pos zero) a b f t)
-line_atoms_in T (negsuc dx) (pos zero) a b f t = unless_in T (b.y.0 == a.y.0) (line (negsuc dx) (pos zero) a b) (line_in T (negsuc dx) (pos zero) a b f t)
-line_atoms_in T (pos (suc dx)) (pos (suc dy)) a b f t = (line_in T (pos (suc dx)) (pos (suc dy)) a b f t, tt)
-line_atoms_in T (pos (suc dx)) (negsuc dy) a b f t = (line_in T (pos (suc dx)) (negsuc dy) a b f t, tt)
-line_atoms_in T (negsuc dx) (pos (suc dy)) a b f t = (line_in T (negsuc dx) (pos (suc dy)) a b f t, tt)
-line_atoms_in T (negsuc dx) (negsuc dy) a b f t = (line_in T (negsuc dx) (negsuc dy) a b f t, tt)
+line_atoms_in : {T : Var → Type 0} (dx dy : ℤ) {a b : Seat} → SeatIn T a → SeatIn T b → AllIn T (line_atoms dx dy a b)
+line_atoms_in {T = T} (pos zero) dy {a} {b} f t = unless_in T (b.x.0 == a.x.0) (line (pos zero) dy a b) (line_in T (pos zero) dy a b f t)
+line_atoms_in {T = T} (pos (suc dx)) (pos zero) {a} {b} f t = unless_in T (b.y.0 == a.y.0) (line (pos (suc dx)) (pos zero) a b) (line_in T (pos (suc dx)) (pos zero) a b f t)
+line_atoms_in {T = T} (negsuc dx) (pos zero) {a} {b} f t = unless_in T (b.y.0 == a.y.0) (line (negsuc dx) (pos zero) a b) (line_in T (negsuc dx) (pos zero) a b f t)
+line_atoms_in {T = T} (pos (suc dx)) (pos (suc dy)) {a} {b} f t = (line_in T (pos (suc dx)) (pos (suc dy)) a b f t, tt)
+line_atoms_in {T = T} (pos (suc dx)) (negsuc dy) {a} {b} f t = (line_in T (pos (suc dx)) (negsuc dy) a b f t, tt)
+line_atoms_in {T = T} (negsuc dx) (pos (suc dy)) {a} {b} f t = (line_in T (negsuc dx) (pos (suc dy)) a b f t, tt)
+line_atoms_in {T = T} (negsuc dx) (negsuc dy) {a} {b} f t = (line_in T (negsuc dx) (negsuc dy) a b f t, tt)
 
-atoms_in : (T : Var → Type 0) (far : Bool) (dx dy : ℤ) (a b : Seat) → SeatIn T a → SeatIn T b → AllIn T (atoms_as far dx dy a b)
-atoms_in T true dx dy a b f t = all_in-append T (line_atoms dx dy a b) (ahead dx dy a b Before ∷ []) (line_atoms_in T dx dy a b f t) (ahead_in T dx dy a b Before f t, tt)
-atoms_in T false dx dy a b f t =
+atoms_in : {T : Var → Type 0} (far : Bool) (dx dy : ℤ) {a b : Seat} → SeatIn T a → SeatIn T b → AllIn T (atoms_as far dx dy a b)
+atoms_in {T = T} true dx dy {a} {b} f t = all_in-append T (line_atoms dx dy a b) (ahead dx dy a b Before ∷ []) (line_atoms_in dx dy f t) (ahead_in T dx dy a b Before f t, tt)
+atoms_in {T = T} false dx dy {a} {b} f t =
     all_in-append T (unless_same b.x a.x (difference b.x a.x Eq dx)) (unless_same b.y a.y (difference b.y a.y Eq dy))
     (unless_in T (b.x.0 == a.x.0) (difference b.x a.x Eq dx) (difference_in T b.x a.x Eq dx t.across f.across))
     (unless_in T (b.y.0 == a.y.0) (difference b.y a.y Eq dy) (difference_in T b.y a.y Eq dy t.along f.along))
@@ -303,8 +303,8 @@ among_in T s seats live n h z is =
     let seat = h w.number w.low w.high w.on in
     elim w.is [ inl e ↦ subst T (sym e) seat.across | inr e ↦ subst T (sym e) seat.along ]
 
-seats_in : (T : Var → Type 0) (i j k : ℕ) (a b : Seat) → SeatIn T a → SeatIn T b → (k ≢ i → k ≢ j → SeatIn T (own k)) → SeatIn T (seats_with i a j b k)
-seats_in T i j k a b first second third = cases (k == i) (k == j) (λ e. differs k i e) (λ e. differs k j e)
+seats_in : {T : Var → Type 0} (i j k : ℕ) {a b : Seat} → SeatIn T a → SeatIn T b → (k ≢ i → k ≢ j → SeatIn T (own k)) → SeatIn T (seats_with i a j b k)
+seats_in {T = T} i j k {a} {b} first second third = cases (k == i) (k == j) (λ e. differs k i e) (λ e. differs k j e)
   where
     differs : (p q : ℕ) → (p == q) ≡ false → p ≢ q
     differs p q e = grind (arith, nat_tests)
@@ -318,8 +318,8 @@ path_in : (U : Var → Type 0) (f : Tree) (r : Ray) (a b : Seat) (extent : Exten
     → ((k : ℕ) → 0 < k → k ≤ n → live k ≡ true → k ≢ j → SeatIn U (own k))
     → FreeIn U (clear (and_all f (ray_atoms r a b)) (λ k. on r a b extent (own k)) live i j n)
 path_in U f r a b extent live i j n h from to each =
-    clear_in U (and_all f (ray_atoms r a b)) (λ k. on r a b extent (own k)) live i j n (and_all_in U f (ray_atoms r a b) h (atoms_in U r.far r.dx r.dy a b from to))
-    (λ k low high alive other. on_in U r.far r.dx r.dy a b (own k) extent from to (each k low high alive other))
+    clear_in U (and_all f (ray_atoms r a b)) (λ k. on r a b extent (own k)) live i j n (and_all_in U f (ray_atoms r a b) h (atoms_in r.far r.dx r.dy from to))
+    (λ k low high alive other. on_in r.far r.dx r.dy extent from to (each k low high alive other))
 
 pre_body_in : (U : Var → Type 0) (n mask i t s q : ℕ) (r : Ray) → SeatIn U (own i) → SeatIn U (new_seat r i t)
     → ((k : ℕ) → 0 < k → k ≤ n → is_live mask k ≡ true → SeatIn U (own k)) → FreeIn U (pre_body n mask i r t s q)
@@ -328,7 +328,7 @@ pre_body_in U n mask i t s q r from to each =
     (and_in U (tree.Among s (vars_to own (is_live mask) n)) (tree.Among q (vars_to (new_seats r i t) (without (is_live mask) t) n))
     (among_in U s own (is_live mask) n each)
     (among_in U q (new_seats r i t) (without (is_live mask) t) n
-    (λ k low high alive. seats_in U i t k (new_seat r i t) (new_seat r i t) to to (λ first second. each k low high (was_live (is_live mask k) k t alive).0))))
+    (λ k low high alive. seats_in i t k to to (λ first second. each k low high (was_live (is_live mask k) k t alive).0))))
     from to (λ k low high alive other. each k low high alive)
 
 pre_tree_in : (n mask i t s q : ℕ) (r : Ray) → 0 < i → i ≤ n → is_live mask i ≡ true
@@ -352,8 +352,8 @@ bear_tree_in n mask k g s r low high alive_k first last target =
     let to : SeatIn T (own g) = own_seat_in (is_live mask) n g first last target in
     clear_as_in T r.far (and_all (tree.Among s (vars_to own (is_live mask) n)) (ray_atoms r (own k) (own g))) (λ l. on r (own k) (own g) Before (own l)) (is_live mask) k g n
     (and_all_in T (tree.Among s (vars_to own (is_live mask) n)) (ray_atoms r (own k) (own g))
-    (among_in T s own (is_live mask) n (own_seat_in (is_live mask) n)) (atoms_in T r.far r.dx r.dy (own k) (own g) from to))
-    (λ l begin end alive other. on_in T r.far r.dx r.dy (own k) (own g) (own l) Before from to (own_seat_in (is_live mask) n l begin end alive))
+    (among_in T s own (is_live mask) n (own_seat_in (is_live mask) n)) (atoms_in r.far r.dx r.dy from to))
+    (λ l begin end alive other. on_in r.far r.dx r.dy Before from to (own_seat_in (is_live mask) n l begin end alive))
 
 -- a variable that is free in the first stays free
 if_free : (b : Bool) (f g : Tree) (z : Var) → IsFree z f → IsFree z (if b then tree.And f g else f)
@@ -377,8 +377,8 @@ swept_free (pos zero) x f z ne h = h
 swept_free (pos (suc d)) x f z ne h = (ne, h)
 swept_free (negsuc d) x f z ne h = (ne, h)
 
-own_low : (live : ℕ → Bool) (n : ℕ) (z : Var) → n ≤ 8 → IsSeated own live n z → z.0 < 16
-own_low live n z few w =
+own_low : {live : ℕ → Bool} {n : ℕ} {z : Var} → n ≤ 8 → IsSeated own live n z → z.0 < 16
+own_low {n} {z} few w =
     let high : w.number ≤ n = w.high in
     let low : 0 < w.number = w.low in
     elim w.is [
@@ -389,15 +389,15 @@ own_low live n z few w =
 not_var : (z : Var) (n : ℕ) → z.0 < n → z ≢ var n
 not_var z n low e = let same : z.0 ≡ n = ap (λ (v : Var). v.0) e in omega (arith, same, low)
 
-seated_in : (live : ℕ → Bool) (n : ℕ) (z : Var) → IsSeated own live n z → IsOneOf z (vars_to own live n)
-seated_in live n z w = seat_in own live n z w.number w.low w.high w.on w.is
+seated_in : {live : ℕ → Bool} {n : ℕ} {z : Var} → IsSeated own live n z → IsOneOf z (vars_to own live n)
+seated_in {live} {n} {z} w = seat_in own live n z w.number w.low w.high w.on w.is
 
-pre_free : (n mask i t s q : ℕ) (r : Ray) (z : Var) → n ≤ 8 → IsSeated own (is_live mask) n z → IsFree z (pre_tree n mask i r t s q)
-pre_free n mask i t s q r z few w =
-    let low : z.0 < 16 = own_low (is_live mask) n z few w in
+pre_free : {n : ℕ} (mask i t s q : ℕ) (r : Ray) {z : Var} → n ≤ 8 → IsSeated own (is_live mask) n z → IsFree z (pre_tree n mask i r t s q)
+pre_free {n} mask i t s q r {z} few w =
+    let low : z.0 < 16 = own_low few w in
     let both = tree.And (tree.Among s (vars_to own (is_live mask) n)) (tree.Among q (vars_to (new_seats r i t) (without (is_live mask) t) n)) in
     let body : IsFree z (pre_body n mask i r t s q) = clear_free (and_all both (ray_atoms r (own i) (new_seat r i t))) (λ k. on r (own i) (new_seat r i t) Onto (own k)) (is_live mask) i t n z
-    (and_all_free both (ray_atoms r (own i) (new_seat r i t)) z (inl (seated_in (is_live mask) n z w)))
+    (and_all_free both (ray_atoms r (own i) (new_seat r i t)) z (inl (seated_in w)))
     in
     whole t body low
   where
@@ -406,16 +406,16 @@ pre_free n mask i t s q r z few w =
         (swept_free r.dy elsewhere.y (pre_body n mask i r 0 s q) z (not_var z 17 (omega (arith, low))) body)
     whole (suc t) body low = body
 
-bear_free : (n mask k g s : ℕ) (r : Ray) (z : Var) → IsSeated own (is_live mask) n z → IsFree z (bear_tree n mask k r g s)
-bear_free n mask k g s r z w =
+bear_free : {n : ℕ} (mask k g s : ℕ) (r : Ray) {z : Var} → IsSeated own (is_live mask) n z → IsFree z (bear_tree n mask k r g s)
+bear_free {n} mask k g s r {z} w =
     clear_as_free r.far (and_all (tree.Among s (vars_to own (is_live mask) n)) (ray_atoms r (own k) (own g))) (λ l. on r (own k) (own g) Before (own l)) (is_live mask) k g n z
-    (and_all_free (tree.Among s (vars_to own (is_live mask) n)) (ray_atoms r (own k) (own g)) z (seated_in (is_live mask) n z w))
+    (and_all_free (tree.Among s (vars_to own (is_live mask) n)) (ray_atoms r (own k) (own g)) z (seated_in w))
 
 -- the free variables are the tracks, where those and no others are free
 pub tracks_are : (live : ℕ → Bool) (n : ℕ) (f : Tree) → FreeIn (IsSeated own live n) f → ((z : Var) → IsSeated own live n z → IsFree z f) → free_vars f ≡ vars_to own live n
 tracks_are live n f only all =
     same_list 0 0 (free_vars f) (vars_to own live n) (rises_free f) (spans_rise 0 (2 * n) (vars_to own live n) (spans_own live n))
-    (λ z is. seated_in live n z (only z ((free_vars-free f z).0 is)))
+    (λ z is. seated_in (only z ((free_vars-free f z).0 is)))
     (λ z is. (free_vars-free f z).1 (all z (seated own live n z is)))
 
 -- the free variables of twins are those of the live men
@@ -432,14 +432,14 @@ twins_tracks n mask a b s low_a high_a on_a low_b high_b on_b =
     (and_in T (tree.And among across) along
     (and_in T among across (among_in T s own (is_live mask) n (own_seat_in (is_live mask) n)) (difference_in T (own a).x (own b).x Eq (pos 0) first.across second.across))
     (difference_in T (own a).y (own b).y Eq (pos 0) first.along second.along))
-    (λ z w. inl (inl (seated_in (is_live mask) n z w)))
+    (λ z w. inl (inl (seated_in w)))
 
 -- tracks twice are the tracks
 pub tracks_twice : (live : ℕ → Bool) (n s t : ℕ) → free_vars (tree.Or (tree.Among s (vars_to own live n)) (tree.Among t (vars_to own live n))) ≡ vars_to own live n
 tracks_twice live n s t =
     tracks_are live n (tree.Or (tree.Among s (vars_to own live n)) (tree.Among t (vars_to own live n)))
     (λ z h. elim h [ inl a ↦ seated own live n z a | inr b ↦ seated own live n z b ])
-    (λ z w. inl (seated_in live n z w))
+    (λ z w. inl (seated_in w))
 
 -- the same men have the same tracks
 pub tracks_alike : (live more : ℕ → Bool) (n : ℕ) → ((k : ℕ) → 0 < k → live k ≡ more k) → vars_to own live n ≡ vars_to own more n
@@ -457,7 +457,7 @@ pre_tracks stock mask o s q few w =
     let number : IsNumber stock o.man = stock_number stock o.man w.man w.is.is_man in
     tracks_are (is_live mask) (length stock) (pre_of stock mask o s q)
     (pre_tree_in (length stock) mask o.man o.taken s q (ray_at stock o.man o.ray) number.low number.high w.is.live (prey_is_live stock mask o.taken w.man.side w.is.prey))
-    (λ z is. pre_free (length stock) mask o.man o.taken s q (ray_at stock o.man o.ray) z few is)
+    (λ z is. pre_free mask o.man o.taken s q (ray_at stock o.man o.ray) few is)
 
 pub bear_tracks : (stock : List Man) (mask k n g s : ℕ) → IsBearer stock mask k n g → free_vars (bear_of stock mask k n g s) ≡ tracks_of stock (is_live mask)
 bear_tracks stock mask k n g s w =
@@ -465,7 +465,7 @@ bear_tracks stock mask k n g s w =
     let to : IsNumber stock g = stock_number stock g w.target w.is.is_target in
     tracks_are (is_live mask) (length stock) (bear_of stock mask k n g s)
     (bear_tree_in (length stock) mask k g s (ray_at stock k n) from.low from.high w.is.live to.low to.high w.is.target_live)
-    (λ z is. bear_free (length stock) mask k g s (ray_at stock k n) z is)
+    (λ z is. bear_free mask k g s (ray_at stock k n) is)
 
 pub safe_tracks : (stock : List Man) (mask k n g s : ℕ) → IsBearer stock mask k n g → free_vars (safe_of stock mask k n g s) ≡ tracks_of stock (is_live mask)
 safe_tracks stock mask k n g s w =
@@ -477,7 +477,7 @@ safe_tracks stock mask k n g s w =
     (and_in T (tree.Among s (vars_to own (is_live mask) (length stock))) (tree.Not bear)
     (among_in T s own (is_live mask) (length stock) (λ l begin end alive. own_seat_in (is_live mask) (length stock) l begin end alive))
     (bear_tree_in (length stock) mask k g s (ray_at stock k n) from.low from.high w.is.live to.low to.high w.is.target_live))
-    (λ z is. inl (seated_in (is_live mask) (length stock) z is))
+    (λ z is. inl (seated_in is))
 
 -- the variable is free in one of a list
 abbrev AnyFree : Var → List Tree → Type 0
@@ -551,7 +551,7 @@ image_body_in n mask i t s r low high on ne =
     let from : SeatIn U (spare r i) = spare_in T r i mover in
     let to : SeatIn U (own i) = seat_body T r (own i) mover in
     path_in U (tree.Among s (vars_to (old_seats r i t) (is_live mask) n)) r (spare r i) (own i) Onto (is_live mask) i t n
-    (among_in U s (old_seats r i t) (is_live mask) n (λ k first last alive. seats_in U i t k (spare r i) (own i) from to (λ other untaken. each k first last alive untaken)))
+    (among_in U s (old_seats r i t) (is_live mask) n (λ k first last alive. seats_in i t k from to (λ other untaken. each k first last alive untaken)))
     from to each
 
 image_tree_in : (n mask i t s : ℕ) (r : Ray) → 0 < i → i ≤ n → is_live mask i ≡ true → i ≢ t → FreeIn (IsSeated own (without (is_live mask) t) n) (image_tree n mask i r t s)
@@ -560,9 +560,9 @@ image_tree_in n mask i t s r low high on ne =
     swept_in T r.dx elsewhere.x (ex_swept r.dy elsewhere.y (image_body n mask i r t s))
     (swept_in (λ z. T z ⊎ ((z ≡ elsewhere.x) × (r.dx ≢ pos 0))) r.dy elsewhere.y (image_body n mask i r t s) (image_body_in n mask i t s r low high on ne))
 
-image_body_free : (n mask i t s : ℕ) (r : Ray) (z : Var) → n ≤ 8 → 0 < i → i ≤ n → is_live mask i ≡ true
+image_body_free : {n : ℕ} (mask i t s : ℕ) (r : Ray) {z : Var} → n ≤ 8 → 0 < i → i ≤ n → is_live mask i ≡ true
     → IsSeated own (without (is_live mask) t) n z → IsFree z (image_body n mask i r t s)
-image_body_free n mask i t s r z few low high alive_i w =
+image_body_free {n} mask i t s r {z} few low high alive_i w =
     let among : Tree = tree.Among s (vars_to (old_seats r i t) (is_live mask) n) in
     let atoms : List Tree = ray_atoms r (spare r i) (own i) in
     let alive = was_live (is_live mask w.number) w.number t w.on in
@@ -590,18 +590,18 @@ image_body_free n mask i t s r z few low high alive_i w =
           ]
     ]
 
-image_free : (n mask i t s : ℕ) (r : Ray) (z : Var) → n ≤ 8 → 0 < i → i ≤ n → is_live mask i ≡ true
+image_free : {n : ℕ} (mask i t s : ℕ) (r : Ray) {z : Var} → n ≤ 8 → 0 < i → i ≤ n → is_live mask i ≡ true
     → IsSeated own (without (is_live mask) t) n z → IsFree z (image_tree n mask i r t s)
-image_free n mask i t s r z few low high on w =
-    let small : z.0 < 16 = own_low (without (is_live mask) t) n z few w in
+image_free {n} mask i t s r {z} few low high on w =
+    let small : z.0 < 16 = own_low few w in
     swept_free r.dx elsewhere.x (ex_swept r.dy elsewhere.y (image_body n mask i r t s)) z (not_var z 16 small)
-    (swept_free r.dy elsewhere.y (image_body n mask i r t s) z (not_var z 17 (omega (arith, small))) (image_body_free n mask i t s r z few low high on w))
+    (swept_free r.dy elsewhere.y (image_body n mask i r t s) z (not_var z 17 (omega (arith, small))) (image_body_free mask i t s r few low high on w))
 
 pub image_tracks : (stock : List Man) (mask : ℕ) (o : Opt) (s : ℕ) → length stock ≤ 8 → IsOptionOf stock mask o
     → free_vars (image_of stock mask o s) ≡ tracks_of stock (without (is_live mask) o.taken)
 image_tracks stock mask o s few w =
     let number : IsNumber stock o.man = stock_number stock o.man w.man w.is.is_man in
-    let ne : o.man ≢ o.taken = option_untaken stock mask o.man o.ray o.taken w.man w.ray w.is in
+    let ne : o.man ≢ o.taken = option_untaken w.is in
     tracks_are (without (is_live mask) o.taken) (length stock) (image_of stock mask o s)
     (image_tree_in (length stock) mask o.man o.taken s (ray_at stock o.man o.ray) number.low number.high w.is.live ne)
-    (λ z is. image_free (length stock) mask o.man o.taken s (ray_at stock o.man o.ray) z few number.low number.high w.is.live is)
+    (λ z is. image_free mask o.man o.taken s (ray_at stock o.man o.ray) few number.low number.high w.is.live is)

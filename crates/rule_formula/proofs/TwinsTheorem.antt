@@ -61,16 +61,16 @@ record IsLiveMan (stock : List Man) (mask k : ℕ) : Type 0 where
   is_man : stock_man stock k ≡ Some man
   live : is_live mask k ≡ true
 
-live_man : (stock : List Man) (mask k : ℕ) → mask < 2 ^ length stock → IsLiveIn mask k → IsLiveMan stock mask k
-live_man stock mask k small h =
+live_man : (stock : List Man) {mask k : ℕ} → mask < 2 ^ length stock → IsLiveIn mask k → IsLiveMan stock mask k
+live_man stock {mask} {k} small h =
     let low : 0 < k = omega (arith, h.low) in
     let (m, is) = stock_has stock k low (not_past mask (length stock) k small h.live) in
     record { man = m; is_man = is; live = h.live }
 
-pub twins_means : (mask a b : ℕ) (s : ℕ) (t : Tree) → IsLiveIn mask a → IsLiveIn mask b → t ≡ twins_tree 8 mask a b s → (e : Sets) → TwinsHolds e mask a b s t
-twins_means mask a b s t first_in second_in told e stock turn v few small =
-    let first : IsLiveMan stock mask a = live_man stock mask a small first_in in
-    let second : IsLiveMan stock mask b = live_man stock mask b small second_in in
+pub twins_means : {mask a b : ℕ} (s : ℕ) (t : Tree) → IsLiveIn mask a → IsLiveIn mask b → t ≡ twins_tree 8 mask a b s → (e : Sets) → TwinsHolds e mask a b s t
+twins_means {mask} {a} {b} s t first_in second_in told e stock turn v few small =
+    let first : IsLiveMan stock mask a = live_man stock small first_in in
+    let second : IsLiveMan stock mask b = live_man stock small second_in in
     let tree : t ≡ twins_tree (length stock) mask a b s =
     told
     ∙ ap (λ xs. tree.And (tree.And (tree.Among s xs) (difference (own a).x (own b).x Eq (pos 0))) (difference (own a).y (own b).y Eq (pos 0))) (eight_vars mask (length stock) few small) in

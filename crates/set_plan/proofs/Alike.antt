@@ -46,8 +46,8 @@ entry-same {P} d e budget answer part at same h =
     let From : ℕ → Type 0 = λ n. PastStep (numbered e.part n e.item.sets (steps e.item.formula)) budget answer in
     subst From at (subst By part here)
 
-pub IsSetOf-same : (i j : Item) (s : SetOf) → SameItem i j → IsSetOf i s → IsSetOf j s
-IsSetOf-same i j s same is = record {
+pub IsSetOf-same : {i j : Item} {s : SetOf} → SameItem i j → IsSetOf i s → IsSetOf j s
+IsSetOf-same same is = record {
   same = λ tuple. (λ h. (same.members tuple).0 ((is.same tuple).0 h), λ h. (is.same tuple).1 ((same.members tuple).1 h));
 }
 
@@ -73,7 +73,7 @@ ends_alike {P} R (Compute d next) (Compute e more) budget xs a (part, at, item, 
     let (ys, b, takes, later, related) = ends_alike R (next s) (more s) budget rest a (go s s (SameSets-self s)) t back in (
       e ∷ ys,
       b,
-      inr (ys, s, refl, IsSetOf-same d.item e.item s item is, takes),
+      inr (ys, s, refl, IsSetOf-same item is, takes),
       PastStep-append (numbered e.part e.at e.item.sets (steps e.item.formula)) (all_steps ys) budget None
           (entry-same d e budget None part at item front) later,
       related,
@@ -92,8 +92,8 @@ ends_alike R (Compute d next) (Ask r or_yes or_no) budget xs a same t past = abs
 ends_alike R (Ask q if_yes if_no) (Give b) budget xs a same t past = absurd same
 ends_alike R (Ask q if_yes if_no) (Compute e more) budget xs a same t past = absurd same
 
-pub Ends-alike : {P A B : Type 0} (R : A → B → Type 0) (m : Program P A) (n : Program P B) (budget : ℕ) (a : A) → Alike R m n → Ends m budget a → (b : B) × Ends n budget b × R a b
-Ends-alike R m n budget a same h =
+pub Ends-alike : {P A B : Type 0} (R : A → B → Type 0) {m : Program P A} (n : Program P B) {budget : ℕ} {a : A} → Alike R m n → Ends m budget a → (b : B) × Ends n budget b × R a b
+Ends-alike R {m} n {budget} {a} same h =
     let (ys, b, takes, past, related) = ends_alike R m n budget h.entries a same h.takes h.past in
     (b, record { entries = ys; takes = takes; past = past }, related)
 
@@ -107,13 +107,13 @@ stops_alike {P} R (Compute d next) (Compute e more) budget xs name (part, at, it
     elim (PastStep-cases (numbered d.part d.at d.item.sets (steps d.item.formula)) (all_steps rest) budget name all) [
       | inl here ↦ (
         e ∷ [],
-        inr ([], s, refl, IsSetOf-same d.item e.item s item is, Takes-none (more s)),
+        inr ([], s, refl, IsSetOf-same item is, Takes-none (more s)),
         PastStep-over (numbered e.part e.at e.item.sets (steps e.item.formula)) [] budget name (entry-same d e budget (Some name) part at item here),
       )
       | inr (front, back) ↦
           let (ys, takes, later) = stops_alike R (next s) (more s) budget rest name (go s s (SameSets-self s)) t back in (
             e ∷ ys,
-            inr (ys, s, refl, IsSetOf-same d.item e.item s item is, takes),
+            inr (ys, s, refl, IsSetOf-same item is, takes),
             PastStep-append (numbered e.part e.at e.item.sets (steps e.item.formula)) (all_steps ys) budget (Some name) (entry-same d e budget None part at item front) later,
           )
     ]
@@ -131,7 +131,7 @@ stops_alike R (Compute d next) (Ask r or_yes or_no) budget xs name same t past =
 stops_alike R (Ask q if_yes if_no) (Give b) budget xs name same t past = absurd same
 stops_alike R (Ask q if_yes if_no) (Compute e more) budget xs name same t past = absurd same
 
-pub Stops-alike : {P A B : Type 0} (R : A → B → Type 0) (m : Program P A) (n : Program P B) (budget : ℕ) (name : StepName P) → Alike R m n → Stops m budget name → Stops n budget name
-Stops-alike R m n budget name same h =
+pub Stops-alike : {P A B : Type 0} (R : A → B → Type 0) {m : Program P A} (n : Program P B) {budget : ℕ} {name : StepName P} → Alike R m n → Stops m budget name → Stops n budget name
+Stops-alike R {m} n {budget} {name} same h =
     let (ys, takes, past) = stops_alike R m n budget h.entries name same h.takes h.past in
     record { entries = ys; takes = takes; past = past }

@@ -16,8 +16,8 @@ module _ {P A : Type 0} (question : Question) (if_yes if_no whole : Program P A)
   -- where the answer is yes, that way is left
   LeadsTo-yes : IsYes question → LeadsTo (Ask question if_yes if_no) whole budget → LeadsTo if_yes whole budget
   LeadsTo-yes is leads = record {
-    ends = λ v h. leads.ends v (Ends-ask_yes question if_yes if_no budget v is h);
-    stops = λ n h. leads.stops n (Stops-ask_yes question if_yes if_no budget n is h);
+    ends = λ v h. leads.ends v (Ends-ask_yes question if_yes if_no budget is h);
+    stops = λ n h. leads.stops n (Stops-ask_yes question if_yes if_no budget is h);
   }
 
 module _ {P : Type 0} (part : P) (budget at : ℕ) (item : Item) (items : List Item) (whole : Program P Bool) where
@@ -29,33 +29,33 @@ module _ {P : Type 0} (part : P) (budget at : ℕ) (item : Item) (items : List I
       → IsEmpty made.0 → LeadsTo (plan.are_empty part made.1 items) whole budget
   LeadsTo-empty made leads ends empty =
       LeadsTo-yes (Empty (made.0 ∷ [])) (plan.are_empty part made.1 items) (Give false) whole budget (inl empty)
-      (LeadsTo-later (plan.make part at item) next whole budget made ends leads)
+      (LeadsTo-later next ends leads)
 
   -- the next set is not empty
-  pub Ends-some : (made : plan.Made)
+  pub Ends-some : {made : plan.Made}
       → LeadsTo (plan.are_empty part at (item ∷ items)) whole budget → Ends (plan.make part at item) budget made
       → (IsEmpty made.0 → ⊥) → Ends whole budget false
-  Ends-some made leads ends some =
+  Ends-some {made} leads ends some =
       leads.ends false (Ends-bind (plan.make part at item) next budget made false ends
       (Ends-ask_no (Empty (made.0 ∷ [])) (plan.are_empty part made.1 items) (Give false) budget false (some, tt) (Ends-give budget false)))
 
   -- it is not made
   pub LeadsTo-not_made : (e : PlanError P) → LeadsTo (plan.are_empty part at (item ∷ items)) whole budget → IsPlanError (plan.make part at item) budget e → IsPlanError whole budget e
   LeadsTo-not_made e leads h =
-      LeadsTo-error (plan.are_empty part at (item ∷ items)) whole budget leads e (Error-bind (plan.make part at item) next budget e h)
+      LeadsTo-error leads e (Error-bind (plan.make part at item) next budget e h)
 
 -- how a question was answered
 module _ {P A : Type 0} (question : Question) (if_yes if_no : Program P A) (budget : ℕ) where
-  pub Ends-asked : (a : A) → Ends (Ask question if_yes if_no) budget a → (IsYes question × Ends if_yes budget a) ⊎ (IsNo question × Ends if_no budget a)
-  Ends-asked a h = by h.takes
+  pub Ends-asked : {a : A} → Ends (Ask question if_yes if_no) budget a → (IsYes question × Ends if_yes budget a) ⊎ (IsNo question × Ends if_no budget a)
+  Ends-asked {a} h = by h.takes
     where
       by : Takes (Ask question if_yes if_no) h.entries (Some a) → (IsYes question × Ends if_yes budget a) ⊎ (IsNo question × Ends if_no budget a)
       by (inl (e, o)) = none_some o
       by (inr (inl (is, t))) = inl (is, record { entries = h.entries; takes = t; past = h.past })
       by (inr (inr (is, t))) = inr (is, record { entries = h.entries; takes = t; past = h.past })
 
-  pub Stops-asked : (name : StepName P) → Stops (Ask question if_yes if_no) budget name → (IsYes question × Stops if_yes budget name) ⊎ (IsNo question × Stops if_no budget name)
-  Stops-asked name h = by h.takes
+  pub Stops-asked : {name : StepName P} → Stops (Ask question if_yes if_no) budget name → (IsYes question × Stops if_yes budget name) ⊎ (IsNo question × Stops if_no budget name)
+  Stops-asked {name} h = by h.takes
     where
       by : Takes (Ask question if_yes if_no) h.entries None → (IsYes question × Stops if_yes budget name) ⊎ (IsNo question × Stops if_no budget name)
       by (inl (e, o)) = none_some (subst (λ (l : List (Entry P)). Past l budget (Some name)) e h.past)
@@ -72,36 +72,36 @@ module _ {P : Type 0} (part : P) (budget : ℕ) where
 
   left_out : (at : ℕ) (j : Item) → IsLacking j → Ends (plan.make part at j) budget (Nothing, at)
   left_out at j lacks =
-      Ends-ask_yes (Empty (map j.sets (plan.positives j.formula))) (Give (Nothing, at)) (plan.compute part at j) budget (Nothing, at) lacks (Ends-give budget (Nothing, at))
+      Ends-ask_yes (Empty (map j.sets (plan.positives j.formula))) (Give (Nothing, at)) (plan.compute part at j) budget lacks (Ends-give budget (Nothing, at))
 
   pub Ends-thinned_empty : (is js : List Item) (at : ℕ) (b : Bool) → Thinned is js → Ends (plan.are_empty part at is) budget b → Ends (plan.are_empty part at js) budget b
   Ends-thinned_empty is [] at b e h = subst (λ (l : List Item). Ends (plan.are_empty part at l) budget b) e h
   Ends-thinned_empty is (j ∷ js) at b (inl (lacks, rest)) h =
       Ends-bind (plan.make part at j) (after js) budget (Nothing, at) b (left_out at j lacks)
-      (Ends-ask_yes (Empty (Nothing ∷ [])) (plan.are_empty part at js) (Give false) budget b (inl (λ tuple never. never)) (Ends-thinned_empty is js at b rest h))
+      (Ends-ask_yes (Empty (Nothing ∷ [])) (plan.are_empty part at js) (Give false) budget (inl (λ tuple never. never)) (Ends-thinned_empty is js at b rest h))
   Ends-thinned_empty is (j ∷ js) at b (inr (i, rest, e, same, thin)) h =
       let all : Ends (plan.are_empty part at (i ∷ rest)) budget b = subst (λ (l : List Item). Ends (plan.are_empty part at l) budget b) e h in
-      let (made, first, left) = Ends-split (plan.make part at i) (after rest) budget b all in
+      let (made, first, left) = Ends-split (plan.make part at i) (after rest) all in
       Ends-bind (plan.make part at j) (after js) budget made b (Ends-make_same part budget at i j made same first)
-      (elim (Ends-asked (Empty (made.0 ∷ [])) (plan.are_empty part made.1 rest) (Give false) budget b left) [
-        | inl (is_yes, more) ↦ Ends-ask_yes (Empty (made.0 ∷ [])) (plan.are_empty part made.1 js) (Give false) budget b is_yes (Ends-thinned_empty rest js made.1 b thin more)
+      (elim (Ends-asked (Empty (made.0 ∷ [])) (plan.are_empty part made.1 rest) (Give false) budget left) [
+        | inl (is_yes, more) ↦ Ends-ask_yes (Empty (made.0 ∷ [])) (plan.are_empty part made.1 js) (Give false) budget is_yes (Ends-thinned_empty rest js made.1 b thin more)
         | inr (is_no, given) ↦ Ends-ask_no (Empty (made.0 ∷ [])) (plan.are_empty part made.1 js) (Give false) budget b is_no given
       ])
 
   pub Stops-thinned_empty : (is js : List Item) (at : ℕ) (name : StepName P) → Thinned is js → Stops (plan.are_empty part at is) budget name → Stops (plan.are_empty part at js) budget name
   Stops-thinned_empty is [] at name e h = subst (λ (l : List Item). Stops (plan.are_empty part at l) budget name) e h
   Stops-thinned_empty is (j ∷ js) at name (inl (lacks, rest)) h =
-      Stops-bind_later (plan.make part at j) (after js) budget (Nothing, at) name (left_out at j lacks)
-      (Stops-ask_yes (Empty (Nothing ∷ [])) (plan.are_empty part at js) (Give false) budget name (inl (λ tuple never. never)) (Stops-thinned_empty is js at name rest h))
+      Stops-bind_later (plan.make part at j) (after js) budget {name = name} (left_out at j lacks)
+      (Stops-ask_yes (Empty (Nothing ∷ [])) (plan.are_empty part at js) (Give false) budget (inl (λ tuple never. never)) (Stops-thinned_empty is js at name rest h))
   Stops-thinned_empty is (j ∷ js) at name (inr (i, rest, e, same, thin)) h =
       let all : Stops (plan.are_empty part at (i ∷ rest)) budget name = subst (λ (l : List Item). Stops (plan.are_empty part at l) budget name) e h in
-      elim (Stops-split (plan.make part at i) (after rest) budget name all) [
-        | inl here ↦ Stops-bind (plan.make part at j) (after js) budget name (Stops-make_same part budget at i j name same here)
+      elim (Stops-split (plan.make part at i) (after rest) all) [
+        | inl here ↦ Stops-bind (plan.make part at j) (after js) budget (Stops-make_same part budget at i j name same here)
         | inr (made, first, left) ↦
-            Stops-bind_later (plan.make part at j) (after js) budget made name (Ends-make_same part budget at i j made same first)
-            (elim (Stops-asked (Empty (made.0 ∷ [])) (plan.are_empty part made.1 rest) (Give false) budget name left) [
-              | inl (is_yes, more) ↦ Stops-ask_yes (Empty (made.0 ∷ [])) (plan.are_empty part made.1 js) (Give false) budget name is_yes (Stops-thinned_empty rest js made.1 name thin more)
-              | inr (is_no, given) ↦ Stops-ask_no (Empty (made.0 ∷ [])) (plan.are_empty part made.1 js) (Give false) budget name is_no given
+            Stops-bind_later (plan.make part at j) (after js) budget {name = name} (Ends-make_same part budget at i j made same first)
+            (elim (Stops-asked (Empty (made.0 ∷ [])) (plan.are_empty part made.1 rest) (Give false) budget left) [
+              | inl (is_yes, more) ↦ Stops-ask_yes (Empty (made.0 ∷ [])) (plan.are_empty part made.1 js) (Give false) budget is_yes (Stops-thinned_empty rest js made.1 name thin more)
+              | inr (is_no, given) ↦ Stops-ask_no (Empty (made.0 ∷ [])) (plan.are_empty part made.1 js) (Give false) budget is_no given
             ])
       ]
 

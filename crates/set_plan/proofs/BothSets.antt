@@ -81,10 +81,10 @@ module _ (tracks : List Var) (a b : Automaton) (left : DecidesOn tracks a) (righ
       subst (λ (t : List Var). length t ≤ 20) (sym whole) few
 
   first : Decides a (Among 0 tracks) (members (two (Table a) (Table b)))
-  first = Decides-among (two (Table a) (Table b)) 0 tracks a refl left.integers ascending left.tracks_are
+  first = Decides-among (two (Table a) (Table b)) 0 tracks refl left.integers ascending left.tracks_are
 
   second : Decides b (Among 1 tracks) (members (two (Table a) (Table b)))
-  second = Decides-among (two (Table a) (Table b)) 1 tracks b refl right.integers (subst IsAscending (sym right.tracks_are) ordered) right.tracks_are
+  second = Decides-among (two (Table a) (Table b)) 1 tracks refl right.integers (subst IsAscending (sym right.tracks_are) ordered) right.tracks_are
 
   over-tracks : with_vars (with_vars tracks []) (with_vars tracks []) ≡ tracks
   over-tracks =
@@ -129,7 +129,7 @@ module _ (tracks : List Var) (a b : Automaton) (left : DecidesOn tracks a) (righ
     pub both-set : IsReduced r → (budget : ℕ) → budget ≤ 200000 → (BothSpreadExceeds a.tracks b.tracks (Accepts a) (Accepts b) budget → ⊥) → IsSetOn tracks r
     both-set reduced budget high within =
         let states =
-        few_states (members (two (Table a) (Table b))) budget (names connective tracks) r 1 (some_step connective tracks) decided reduced
+        few_states (members (two (Table a) (Table b))) budget 1 (some_step connective tracks) decided reduced
         (none-over connective budget (λ over. within ((both-exceeds connective budget).1 over))) in
         record { reduced = reduced; decides = decides-on; few = omega (arith, states, high) }
 

@@ -78,8 +78,8 @@ SameItems [] (j ∷ js) = ⊥
 SameItems (i ∷ is) [] = ⊥
 SameItems (i ∷ is) (j ∷ js) = SameItem i j × SameItems is js
 
-with_item-alike : {P : Type 0} (tracks : List Var) (part : P) (m n : Made) (i j : Item) → SameMade m n → SameItem i j → Alike SameMade (with_item tracks part i m) (with_item tracks part j n)
-with_item-alike tracks part m n i j same item =
+with_item-alike : {P : Type 0} (tracks : List Var) (part : P) {m n : Made} {i j : Item} → SameMade m n → SameItem i j → Alike SameMade (with_item tracks part i m) (with_item tracks part j n)
+with_item-alike tracks part {m} {n} {i} {j} same item =
     let At : ℕ → Type 0 = λ k. Alike SameMade (with_item tracks part i m) (with_item tracks part j (n.0, k)) in
     subst At same.at
     (bind-alike SameMade SameMade (make part m.1 i) (make part m.1 j) (join tracks part m.0) (join tracks part n.0)
@@ -91,7 +91,7 @@ unite-alike tracks part m n [] (j ∷ js) same items = absurd items
 unite-alike tracks part m n (i ∷ is) [] same items = absurd items
 unite-alike tracks part m n (i ∷ is) (j ∷ js) same (item, items) =
     bind-alike SameMade SameMade (with_item tracks part i m) (with_item tracks part j n) (each is (with_item tracks part)) (each js (with_item tracks part))
-    (with_item-alike tracks part m n i j same item) (λ c d more. unite-alike tracks part c d is js more items)
+    (with_item-alike tracks part same item) (λ c d more. unite-alike tracks part c d is js more items)
 
 pub without-alike : {P : Type 0} (tracks : List Var) (part : P) (s t u v : SetOf) → SameSets s t → SameSets u v → Alike SameMade (without tracks part s u) (without tracks part t v)
 without-alike tracks part s t u v first second = (

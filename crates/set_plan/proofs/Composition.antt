@@ -94,16 +94,16 @@ module _ {P A B : Type 0} (m : Program P A) (f : A → Program P B) (budget : �
   }
 
   -- the first passes the budget
-  pub Stops-bind : (name : StepName P) → Stops m budget name → Stops (bind m f) budget name
-  Stops-bind name h = record {
+  pub Stops-bind : {name : StepName P} → Stops m budget name → Stops (bind m f) budget name
+  Stops-bind h = record {
     entries = h.entries;
     takes = Takes-bind_cut m f h.entries h.takes;
     past = h.past;
   }
 
   -- the first comes to its end, and the second passes the budget
-  pub Stops-bind_later : (a : A) (name : StepName P) → Ends m budget a → Stops (f a) budget name → Stops (bind m f) budget name
-  Stops-bind_later a name h k = record {
+  pub Stops-bind_later : {a : A} {name : StepName P} → Ends m budget a → Stops (f a) budget name → Stops (bind m f) budget name
+  Stops-bind_later {a} {name} h k = record {
     entries = h.entries ++ k.entries;
     takes = Takes-bind m f h.entries k.entries a None h.takes k.takes;
     past = rw (all_steps-append h.entries k.entries) (PastStep-append (all_steps h.entries) (all_steps k.entries) budget (Some name) h.past k.past);
@@ -114,17 +114,17 @@ pub Ends-give : {P A : Type 0} (budget : ℕ) (a : A) → Ends {P = P} (Give a) 
 Ends-give budget a = record { entries = []; takes = (refl, inl refl); past = refl }
 
 module _ {P A : Type 0} (question : Question) (if_yes if_no : Program P A) (budget : ℕ) where
-  pub Ends-ask_yes : (a : A) → IsYes question → Ends if_yes budget a → Ends (Ask question if_yes if_no) budget a
-  Ends-ask_yes a is h = record { entries = h.entries; takes = inr (inl (is, h.takes)); past = h.past }
+  pub Ends-ask_yes : {a : A} → IsYes question → Ends if_yes budget a → Ends (Ask question if_yes if_no) budget a
+  Ends-ask_yes is h = record { entries = h.entries; takes = inr (inl (is, h.takes)); past = h.past }
 
   pub Ends-ask_no : (a : A) → IsNo question → Ends if_no budget a → Ends (Ask question if_yes if_no) budget a
   Ends-ask_no a is h = record { entries = h.entries; takes = inr (inr (is, h.takes)); past = h.past }
 
-  pub Stops-ask_yes : (name : StepName P) → IsYes question → Stops if_yes budget name → Stops (Ask question if_yes if_no) budget name
-  Stops-ask_yes name is h = record { entries = h.entries; takes = inr (inl (is, h.takes)); past = h.past }
+  pub Stops-ask_yes : {name : StepName P} → IsYes question → Stops if_yes budget name → Stops (Ask question if_yes if_no) budget name
+  Stops-ask_yes is h = record { entries = h.entries; takes = inr (inl (is, h.takes)); past = h.past }
 
-  pub Stops-ask_no : (name : StepName P) → IsNo question → Stops if_no budget name → Stops (Ask question if_yes if_no) budget name
-  Stops-ask_no name is h = record { entries = h.entries; takes = inr (inr (is, h.takes)); past = h.past }
+  pub Stops-ask_no : {name : StepName P} → IsNo question → Stops if_no budget name → Stops (Ask question if_yes if_no) budget name
+  Stops-ask_no is h = record { entries = h.entries; takes = inr (inr (is, h.takes)); past = h.past }
 
 -- what is said of the steps of one formula is Past of its entry
 pub Past-numbered : {P : Type 0} (part : P) (at from : ℕ) (e : ℕ → SetOf) (fs : List Tree) (budget : ℕ)
@@ -154,9 +154,9 @@ Past-numbered_over {P} part at from e (f ∷ fs) budget k h =
     ]
 
 module _ {P A : Type 0} (entry : Entry P) (next : SetOf → Program P A) (budget : ℕ) where
-  pub Ends-compute : (s : SetOf) (a : A) → IsSetOf entry.item s → FirstOver (steps entry.item.formula) (members entry.item.sets) budget 1 None
+  pub Ends-compute : {s : SetOf} {a : A} → IsSetOf entry.item s → FirstOver (steps entry.item.formula) (members entry.item.sets) budget 1 None
       → Ends (next s) budget a → Ends (Compute entry next) budget a
-  Ends-compute s a is within h = record {
+  Ends-compute {s} is within h = record {
     entries = entry ∷ h.entries;
     takes = inr (h.entries, s, refl, is, h.takes);
     past =
@@ -177,20 +177,20 @@ module _ {P A : Type 0} (entry : Entry P) (next : SetOf → Program P A) (budget
 
 -- an error of the first program is one of both
 pub Error-bind : {P A B : Type 0} (m : Program P A) (f : A → Program P B) (budget : ℕ) (e : PlanError P) → IsPlanError m budget e → IsPlanError (bind m f) budget e
-Error-bind m f budget (plan_error.Over name) h = Stops-bind m f budget name h
+Error-bind m f budget (plan_error.Over name) h = Stops-bind m f budget h
 Error-bind m f budget plan_error.Memory h = tt
 
 -- where the first program has come to its end, so is one of the second
-pub Error-later : {P A B : Type 0} (m : Program P A) (f : A → Program P B) (budget : ℕ) (a : A)
+pub Error-later : {P A B : Type 0} {m : Program P A} (f : A → Program P B) (budget : ℕ) (a : A)
     → Ends m budget a → (e : PlanError P) → IsPlanError (f a) budget e → IsPlanError (bind m f) budget e
-Error-later m f budget a ends (plan_error.Over name) h = Stops-bind_later m f budget a name ends h
-Error-later m f budget a ends plan_error.Memory h = tt
+Error-later {m} f budget a ends (plan_error.Over name) h = Stops-bind_later m f budget ends h
+Error-later f budget a ends plan_error.Memory h = tt
 
 -- where the first program has come to its end, what the second answers is answered
 pub Answers-later : {P A B R : Type 0} (m : Program P A) (f : A → Program P B) (budget : ℕ) (view : R → B) (a : A) → Ends m budget a
     → (r : Result R (PlanError P)) → Answers (f a) budget view r → Answers (bind m f) budget view r
 Answers-later m f budget view a ends (Ok r) h = Ends-bind m f budget a (view r) ends h
-Answers-later m f budget view a ends (Err e) h = Error-later m f budget a ends e h
+Answers-later m f budget view a ends (Err e) h = Error-later f budget a ends e h
 
 -- what is left of a program leads to the end of the whole
 pub record LeadsTo {P A : Type 0} (left whole : Program P A) (budget : ℕ) : Type 0 where
@@ -201,17 +201,17 @@ pub LeadsTo-self : {P A : Type 0} (m : Program P A) (budget : ℕ) → LeadsTo m
 LeadsTo-self m budget = record { ends = λ v h. h; stops = λ n h. h }
 
 -- where the first of two programs that are left has come to its end, the second is left
-pub LeadsTo-later : {P A B : Type 0} (m : Program P A) (f : A → Program P B) (whole : Program P B) (budget : ℕ) (a : A)
+pub LeadsTo-later : {P A B : Type 0} {m : Program P A} (f : A → Program P B) {whole : Program P B} {budget : ℕ} {a : A}
     → Ends m budget a → LeadsTo (bind m f) whole budget → LeadsTo (f a) whole budget
-LeadsTo-later m f whole budget a ends leads = record {
+LeadsTo-later {m} f {budget} {a} ends leads = record {
   ends = λ v h. leads.ends v (Ends-bind m f budget a v ends h);
-  stops = λ n h. leads.stops n (Stops-bind_later m f budget a n ends h);
+  stops = λ n h. leads.stops n (Stops-bind_later m f budget ends h);
 }
 
 -- an error in what is left is one of the whole
-pub LeadsTo-error : {P A : Type 0} (left whole : Program P A) (budget : ℕ) → LeadsTo left whole budget → (e : PlanError P) → IsPlanError left budget e → IsPlanError whole budget e
-LeadsTo-error left whole budget leads (plan_error.Over name) h = leads.stops name h
-LeadsTo-error left whole budget leads plan_error.Memory h = tt
+pub LeadsTo-error : {P A : Type 0} {left whole : Program P A} {budget : ℕ} → LeadsTo left whole budget → (e : PlanError P) → IsPlanError left budget e → IsPlanError whole budget e
+LeadsTo-error leads (plan_error.Over name) h = leads.stops name h
+LeadsTo-error leads plan_error.Memory h = tt
 
 -- programs in a row may be taken together from the left or from the right
 pub bind-assoc : {P A B C : Type 0} (m : Program P A) (f : A → Program P B) (g : B → Program P C) → bind (bind m f) g ≡ bind m (λ a. bind (f a) g)
@@ -242,16 +242,16 @@ Takes-split (Ask question if_yes if_no) f zs b h =
     ]
 
 -- where both come to their end within the budget, so does each
-pub Ends-split : {P A B : Type 0} (m : Program P A) (f : A → Program P B) (budget : ℕ) (b : B) → Ends (bind m f) budget b → (a : A) × Ends m budget a × Ends (f a) budget b
-Ends-split {P} m f budget b h =
+pub Ends-split : {P A B : Type 0} (m : Program P A) (f : A → Program P B) {budget : ℕ} {b : B} → Ends (bind m f) budget b → (a : A) × Ends m budget a × Ends (f a) budget b
+Ends-split {P} m f {budget} {b} h =
     let (xs, ys, a, whole, first, second) = Takes-split m f h.entries b h.takes in
     let cut = ap all_steps whole ∙ all_steps-append xs ys in
     let past : PastStep (all_steps xs ++ all_steps ys) budget None = subst (λ (steps : List (Step P)). PastStep steps budget None) cut h.past in
     let (front, back) = PastStep-split (all_steps xs) (all_steps ys) budget past in
     (a, record { entries = xs; takes = first; past = front }, record { entries = ys; takes = second; past = back })
 
-pub Ends-give_is : {P A : Type 0} (a b : A) (budget : ℕ) → Ends {P = P} (Give a) budget b → b ≡ a
-Ends-give_is a b budget h = elim h.takes.1 [ inl e ↦ (cc) | inr e ↦ none_some e ]
+pub Ends-give_is : {P A : Type 0} (a : A) {b : A} {budget : ℕ} → Ends {P = P} (Give a) budget b → b ≡ a
+Ends-give_is a h = elim h.takes.1 [ inl e ↦ (cc) | inr e ↦ none_some e ]
 
 -- what a program has taken when it stops is taken by the first, or by the whole of the first and then by the second
 pub Takes-split_cut : {P A B : Type 0} (m : Program P A) (f : A → Program P B) (zs : List (Entry P)) → Takes (bind m f) zs None
@@ -306,9 +306,9 @@ PastStep-cases (x ∷ xs) ys budget name (inr (within, rest)) =
     ]
 
 -- two programs stop where the first stops, or where it comes to its end and the second stops
-pub Stops-split : {P A B : Type 0} (m : Program P A) (f : A → Program P B) (budget : ℕ) (name : StepName P) → Stops (bind m f) budget name
+pub Stops-split : {P A B : Type 0} (m : Program P A) (f : A → Program P B) {budget : ℕ} {name : StepName P} → Stops (bind m f) budget name
     → Stops m budget name ⊎ ((a : A) × Ends m budget a × Stops (f a) budget name)
-Stops-split {P} m f budget name h =
+Stops-split {P} m f {budget} {name} h =
     elim (Takes-split_cut m f h.entries h.takes) [
       | inl t ↦ inl (record { entries = h.entries; takes = t; past = h.past })
       | inr (xs, ys, a, whole, first, second) ↦

@@ -28,12 +28,12 @@ pub record StandsAt (vars : List Var) (v : Values) (x : Var) : Type 0 where
   pub within : place vars x < length vars
   pub value : slice_index_or (values_at vars v) (place vars x) (pos 0) ≡ v x.0
 
-stands_in : (y : Var) (ys : List Var) (v : Values) (x : Var) → Cases x y → IsOneOf x (y ∷ ys) → (IsOneOf x ys → StandsAt ys v x) → StandsAt (y ∷ ys) v x
-stands_in y ys v x (Same is) h rest =
+stands_in : {y : Var} (ys : List Var) (v : Values) {x : Var} → Cases x y → IsOneOf x (y ∷ ys) → (IsOneOf x ys → StandsAt ys v x) → StandsAt (y ∷ ys) v x
+stands_in {y} ys v {x} (Same is) h rest =
     let here : place (y ∷ ys) x ≡ 0 = place-here x y ys is in
     let At : ℕ → Type 0 = λ k. slice_index_or (values_at (y ∷ ys) v) k (pos 0) ≡ v x.0 in
     record { within = omega (arith, here); value = subst At (sym here) (ap (λ (z : Var). v z.0) (sym is)) }
-stands_in y ys v x (Other other) h rest =
+stands_in {y} ys v {x} (Other other) h rest =
     let later : place (y ∷ ys) x ≡ suc (place ys x) = place-later x y ys other in
     let there : StandsAt ys v x = rest (elim h [ inl is ↦ absurd (other is) | inr k ↦ k ]) in
     let At : ℕ → Type 0 = λ k. slice_index_or (values_at (y ∷ ys) v) k (pos 0) ≡ v x.0 in
@@ -41,7 +41,7 @@ stands_in y ys v x (Other other) h rest =
 
 stands_at : (vars : List Var) (v : Values) (x : Var) → IsOneOf x vars → StandsAt vars v x
 stands_at [] v x h = absurd h
-stands_at (y ∷ ys) v x h = stands_in y ys v x (cases_of x y) h (λ k. stands_at ys v x k)
+stands_at (y ∷ ys) v x h = stands_in ys v (cases_of x y) h (λ k. stands_at ys v x k)
 
 length-values : (vars : List Var) (v : Values) → length (values_at vars v) ≡ length vars
 length-values [] v = refl
@@ -99,7 +99,7 @@ module _ (f : Tree) (e : ℕ → SetOf) (a : Automaton) (decides : Decides a f (
   DecidesIntegers-decides = record {
     stable = λ word is.
         let here : IsWord (length (free_vars f)) word = subst (λ (t : List Var). IsWord (length t) word) decides.tracks is in
-        let more : IsWord (length (free_vars f)) (repeat_first word) = IsWord-again (length (free_vars f)) word here in
+        let more : IsWord (length (free_vars f)) (repeat_first word) = IsWord-again here in
         let w = decides.words word here in
         let r = decides.words (repeat_first word) more in
         let forth : Says f (members e) word → Says f (members e) (repeat_first word) =
@@ -124,15 +124,15 @@ pub with_vars-ascending : (tracks : List Var) → IsAscending tracks → with_va
 with_vars-ascending tracks h = with_vars-pairs tracks (AllPairs-from_increasing (map (λ v. v.0) tracks) h)
 
 -- an automaton that decides a set of integers decides that its tracks are in the set
-pub Decides-among : (e : ℕ → SetOf) (number : ℕ) (tracks : List Var) (a : Automaton) → e number ≡ Table a → DecidesIntegers a → IsAscending a.tracks
+pub Decides-among : (e : ℕ → SetOf) (number : ℕ) (tracks : List Var) {a : Automaton} → e number ≡ Table a → DecidesIntegers a → IsAscending a.tracks
     → a.tracks ≡ tracks → Decides a (Among number tracks) (members e)
-Decides-among e number tracks a is integers ascending same =
+Decides-among e number tracks {a} is integers ascending same =
     let ordered : with_vars tracks [] ≡ tracks = subst (λ (t : List Var). with_vars t [] ≡ t) same (with_vars-ascending a.tracks ascending) in
     record {
       tracks = same ∙ sym ordered;
       words = λ word is_word.
           let there : IsWord (length a.tracks) word = subst (λ (t : List Var). IsWord (length t) word) (ordered ∙ sym same) is_word in
-          let accepts = accepted-values a word integers (apart-ascending a.tracks ascending) there in
+          let accepts = accepted-values integers (apart-ascending a.tracks ascending) there in
           let own : values_at a.tracks (word_values a.tracks word) ≡ values_at tracks (word_values (with_vars tracks []) word) =
           ap (λ (t : List Var). values_at t (word_values a.tracks word)) same ∙ ap (λ (t : List Var). values_at tracks (word_values t word)) (same ∙ sym ordered) in
           let At : SetOf → Type 0 = λ s. Member s (values_at tracks (word_values (with_vars tracks []) word)) in (

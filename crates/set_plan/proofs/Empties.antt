@@ -30,13 +30,13 @@ none-both e [] ys h k = k
 none-both e (x ∷ xs) ys h k = (h.0, none-both e xs ys h.1 k)
 
 -- the set of a name that a formula uses
-pub named-reached : (sets : List Automaton) (number size : ℕ) (a : Automaton) → IsSetFor sets number size → slice_get sets number ≡ Some a → AllReached a
-named-reached sets number size a fits e =
+pub named-reached : {sets : List Automaton} {number size : ℕ} (a : Automaton) → IsSetFor sets number size → slice_get sets number ≡ Some a → AllReached a
+named-reached a fits e =
     let same : fits.set ≡ a = cc (fits.is_there, e) in
     subst AllReached same fits.reached
 
-pub set-there : (sets : List Automaton) (number size : ℕ) → IsSetFor sets number size → length sets ≤ number → ⊥
-set-there sets number size fits past =
+pub set-there : {sets : List Automaton} {number size : ℕ} → IsSetFor sets number size → length sets ≤ number → ⊥
+set-there {sets} {number} fits past =
     let none : slice_get sets number ≡ None = slice_get_past sets number past in
     let never : Some fits.set ≡ None = sym fits.is_there ∙ none in
     (cc)

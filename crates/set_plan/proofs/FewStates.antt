@@ -45,9 +45,9 @@ module _ (a : Automaton) (reduced : IsReduced a) where
       }
 
   -- words with one residual don't lead to two states
-  one_state : (v w : List ℕ) → IsWord (length a.tracks) v → IsWord (length a.tracks) w → state_of a v < length a.accept
+  one_state : {v : List ℕ} (w : List ℕ) → IsWord (length a.tracks) v → IsWord (length a.tracks) w → state_of a v < length a.accept
       → state_of a w < length a.accept → state_of a v ≢ state_of a w → SameResidual (length a.tracks) (Accepts a) v w → ⊥
-  one_state v w is_v is_w within_v within_w other alike =
+  one_state {v} w is_v is_w within_v within_w other alike =
       let apart = reduced.apart (state_of a v) (state_of a w) within_v within_w other in
       let flags = same_flag _ _ (alike.same apart.letters apart.are_letters) in
       apart.differ (ap (is_final a) (sym (state_of-append a v apart.letters is_v.nonempty)) ∙ flags ∙ ap (is_final a) (state_of-append a w apart.letters is_w.nonempty))
@@ -64,7 +64,7 @@ module _ (a : Automaton) (reduced : IsReduced a) where
             let many = states.many in
             let first = states.lead i d (omega arith) in
             let second = states.lead j d (omega arith) in
-            one_state (slice_index_or states.words i d) (slice_index_or states.words j d) (states.are_words i d (omega arith))
+            one_state (slice_index_or states.words j d) (states.are_words i d (omega arith))
             (states.are_words j d within) (omega arith) (omega arith) (λ e. omega arith);
       }
 
@@ -98,7 +98,7 @@ module _ (e : Sets) (budget : ℕ) where
   unfolding Exceeds
   exceeds-Ex x g many =
       more_classes (length (without_var x (free_vars g))) (SameResidual (length (without_var x (free_vars g))) (Says (Ex x g) e))
-      (AlikeLifted (without_var x (free_vars g)) (free_vars g) (Says g e)) budget (λ v w is_v is_w alike. alike-Ex e x g v w is_v is_w alike) many
+      (AlikeLifted (without_var x (free_vars g)) (free_vars g) (Says g e)) budget (λ v w is_v is_w alike. alike-Ex e x g is_v is_w alike) many
 
   few_classes : (f : Tree) (from : ℕ) → 0 < length (steps f) → FirstOver (steps f) e budget from None → Many f → ⊥
   few_classes (Lin terms rel bound) from some within many = absurd (omega arith)
@@ -112,14 +112,14 @@ module _ (e : Sets) (budget : ℕ) where
   few_classes (Or f g) from some within many = last_of_two (steps f) (steps g) (Or f g) e budget from within (exceeds-Or f g many)
   few_classes (Ex x g) from some within many = last_within (steps g) (Ex x g) e budget from within (exceeds-Ex x g many)
 
-  pub few_states : (f : Tree) (a : Automaton) (from : ℕ) → 0 < length (steps f) → Decides a f e → IsReduced a → FirstOver (steps f) e budget from None → length a.accept ≤ budget
-  few_states f a from some decides reduced within =
+  pub few_states : {f : Tree} {a : Automaton} (from : ℕ) → 0 < length (steps f) → Decides a f e → IsReduced a → FirstOver (steps f) e budget from None → length a.accept ≤ budget
+  few_states {f} {a} from some decides reduced within =
       elim (cases_lt budget (length a.accept)) [
         | inl more ↦
             let At : List Var → Type 0 = λ t. HasMoreClasses (length t) (SameResidual (length t) (Accepts a)) budget in
             let there = subst At decides.tracks (residuals a reduced budget more) in
             let many = more_classes (length (free_vars f)) (SameResidual (length (free_vars f)) (Accepts a)) (SameResidual (length (free_vars f)) (Says f e)) budget
-            (λ v w is_v is_w alike. SameResidual-same (length (free_vars f)) (Accepts a) (Says f e) v w decides.words is_v is_w alike) there in
+            (λ v w is_v is_w alike. SameResidual-same (Accepts a) decides.words is_v is_w alike) there in
             absurd (few_classes f from some within many)
         | inr few ↦ few
       ]

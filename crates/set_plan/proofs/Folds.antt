@@ -29,11 +29,11 @@ module _ {P A X : Type 0} (xs : List X) (f : X → A → Program P A) (first : A
         subst Left (drop_front xs done x less is) leads
 
     pub each_more : (b : A) → Ends (f x a) budget b → IsAfter (done + 1) b
-    each_more b ends = LeadsTo-later (f x a) (each (drop (done + 1) xs) f) (each xs f first) budget b ends here
+    each_more b ends = LeadsTo-later (each (drop (done + 1) xs) f) ends here
 
     pub each_error : (e : PlanError P) → IsPlanError (f x a) budget e → IsPlanError (each xs f first) budget e
     each_error e error =
-        LeadsTo-error (each (x ∷ drop (done + 1) xs) f a) (each xs f first) budget here e
+        LeadsTo-error here e
         (Error-bind (f x a) (each (drop (done + 1) xs) f) budget e error)
 
 -- over the images of some elements

@@ -31,8 +31,8 @@ made_on tracks f some over (Some a) is = record {
 }
 
 -- words lead to each state of a set
-pub reached_on : (tracks : List Var) (a : Automaton) → IsSetOn tracks a → IsReachedOn tracks a
-reached_on tracks a on = record { reached = on.reduced.reached; decides = on.decides; few = on.few }
+pub reached_on : {tracks : List Var} {a : Automaton} → IsSetOn tracks a → IsReachedOn tracks a
+reached_on on = record { reached = on.reduced.reached; decides = on.decides; few = on.few }
 
 -- over its own variables
 pub item-own : (tracks : List Var) (sets : List Automaton) (f : Tree) → IsItemOn tracks sets f → IsItemOn (free_vars f) sets f

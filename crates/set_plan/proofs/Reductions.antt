@@ -18,8 +18,8 @@ use Rattle.set_plan.proofs.Combined.{two-same}
 use Rattle.set_plan.proofs.SameSets.{Exceeds-same, SameItem-sets}
 
 module _ (a r : Automaton) (tracks : r.tracks ≡ a.tracks) (words : (word : List ℕ) → IsWord (length a.tracks) word → Accepts r word ↔ Accepts a word) where
-  over : (word : List ℕ) → IsWord (length r.tracks) word → IsWord (length a.tracks) word
-  over word is = subst (λ (t : List Var). IsWord (length t) word) tracks is
+  over : {word : List ℕ} → IsWord (length r.tracks) word → IsWord (length a.tracks) word
+  over {word} is = subst (λ (t : List Var). IsWord (length t) word) tracks is
 
   same-table : SameSets (Table a) (Table r)
   same-table tuple = (
@@ -31,18 +31,18 @@ module _ (a r : Automaton) (tracks : r.tracks ≡ a.tracks) (words : (word : Lis
     },
     λ h. record {
       word = h.word;
-      is_word = over h.word h.is_word;
+      is_word = over h.is_word;
       values = subst (λ (t : List Var). values_at t (word_values t h.word) ≡ tuple) tracks h.values;
-      accepts = (words h.word (over h.word h.is_word)).0 h.accepts;
+      accepts = (words h.word (over h.is_word)).0 h.accepts;
     },
   )
 
   integers-same : DecidesIntegers a → DecidesIntegers r
   integers-same decides = record {
     stable = λ word is.
-        let once = words word (over word is) in
-        let twice = words (repeat_first word) (IsWord-again (length a.tracks) word (over word is)) in
-        let same = decides.stable word (over word is) in
+        let once = words word (over is) in
+        let twice = words (repeat_first word) (IsWord-again (over is)) in
+        let same = decides.stable word (over is) in
         (λ h. twice.1 (same.0 (once.0 h)), λ h. once.1 (same.1 (twice.0 h)));
   }
 
@@ -68,7 +68,7 @@ module _ (tracks : List Var) (a b left right : Automaton) (one : IsReductionOf a
   same-either = SameItem-sets (Or (Among 0 tracks) (Among 1 tracks)) (two (Table left) (Table right)) (two (Table a) (Table b)) same-two
 
   pub either-of_reduced : (s : SetOf) → IsSetOf (either tracks (Table left) (Table right)) s → IsSetOf (either tracks (Table a) (Table b)) s
-  either-of_reduced s is = IsSetOf-same (either tracks (Table left) (Table right)) (either tracks (Table a) (Table b)) s same-either is
+  either-of_reduced s is = IsSetOf-same same-either is
 
   pub exceeds-of_reduced : (budget : ℕ)
       → LastExceeds (either tracks (Table left) (Table right)) budget ↔ LastExceeds (either tracks (Table a) (Table b)) budget

@@ -25,27 +25,27 @@ module _ {P : Type 0} (budget : ℕ) where
       ⊎ ((t : SetOf) → SameSets made.0 t → Ends (f so_far) budget (t, made.1))
 
   module _ {X : Type 0} (f : X → plan.Made → Program P plan.Made) (step : (x : X) (so_far made : plan.Made) → Ends (f x so_far) budget made → Renews (f x) so_far made) where
-    both : (x : X) (xs : List X) (so_far next made : plan.Made)
+    both : (x : X) (xs : List X) (so_far : plan.Made) {next : plan.Made} (made : plan.Made)
         → Ends (f x so_far) budget next → Renews (f x) so_far next → Renews (each xs f) next made
         → Renews (each (x ∷ xs) f) so_far made
-    both x xs so_far next made first (inl (same, any)) (inl (more, all)) =
+    both x xs so_far {next} made first (inl (same, any)) (inl (more, all)) =
         inl (more ∙ same, λ t. Ends-bind (f x (t, so_far.1)) (each xs f) budget (t, next.1) (t, made.1) (any t) (all t))
-    both x xs so_far next made first (inr any) (inl (more, all)) =
+    both x xs so_far {next} made first (inr any) (inl (more, all)) =
         inr (λ t like. Ends-bind (f x so_far) (each xs f) budget (t, next.1) (t, made.1) (any t (subst (λ (s : SetOf). SameSets s t) more like)) (all t))
-    both x xs so_far next made first here (inr any) = inr (λ t like. Ends-bind (f x so_far) (each xs f) budget next (t, made.1) first (any t like))
+    both x xs so_far {next} made first here (inr any) = inr (λ t like. Ends-bind (f x so_far) (each xs f) budget next (t, made.1) first (any t like))
 
     each-renews : (xs : List X) (so_far made : plan.Made) → Ends (each xs f so_far) budget made → Renews (each xs f) so_far made
     each-renews [] so_far made h =
-        let is = Ends-give_is so_far made budget h in
+        let is = Ends-give_is so_far h in
         let count = sym (ap (λ (m : plan.Made). m.1) is) in
         inl (ap (λ (m : plan.Made). m.0) is, λ t. subst (λ (n : ℕ). Ends {P = P} {A = plan.Made} (Give (t, so_far.1)) budget (t, n)) count (Ends-give budget (t, so_far.1)))
     each-renews (x ∷ xs) so_far made h =
-        let (next, first, rest) = Ends-split (f x so_far) (each xs f) budget made h in
-        both x xs so_far next made first (step x so_far next first) (each-renews xs next made rest)
+        let (next, first, rest) = Ends-split (f x so_far) (each xs f) h in
+        both x xs so_far made first (step x so_far next first) (each-renews xs next made rest)
 
   module _ (part : P) (at : ℕ) (item : Item) (made : plan.Made) (t : SetOf) (like : SameSets made.0 t) where
-    renewed : (s : SetOf) → made.0 ≡ s → IsSetOf item s → IsSetOf item t
-    renewed s same is = record {
+    renewed : {s : SetOf} → made.0 ≡ s → IsSetOf item s → IsSetOf item t
+    renewed same is = record {
       same = λ tuple.
           let here = subst (λ (u : SetOf). SameSets u t) same like tuple in
           let there = is.same tuple in
@@ -61,16 +61,16 @@ module _ {P : Type 0} (budget : ℕ) where
             let value : made ≡ (s, at + length (steps item.formula)) = cc in
             record {
               entries = h.entries;
-              takes = inr (rest, t, whole, renewed s (ap (λ (m : plan.Made). m.0) value) is, (none, inl (ap (λ (n : ℕ). Some (t, n)) (ap (λ (m : plan.Made). m.1) value))));
+              takes = inr (rest, t, whole, renewed (ap (λ (m : plan.Made). m.0) value) is, (none, inl (ap (λ (n : ℕ). Some (t, n)) (ap (λ (m : plan.Made). m.1) value))));
               past = h.past;
             }
         by (inr (rest, s, whole, is, (none, inr end))) = none_some end
 
     make-renews : (made.0 ≡ Nothing → ⊥) → Ends (plan.make part at item) budget made → Ends (plan.make part at item) budget (t, made.1)
     make-renews some h =
-        elim (Ends-asked (Empty (map item.sets (plan.positives item.formula))) (Give (Nothing, at)) (plan.compute part at item) budget made h) [
+        elim (Ends-asked (Empty (map item.sets (plan.positives item.formula))) (Give (Nothing, at)) (plan.compute part at item) budget h) [
           | inl (empty, gives) ↦
-              let nothing : made.0 ≡ Nothing = ap (λ (m : plan.Made). m.0) (Ends-give_is (Nothing, at) made budget gives) in
+              let nothing : made.0 ≡ Nothing = ap (λ (m : plan.Made). m.0) (Ends-give_is (Nothing, at) gives) in
               absurd (some nothing)
           | inr (none, computes) ↦
               Ends-ask_no (Empty (map item.sets (plan.positives item.formula))) (Give (Nothing, at)) (plan.compute part at item) budget
@@ -98,12 +98,12 @@ module _ {P : Type 0} (budget : ℕ) where
     each-renewed : (x : X) (xs : List X) (so_far : plan.Made) (at : ℕ) (a r : Automaton) → SameSets (Table a) (Table r)
         → Ends (each (x ∷ xs) remake so_far) budget (Table a, at) → Ends (each (x ∷ xs) remake so_far) budget (Table r, at)
     each-renewed x [] so_far at a r like h =
-        let (next, first, rest) = Ends-split (remake x so_far) (each [] remake) budget (Table a, at) h in
-        let is : (Table a, at) ≡ next = Ends-give_is next (Table a, at) budget rest in
+        let (next, first, rest) = Ends-split (remake x so_far) (each [] remake) h in
+        let is : (Table a, at) ≡ next = Ends-give_is next rest in
         let last = make-renews part so_far.1 (item x so_far.0) (Table a, at) (Table r) like (table-nothing a) (subst (Ends (remake x so_far) budget) (sym is) first) in
         Ends-bind (remake x so_far) (each [] remake) budget (Table r, at) (Table r, at) last (Ends-give budget (Table r, at))
     each-renewed x (y ∷ ys) so_far at a r like h =
-        let (next, first, rest) = Ends-split (remake x so_far) (each (y ∷ ys) remake) budget (Table a, at) h in
+        let (next, first, rest) = Ends-split (remake x so_far) (each (y ∷ ys) remake) h in
         Ends-bind (remake x so_far) (each (y ∷ ys) remake) budget next (Table r, at) first (each-renewed y ys next at a r like rest)
 
     -- where item after item is made of what there is so far, the last one may be reduced
@@ -117,8 +117,8 @@ module _ {P : Type 0} (budget : ℕ) where
 
     item-renews : (item : Item) (so_far made : plan.Made) → Ends (plan.with_item tracks part item so_far) budget made → Renews (plan.with_item tracks part item) so_far made
     item-renews item so_far made h =
-        let (next, one, two) = Ends-split (plan.make part so_far.1 item) (plan.join tracks part so_far.0) budget made h in
-        by next one (Ends-asked (Empty (next.0 ∷ [])) (Give (so_far.0, next.1)) (or_else so_far.0 next) budget made two)
+        let (next, one, two) = Ends-split (plan.make part so_far.1 item) (plan.join tracks part so_far.0) h in
+        by next one (Ends-asked (Empty (next.0 ∷ [])) (Give (so_far.0, next.1)) (or_else so_far.0 next) budget two)
       where
         -- the next set is not empty, and the one so far is, or both are joined
         later : (next : plan.Made) → Ends (plan.make part so_far.1 item) budget next → (IsEmpty next.0 → ⊥)
@@ -126,7 +126,7 @@ module _ {P : Type 0} (budget : ℕ) where
             ⊎ (((IsEmpty so_far.0 → ⊥) × Unit {0}) × Ends (plan.compute part next.1 (plan.either tracks so_far.0 next.0)) budget made)
             → (t : SetOf) → SameSets made.0 t → Ends (plan.with_item tracks part item so_far) budget (t, made.1)
         later next one some (inl (inl empty, gives)) t like =
-            let is : made ≡ next = Ends-give_is next made budget gives in
+            let is : made ≡ next = Ends-give_is next gives in
             let like_next = subst (λ (m : plan.Made). SameSets m.0 t) is like in
             let some_t : IsEmpty t → ⊥ = λ none. some (λ tuple k. none tuple ((like_next tuple).0 k)) in
             let not_nothing : next.0 ≡ Nothing → ⊥ = λ nothing. some (subst (λ (s : SetOf). IsEmpty s) (sym nothing) (λ tuple k. k)) in
@@ -146,7 +146,7 @@ module _ {P : Type 0} (budget : ℕ) where
             ⊎ (((IsEmpty next.0 → ⊥) × Unit {0}) × Ends (or_else so_far.0 next) budget made)
             → Renews (plan.with_item tracks part item) so_far made
         by next one (inl (inl empty, gives)) =
-            let is : made ≡ (so_far.0, next.1) = Ends-give_is (so_far.0, next.1) made budget gives in
+            let is : made ≡ (so_far.0, next.1) = Ends-give_is (so_far.0, next.1) gives in
             inl (
               ap (λ (m : plan.Made). m.0) is,
               λ t.
@@ -156,7 +156,7 @@ module _ {P : Type 0} (budget : ℕ) where
             )
         by next one (inl (inr never, gives)) = absurd never
         by next one (inr (some, rest)) =
-            inr (later next one some.0 (Ends-asked (Empty (so_far.0 ∷ [])) (Give next) (plan.compute part next.1 (plan.either tracks so_far.0 next.0)) budget made rest))
+            inr (later next one some.0 (Ends-asked (Empty (so_far.0 ∷ [])) (Give next) (plan.compute part next.1 (plan.either tracks so_far.0 next.0)) budget rest))
 
     -- a union from nothing may end with any automaton of its set
     unite-renewed : (items : List Item) (from at : ℕ) (a r : Automaton) → SameSets (Table a) (Table r) → Ends (plan.unite tracks part (Nothing, from) items) budget (Table a, at)

@@ -103,9 +103,9 @@ module _ (e : Sets) (x : Var) (g : Tree) where
   some = without_var x (free_vars g)
 
   -- a lift of a word with letters after it is one of the word, with the letters' lift after it
-  lift_there : (v w letters : List ℕ) → IsWord (length some) v → IsWord (length some) w → LiftsInto some gs (Says g e) v w
+  lift_there : {v w : List ℕ} (letters : List ℕ) → IsWord (length some) v → IsWord (length some) w → LiftsInto some gs (Says g e) v w
       → ((lift : List ℕ) × IsLift some gs (v ++ letters) lift × Says g e lift) → (lift : List ℕ) × IsLift some gs (w ++ letters) lift × Says g e lift
-  lift_there v w letters is_v is_w into (lift, is_lift, says) =
+  lift_there {v} {w} letters is_v is_w into (lift, is_lift, says) =
       let cut = restrict gs some in
       let Below : ℕ → Type 0 = λ l. l < 2 ^ length gs in
       let at = parted cut lift (repeated is_lift.times v) letters (is_lift.repeats ∙ repeated-append is_lift.times v letters is_v.nonempty) in
@@ -126,12 +126,12 @@ module _ (e : Sets) (x : Var) (g : Tree) where
       } in
       (other ++ at.last, there, (alike.same at.last after).0 (subst (Says g e) at.whole says))
 
-  pub alike-Ex : (v w : List ℕ) → IsWord (length some) v → IsWord (length some) w → AlikeLifted some gs (Says g e) v w → SameResidual (length some) (Says (Ex x g) e) v w
-  alike-Ex v w is_v is_w alike = record {
+  pub alike-Ex : {v w : List ℕ} → IsWord (length some) v → IsWord (length some) w → AlikeLifted some gs (Says g e) v w → SameResidual (length some) (Says (Ex x g) e) v w
+  alike-Ex {v} {w} is_v is_w alike = record {
     same = λ letters below.
-        let at_v = Says-Ex e x g (v ++ letters) (IsWord-append (length some) v letters is_v below) in
-        let at_w = Says-Ex e x g (w ++ letters) (IsWord-append (length some) w letters is_w below) in (
-          λ h. at_w.1 (lift_there v w letters is_v is_w alike.forth (at_v.0 h)),
-          λ h. at_v.1 (lift_there w v letters is_w is_v alike.back (at_w.0 h)),
+        let at_v = Says-Ex e x g (IsWord-append (length some) v letters is_v below) in
+        let at_w = Says-Ex e x g (IsWord-append (length some) w letters is_w below) in (
+          λ h. at_w.1 (lift_there letters is_v is_w alike.forth (at_v.0 h)),
+          λ h. at_v.1 (lift_there letters is_w is_v alike.back (at_w.0 h)),
         );
   }

@@ -39,7 +39,7 @@ module _ (a : Automaton) (tuple : List ℤ) (ascending : IsAscending a.tracks) (
 
   known : DecidesIntegers a → IsAccepted a tuple ⊎ (IsAccepted a tuple → ⊥)
   known integers =
-      let accepted = accepted-values a word integers (apart-ascending a.tracks ascending) is_word in
+      let accepted = accepted-values integers (apart-ascending a.tracks ascending) is_word in
       elim (cases_Bool (is_final a (state_of a word))) [
         | inl yes_it_is ↦ inl (subst (IsAccepted a) values (accepted.0 yes_it_is))
         | inr never ↦ inr (λ h. true≢false (sym (accepted.1 (subst (IsAccepted a) (sym values) h)) ∙ never))

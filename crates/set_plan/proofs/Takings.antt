@@ -99,8 +99,8 @@ module _ {P : Type 0} (tracks : List Var) (part : P) (free : free_vars (Or (Amon
       let both = either-members s next.0 over_s over_n tuple in
       rw same (λ h. both.0 ((is.same tuple).0 h), λ h. (is.same tuple).1 (both.1 h))
 
-  is_over : (item : Item) (s : SetOf) → free_vars item.formula ≡ tracks → IsSetOf item s → IsOver tracks s
-  is_over item s e is tuple h =
+  is_over : {item : Item} {s : SetOf} → free_vars item.formula ≡ tracks → IsSetOf item s → IsOver tracks s
+  is_over e is tuple h =
       let k = (is.same tuple).0 h in
       (k.values, ap (λ vars. values_at vars k.values) (sym e) ∙ k.is_tuple)
 
@@ -119,7 +119,7 @@ module _ {P : Type 0} (tracks : List Var) (part : P) (free : free_vars (Or (Amon
       let (us, vs, more, order, one, last) = Takes-split (with_item tracks part item so_far) (each items (with_item tracks part)) xs made t in
       let (ws, zs, next, order, first, second) = Takes-split (make part so_far.1 item) (join tracks part so_far.0) us more one in
       let is = make-members part so_far.1 item ws next first in
-      let over_n = is_over item next.0 have is in
+      let over_n = is_over have is in
       let joined = join-members so_far.0 next zs more over over_n second in
       let whole = unite-members items more vs made (join_over so_far.0 next more over over_n joined) haves last tuple in (
         λ h. elim (whole.0 h) [

@@ -14,11 +14,11 @@ use Rattle.set_plan.proofs.Alike.{IsSetOf-same, numbered-same, Stops-alike}
 use Rattle.set_plan.proofs.Combined.{SameMade, make-alike, same-count}
 use Rattle.set_plan.proofs.Makes.{Ends-join_left}
 
-pub Thinned-append : (is js : List Item) (i j : Item) → Thinned is js → SameItem i j → Thinned (is ++ i ∷ []) (js ++ j ∷ [])
-Thinned-append is [] i j e same = inr (i, [], ap (λ (l : List Item). l ++ i ∷ []) e, same, refl)
-Thinned-append is (k ∷ js) i j (inl (lacks, rest)) same = inl (lacks, Thinned-append is js i j rest same)
-Thinned-append is (k ∷ js) i j (inr (h, rest, e, here, thin)) same =
-    inr (h, rest ++ i ∷ [], ap (λ (l : List Item). l ++ i ∷ []) e, here, Thinned-append rest js i j thin same)
+pub Thinned-append : (is js : List Item) {i j : Item} → Thinned is js → SameItem i j → Thinned (is ++ i ∷ []) (js ++ j ∷ [])
+Thinned-append is [] {i} e same = inr (i, [], ap (λ (l : List Item). l ++ i ∷ []) e, same, refl)
+Thinned-append is (k ∷ js) (inl (lacks, rest)) same = inl (lacks, Thinned-append is js rest same)
+Thinned-append is (k ∷ js) {i} (inr (h, rest, e, here, thin)) same =
+    inr (h, rest ++ i ∷ [], ap (λ (l : List Item). l ++ i ∷ []) e, here, Thinned-append rest js thin same)
 
 pub Thinned-skip : (is js : List Item) (j : Item) → Thinned is js → IsLacking j → Thinned is (js ++ j ∷ [])
 Thinned-skip is [] j e lacks = inl (lacks, e)
@@ -34,7 +34,7 @@ module _ {P : Type 0} (part : P) (budget : ℕ) where
       let Gives : ℕ → Type 0 = λ n. Takes {P = P} (Give (s, at + n)) rest (Some v) in
       record {
         entries = record { part = part; at = at; item = j } ∷ rest;
-        takes = inr (rest, s, refl, IsSetOf-same i j s same is, subst Gives (same-count (steps i.formula) (steps j.formula) i.sets j.sets same.steps) t);
+        takes = inr (rest, s, refl, IsSetOf-same same is, subst Gives (same-count (steps i.formula) (steps j.formula) i.sets j.sets same.steps) t);
         past =
             PastStep-append (numbered part at j.sets (steps j.formula)) (all_steps rest) budget None
             (numbered-same part at (steps i.formula) (steps j.formula) i.sets j.sets budget None same.steps front) back;
@@ -43,7 +43,7 @@ module _ {P : Type 0} (part : P) (budget : ℕ) where
   make-same : (at : ℕ) (i j : Item) (v : Made) (xs : List (Entry P)) → SameItem i j → Takes (make part at i) xs (Some v) → Past xs budget None → Ends (make part at j) budget v
   make-same at i j v xs same (inl (e, o)) past = none_some o
   make-same at i j v xs same (inr (inl (is, t))) past =
-      Ends-ask_yes (Empty (map j.sets (positives j.formula))) (Give (Nothing, at)) (compute part at j) budget v (same.positives.some.0 is) (record { entries = xs; takes = t; past = past })
+      Ends-ask_yes (Empty (map j.sets (positives j.formula))) (Give (Nothing, at)) (compute part at j) budget {a = v} (same.positives.some.0 is) (record { entries = xs; takes = t; past = past })
   make-same at i j v xs same (inr (inr (is, t))) past =
       Ends-ask_no (Empty (map j.sets (positives j.formula))) (Give (Nothing, at)) (compute part at j) budget v (same.positives.none.0 is) (compute-same at i j v xs same t past)
 
@@ -51,27 +51,27 @@ module _ {P : Type 0} (part : P) (budget : ℕ) where
   Ends-make_same at i j v same h = make-same at i j v h.entries same h.takes h.past
 
   pub Stops-make_same : (at : ℕ) (i j : Item) (name : StepName P) → SameItem i j → Stops (make part at i) budget name → Stops (make part at j) budget name
-  Stops-make_same at i j name same h = Stops-alike SameMade (make part at i) (make part at j) budget name (make-alike part at i j same) h
+  Stops-make_same at i j name same h = Stops-alike SameMade (make part at j) (make-alike part at i j same) h
 
   module _ (tracks : List Var) where
     -- an item that lacks a set adds nothing
     item_lacking : (so_far : Made) (j : Item) → IsLacking j → Ends (with_item tracks part j so_far) budget so_far
     item_lacking so_far j lacks =
         Ends-bind (make part so_far.1 j) (join tracks part so_far.0) budget (Nothing, so_far.1) so_far
-        (Ends-ask_yes (Empty (map j.sets (positives j.formula))) (Give (Nothing, so_far.1)) (compute part so_far.1 j) budget _ lacks (Ends-give budget _))
+        (Ends-ask_yes (Empty (map j.sets (positives j.formula))) (Give (Nothing, so_far.1)) (compute part so_far.1 j) budget lacks (Ends-give budget _))
         (Ends-join_left tracks part budget so_far.0 (Nothing, so_far.1) (λ tuple never. never))
 
-    item_same : (so_far more : Made) (i j : Item) → SameItem i j → Ends (with_item tracks part i so_far) budget more → Ends (with_item tracks part j so_far) budget more
-    item_same so_far more i j same h =
-        let (next, made, joined) = Ends-split (make part so_far.1 i) (join tracks part so_far.0) budget more h in
+    item_same : (so_far : Made) {more : Made} {i j : Item} → SameItem i j → Ends (with_item tracks part i so_far) budget more → Ends (with_item tracks part j so_far) budget more
+    item_same so_far {more} {i} {j} same h =
+        let (next, made, joined) = Ends-split (make part so_far.1 i) (join tracks part so_far.0) h in
         Ends-bind (make part so_far.1 j) (join tracks part so_far.0) budget next more (Ends-make_same so_far.1 i j next same made) joined
 
-    item_stops : (so_far : Made) (name : StepName P) (i j : Item) → SameItem i j → Stops (with_item tracks part i so_far) budget name → Stops (with_item tracks part j so_far) budget name
-    item_stops so_far name i j same h =
-        elim (Stops-split (make part so_far.1 i) (join tracks part so_far.0) budget name h) [
-          | inl here ↦ Stops-bind (make part so_far.1 j) (join tracks part so_far.0) budget name (Stops-make_same so_far.1 i j name same here)
+    item_stops : (so_far : Made) {name : StepName P} {i j : Item} → SameItem i j → Stops (with_item tracks part i so_far) budget name → Stops (with_item tracks part j so_far) budget name
+    item_stops so_far {name} {i} {j} same h =
+        elim (Stops-split (make part so_far.1 i) (join tracks part so_far.0) h) [
+          | inl here ↦ Stops-bind (make part so_far.1 j) (join tracks part so_far.0) budget (Stops-make_same so_far.1 i j name same here)
           | inr (next, made, joined) ↦
-              Stops-bind_later (make part so_far.1 j) (join tracks part so_far.0) budget next name (Ends-make_same so_far.1 i j next same made) joined
+              Stops-bind_later (make part so_far.1 j) (join tracks part so_far.0) budget (Ends-make_same so_far.1 i j next same made) joined
         ]
 
     abbrev left : List Item → Made → Program P Made
@@ -83,19 +83,19 @@ module _ {P : Type 0} (part : P) (budget : ℕ) where
         Ends-bind (with_item tracks part j so_far) (left js) budget so_far v (item_lacking so_far j lacks) (Ends-thinned is js so_far v rest h)
     Ends-thinned is (j ∷ js) so_far v (inr (i, rest, e, same, thin)) h =
         let all : Ends (unite tracks part so_far (i ∷ rest)) budget v = subst (λ (l : List Item). Ends (unite tracks part so_far l) budget v) e h in
-        let (more, one, last) = Ends-split (with_item tracks part i so_far) (left rest) budget v all in
-        Ends-bind (with_item tracks part j so_far) (left js) budget more v (item_same so_far more i j same one) (Ends-thinned rest js more v thin last)
+        let (more, one, last) = Ends-split (with_item tracks part i so_far) (left rest) all in
+        Ends-bind (with_item tracks part j so_far) (left js) budget more v (item_same so_far same one) (Ends-thinned rest js more v thin last)
 
     pub Stops-thinned : (is js : List Item) (so_far : Made) (name : StepName P)
         → Thinned is js → Stops (unite tracks part so_far is) budget name
         → Stops (unite tracks part so_far js) budget name
     Stops-thinned is [] so_far name e h = subst (λ (l : List Item). Stops (unite tracks part so_far l) budget name) e h
     Stops-thinned is (j ∷ js) so_far name (inl (lacks, rest)) h =
-        Stops-bind_later (with_item tracks part j so_far) (left js) budget so_far name (item_lacking so_far j lacks) (Stops-thinned is js so_far name rest h)
+        Stops-bind_later (with_item tracks part j so_far) (left js) budget (item_lacking so_far j lacks) (Stops-thinned is js so_far name rest h)
     Stops-thinned is (j ∷ js) so_far name (inr (i, rest, e, same, thin)) h =
         let all : Stops (unite tracks part so_far (i ∷ rest)) budget name = subst (λ (l : List Item). Stops (unite tracks part so_far l) budget name) e h in
-        elim (Stops-split (with_item tracks part i so_far) (left rest) budget name all) [
-          | inl here ↦ Stops-bind (with_item tracks part j so_far) (left js) budget name (item_stops so_far name i j same here)
+        elim (Stops-split (with_item tracks part i so_far) (left rest) all) [
+          | inl here ↦ Stops-bind (with_item tracks part j so_far) (left js) budget (item_stops so_far same here)
           | inr (more, one, last) ↦
-              Stops-bind_later (with_item tracks part j so_far) (left js) budget more name (item_same so_far more i j same one) (Stops-thinned rest js more name thin last)
+              Stops-bind_later (with_item tracks part j so_far) (left js) budget (item_same so_far same one) (Stops-thinned rest js more name thin last)
         ]

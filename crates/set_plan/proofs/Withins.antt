@@ -26,18 +26,18 @@ module _ {P : Type 0} (tracks : List Var) (part : P) (budget : ℕ) where
   abbrev asked : SetOf → SetOf → SetOf → Program P Bool
   asked s t rest = Ask (Within s t) (Give true) (Give false)
 
-  ends-yes : (s t rest : SetOf) → Ends (remainder tracks part s t) budget rest → ((tuple : List ℤ) → Member s tuple → Member t tuple) → Ends (is_within tracks part s t) budget true
-  ends-yes s t rest ends within =
-      Ends-bind (remainder tracks part s t) (asked s t) budget rest true ends (Ends-ask_yes (Within s t) (Give true) (Give false) budget true within (Ends-give budget true))
+  ends-yes : (s t : SetOf) {rest : SetOf} → Ends (remainder tracks part s t) budget rest → ((tuple : List ℤ) → Member s tuple → Member t tuple) → Ends (is_within tracks part s t) budget true
+  ends-yes s t {rest} ends within =
+      Ends-bind (remainder tracks part s t) (asked s t) budget rest true ends (Ends-ask_yes (Within s t) (Give true) (Give false) budget within (Ends-give budget true))
 
-  ends-no : (s t rest : SetOf)
+  ends-no : (s t : SetOf) {rest : SetOf}
       → Ends (remainder tracks part s t) budget rest → (((tuple : List ℤ) → Member s tuple → Member t tuple) → ⊥)
       → Ends (is_within tracks part s t) budget false
-  ends-no s t rest ends off =
+  ends-no s t {rest} ends off =
       Ends-bind (remainder tracks part s t) (asked s t) budget rest false ends (Ends-ask_no (Within s t) (Give true) (Give false) budget false off (Ends-give budget false))
 
-  pub within-nothing : (t rest : SetOf) → Ends (remainder tracks part Nothing t) budget rest → Ends (is_within tracks part Nothing t) budget true
-  within-nothing t rest ends = ends-yes Nothing t rest ends (λ tuple h. absurd h)
+  pub within-nothing : (t : SetOf) {rest : SetOf} → Ends (remainder tracks part Nothing t) budget rest → Ends (is_within tracks part Nothing t) budget true
+  within-nothing t ends = ends-yes Nothing t ends (λ tuple h. absurd h)
 
   module _ (a : Automaton) (on : IsSetOn tracks a) (ascending : IsAscending a.tracks) where
     ordered : IsAscending tracks
@@ -50,19 +50,19 @@ module _ {P : Type 0} (tracks : List Var) (part : P) (budget : ℕ) where
     known None is tuple = inr (λ h. h)
     known (Some b) is tuple = table_decided b.now (subst IsAscending (sym is.decides.tracks_are) ordered) is.decides.integers tuple
 
-    within-empty : (t : Option (Bor Automaton)) (rest : SetOf) → IfSome t (λ b. IsSetOn tracks b.now)
+    within-empty : (t : Option (Bor Automaton)) {rest : SetOf} → IfSome t (λ b. IsSetOn tracks b.now)
         → Ends (remainder tracks part (Table a) (lent t)) budget rest → IsEmpty rest → Ends (is_within tracks part (Table a) (lent t)) budget true
-    within-empty t rest is ends empty =
-        ends-yes (Table a) (lent t) rest ends
+    within-empty t {rest} is ends empty =
+        ends-yes (Table a) (lent t) ends
         (λ tuple h. elim (known t is tuple) [
           | inl there ↦ there
           | inr off ↦ absurd (empty tuple ((remainder-members tracks part (free tracks ordered) (Table a) (lent t) ends.entries rest over ends.takes tuple).1 (h, off)))
         ])
 
-    within-some : (t : Option (Bor Automaton)) (rest : SetOf) → Ends (remainder tracks part (Table a) (lent t)) budget rest → (IsEmpty rest → ⊥)
+    within-some : (t : Option (Bor Automaton)) {rest : SetOf} → Ends (remainder tracks part (Table a) (lent t)) budget rest → (IsEmpty rest → ⊥)
         → Ends (is_within tracks part (Table a) (lent t)) budget false
-    within-some t rest ends some =
-        ends-no (Table a) (lent t) rest ends
+    within-some t {rest} ends some =
+        ends-no (Table a) (lent t) ends
         (λ within. some (λ tuple h.
         let (there, off) = (remainder-members tracks part (free tracks ordered) (Table a) (lent t) ends.entries rest over ends.takes tuple).0 h in
         off (within tuple there)))
@@ -71,5 +71,5 @@ module _ {P : Type 0} (tracks : List Var) (part : P) (budget : ℕ) where
     pub within-told : (t : Option (Bor Automaton)) (rest : SetOf) (b : Bool) → IfSome t (λ b. IsSetOn tracks b.now)
         → Ends (remainder tracks part (Table a) (lent t)) budget rest → OnTrue b (IsEmpty rest) → OnFalse b (¬ IsEmpty rest)
         → Ends (is_within tracks part (Table a) (lent t)) budget b
-    within-told t rest true is ends empty some = within-empty t rest is ends empty
-    within-told t rest false is ends empty some = within-some t rest ends some
+    within-told t rest true is ends empty some = within-empty t is ends empty
+    within-told t rest false is ends empty some = within-some t ends some

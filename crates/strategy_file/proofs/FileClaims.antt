@@ -68,9 +68,9 @@ place_in (d ∷ sets) s h =
     ]
 
 -- where the sets have all places, a set that is there has a place of the loser
-pub at_place : (c : Claim) → map place_of c.sets ≡ places_of c.winner c.position c.moves → (ply mask : ℕ) (a : Automaton) → IsFound c.sets ply mask a
+pub at_place : (c : Claim) → map place_of c.sets ≡ places_of c.winner c.position c.moves → {ply mask : ℕ} {a : Automaton} → IsFound c.sets ply mask a
     → IsLosersPly c.winner c.position c.moves ply × IsGameMask c.position mask
-at_place c places ply mask a f =
+at_place c places f =
     let there = subst (λ ps. Contains ps (place_of f.claimed)) places (place_in c.sets f.claimed f.has) in
     let both = (places_of-are c.winner c.position c.moves f.claimed.ply f.claimed.mask).0 there in
     (subst (IsLosersPly c.winner c.position c.moves) f.ply_is both.0, subst (IsGameMask c.position) f.mask_is both.1)
@@ -88,7 +88,7 @@ module _ (c : Claim) (h : HasFile c) where
     few = let most = h.most in omega (arith, most);
     found = λ ply mask losers game.
         is_some_in c.sets ply mask (subst (λ (ps : List (ℕ × ℕ)). Contains {X = ℕ × ℕ} ps (ply, mask)) (sym places) ((places_of-are c.winner c.position c.moves ply mask).1 (losers, game)));
-    only = λ ply mask a is. at_place c places ply mask a (found_in c.sets ply mask a is);
+    only = λ ply mask a is. at_place c places (found_in c.sets ply mask a is);
     tracks = λ ply mask a is.
         let f = found_in c.sets ply mask a is in
         let own = (formed f.claimed f.has).tracks in

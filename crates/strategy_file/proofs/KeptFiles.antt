@@ -36,24 +36,24 @@ use Rattle.strategy_file.proofs.WrittenLemmas.{written_is_read}
 
 module _ (winner : Side) (p : Position) (moves : ℕ) where
   -- a word is accepted just if its values are the coordinates of what is kept
-  kept_words : (x : ClaimedSet) → IsKeptSetOf winner p moves x → (word : List ℕ) → IsWord (length x.set.tracks) word
+  kept_words : {x : ClaimedSet} → IsKeptSetOf winner p moves x → {word : List ℕ} → IsWord (length x.set.tracks) word
       → Accepts x.set word ↔ IsTupleOf (Kept winner p moves x.ply) x.mask (values_at x.set.tracks (word_values x.set.tracks word))
-  kept_words x hx word is =
+  kept_words {x} hx {word} is =
       let values = values_at x.set.tracks (word_values x.set.tracks word) in
-      let here = accepted-values x.set word hx.integers (apart-ascending x.set.tracks hx.in_order.valid.ascending) is in
+      let here = accepted-values hx.integers (apart-ascending x.set.tracks hx.in_order.valid.ascending) is in
       let there = hx.tuples.same values in
       (λ h. there.0 (here.0 h), λ h. here.1 (there.1 h))
 
-  same_tracks : (x y : ClaimedSet) → place_of x ≡ place_of y → IsKeptSetOf winner p moves x → IsKeptSetOf winner p moves y → x.set.tracks ≡ y.set.tracks
-  same_tracks x y place hx hy = hx.tracks ∙ ap (λ (q : ℕ × ℕ). mask_tracks p q.1) place ∙ sym hy.tracks
+  same_tracks : {x y : ClaimedSet} → place_of x ≡ place_of y → IsKeptSetOf winner p moves x → IsKeptSetOf winner p moves y → x.set.tracks ≡ y.set.tracks
+  same_tracks place hx hy = hx.tracks ∙ ap (λ (q : ℕ × ℕ). mask_tracks p q.1) place ∙ sym hy.tracks
 
   -- two sets of what is kept at one place accept the same words
-  same_words : (x y : ClaimedSet) → place_of x ≡ place_of y → IsKeptSetOf winner p moves x → IsKeptSetOf winner p moves y → AcceptSameWords x.set y.set
-  same_words x y place hx hy = record {
+  same_words : {x y : ClaimedSet} → place_of x ≡ place_of y → IsKeptSetOf winner p moves x → IsKeptSetOf winner p moves y → AcceptSameWords x.set y.set
+  same_words {x} {y} place hx hy = record {
     same = λ word is.
-        let tracks = same_tracks x y place hx hy in
-        let left = kept_words x hx word is in
-        let right = kept_words y hy word (subst (λ (ts : List Var). IsWord (length ts) word) tracks is) in
+        let tracks = same_tracks place hx hy in
+        let left = kept_words hx is in
+        let right = kept_words hy (subst (λ (ts : List Var). IsWord (length ts) word) tracks is) in
         let At : List Var → ℕ × ℕ → Type 0 = λ ts q. IsTupleOf (Kept winner p moves q.0) q.1 (values_at ts (word_values ts word)) in
         let over : At x.set.tracks (place_of x) → At y.set.tracks (place_of y) = λ h. subst (At y.set.tracks) place (subst (λ ts. At ts (place_of x)) tracks h) in
         let back : At y.set.tracks (place_of y) → At x.set.tracks (place_of x) = λ h. subst (λ ts. At ts (place_of x)) (sym tracks) (subst (At y.set.tracks) (sym place) h) in
@@ -61,17 +61,17 @@ module _ (winner : Side) (p : Position) (moves : ℕ) where
   }
 
   same_bytes : (x y : ClaimedSet) → place_of x ≡ place_of y → IsKeptSetOf winner p moves x → IsKeptSetOf winner p moves y → set_bytes x ≡ set_bytes y
-  same_bytes x y place hx hy = alike_set_bytes x y place (same_tracks x y place hx hy) hx.in_order hy.in_order (same_words x y place hx hy)
+  same_bytes x y place hx hy = alike_set_bytes x y place (same_tracks place hx hy) hx.in_order hy.in_order (same_words place hx hy)
 
-  one_written : (c d : Claim) → IsKeptClaim winner p moves c → IsKeptClaim winner p moves d → written c ≡ written d
-  one_written c d hc hd =
+  one_written : {c d : Claim} → IsKeptClaim winner p moves c → IsKeptClaim winner p moves d → written c ≡ written d
+  one_written {c} {d} hc hd =
       alike_written (IsKeptSetOf winner p moves) same_bytes c d (hc.position_is ∙ sym hd.position_is) (hc.moves_are ∙ sym hd.moves_are) (hc.places ∙ sym hd.places) hc.sets hd.sets
 
 pub one_kept_file : OneKeptFile
 one_kept_file = λ winner p moves. record {
-  one_file = λ a b ha hb. ha.bytes_are ∙ one_written winner p moves ha.claim hb.claim ha.kept hb.kept ∙ sym hb.bytes_are;
-  one_size = λ a b ha hb. ha.size_is ∙ ap length (one_written winner p moves ha.claim hb.claim ha.kept hb.kept) ∙ sym hb.size_is;
-  same_size = λ bytes size h large. large.size_is ∙ ap length (one_written winner p moves large.claim h.claim large.kept h.kept ∙ sym h.bytes_are);
+  one_file = λ a b ha hb. ha.bytes_are ∙ one_written winner p moves ha.kept hb.kept ∙ sym hb.bytes_are;
+  one_size = λ a b ha hb. ha.size_is ∙ ap length (one_written winner p moves ha.kept hb.kept) ∙ sym hb.size_is;
+  same_size = λ bytes size h large. large.size_is ∙ ap length (one_written winner p moves large.kept h.kept ∙ sym h.bytes_are);
 }
 
 -- ---- it is that of a solved position
@@ -86,18 +86,18 @@ module _ (s : Solution) (valid : IsSolution s) where
       let same : IsSameSet x.set h.kept = record { tracks = h.tracks; words = h.words } in
       record {
         tracks = h.tracks ∙ formed.tracks;
-        integers = (decides-same x.set h.kept same).1 formed.integers;
+        integers = (decides-same same).1 formed.integers;
         tuples = record {
           same = λ tuple.
-              let accepted = IsAccepted-same x.set h.kept tuple same in
+              let accepted = IsAccepted-same tuple same in
               let is = has.same tuple in
               (λ a. is.0 (accepted.0 a), λ t. accepted.1 (is.1 t));
         };
         in_order = h.in_order;
       }
 
-  kept_claim_of : (c : Claim) → IsClaimOf s c → IsKeptClaim s.winner s.position s.moves c
-  kept_claim_of c h = record {
+  kept_claim_of : {c : Claim} → IsClaimOf s c → IsKeptClaim s.winner s.position s.moves c
+  kept_claim_of {c} h = record {
     position_is = h.position;
     winner_is = h.winner;
     moves_are = h.moves;
@@ -107,8 +107,8 @@ module _ (s : Solution) (valid : IsSolution s) where
 
 pub file_is_kept : FileIsKept
 file_is_kept = λ s valid. record {
-  file = λ bytes h. record { claim = h.claim; kept = kept_claim_of s valid h.claim h.of; has_file = h.has_file; bytes_are = h.bytes_are };
-  size = λ size h. record { claim = h.claim; kept = kept_claim_of s valid h.claim h.of; size_is = h.size_is; large = h.large };
+  file = λ bytes h. record { claim = h.claim; kept = kept_claim_of s valid h.of; has_file = h.has_file; bytes_are = h.bytes_are };
+  size = λ size h. record { claim = h.claim; kept = kept_claim_of s valid h.of; size_is = h.size_is; large = h.large };
 }
 
 -- ---- it is read as a claim that is won

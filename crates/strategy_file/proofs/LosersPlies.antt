@@ -53,7 +53,7 @@ left_at Black White moves ply h = even_left moves ply h
 pub losers_plies-are : (winner : Side) (p : Position) (moves ply : ℕ) → Contains (losers_plies winner p.turn moves) ply ↔ IsLosersPly winner p moves ply
 losers_plies-are winner p moves ply = (
   λ h. let there = left_at winner p.turn moves ply h in record { left = there.0; before = there.1 },
-  λ h. plies-have winner p moves ply h,
+  λ h. plies-have h,
 )
 
 -- ---- pairs of the numbers of two lists

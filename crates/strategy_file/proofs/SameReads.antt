@@ -22,15 +22,15 @@ same_set : (a : Automaton) → IsSameSet a (listed a)
 unfolding listed
 same_set a = record { tracks = refl; words = record { same = λ word is. same_words a word } }
 
-either : (b : Bool) (x y : Automaton) (o u : Option Automaton) → IsSameSet x y → AreSameSets o u → AreSameSets (if b then Some x else o) (if b then Some y else u)
-either true x y o u here later = here
-either false x y o u here later = later
+either : (b : Bool) {x y : Automaton} (o u : Option Automaton) → IsSameSet x y → AreSameSets o u → AreSameSets (if b then Some x else o) (if b then Some y else u)
+either true o u here later = here
+either false o u here later = later
 
 same_in : (sets : List ClaimedSet) (ply mask : ℕ) → AreSameSets (claimed_in sets ply mask) (claimed_in (map set_with (map chart_of sets)) ply mask)
 unfolding listed
 same_in [] ply mask = tt
 same_in (s ∷ sets) ply mask =
-    either ((s.ply == ply) && (s.mask == mask)) s.set (listed s.set) (claimed_in sets ply mask) (claimed_in (map set_with (map chart_of sets)) ply mask) (same_set s.set) (same_in sets ply mask)
+    either ((s.ply == ply) && (s.mask == mask)) (claimed_in sets ply mask) (claimed_in (map set_with (map chart_of sets)) ply mask) (same_set s.set) (same_in sets ply mask)
 
 pub read_is_same : ReadIsSame
 read_is_same = λ c. record { position = refl; winner = refl; moves = refl; sets = λ ply mask. same_in c.sets ply mask }

@@ -30,9 +30,9 @@ use Rattle.strategy_file.proofs.LosersPlies.{places_of-are}
 
 -- ---- equal tables are written alike
 
-same_table_bytes : (a b : Automaton) → a.tracks ≡ b.tracks → HaveEqualTables a b → table_bytes a ≡ table_bytes b
+same_table_bytes : {a b : Automaton} → a.tracks ≡ b.tracks → HaveEqualTables a b → table_bytes a ≡ table_bytes b
 unfolding table_bytes state_bytes
-same_table_bytes a b tracks equal =
+same_table_bytes {a} {b} tracks equal =
     let f : List Var → List ℕ → List ℕ → List Bool → List ℕ = λ t x n c. table_bytes (record a { tracks = t; first = x; next = n; accept = c }) in
     let one : f a.tracks a.first a.next a.accept ≡ f b.tracks a.first a.next a.accept = ap (λ t. f t a.first a.next a.accept) tracks in
     let two : f b.tracks a.first a.next a.accept ≡ f b.tracks b.first a.next a.accept = ap (λ x. f b.tracks x a.next a.accept) equal.first in
@@ -51,7 +51,7 @@ pub alike_set_bytes : (x y : ClaimedSet) → place_of x ≡ place_of y → x.set
     → IsInOrder y.set → AcceptSameWords x.set y.set → set_bytes x ≡ set_bytes y
 unfolding set_bytes
 alike_set_bytes x y p tracks hx hy words =
-    let bytes = same_table_bytes x.set y.set tracks (equal_tables x.set y.set hx hy tracks words) in
+    let bytes = same_table_bytes tracks (equal_tables x.set y.set hx hy tracks words) in
     ap (λ (q : ℕ × ℕ). (q.0 ∷ q.1 ∷ []) ++ table_bytes x.set) p ∙ ap (λ bs. (y.ply ∷ y.mask ∷ []) ++ bs) bytes
 
 module _ (P : ClaimedSet → Type 0) (alike : (x y : ClaimedSet) → place_of x ≡ place_of y → P x → P y → set_bytes x ≡ set_bytes y) where
@@ -74,14 +74,14 @@ module _ (P : ClaimedSet → Type 0) (alike : (x y : ClaimedSet) → place_of x 
       ap (λ bs. bs ++ flat_map set_bytes c.sets) start ∙ ap (λ bs. start_bytes d.position d.moves ++ bs) sets
 
 module _ (s : Solution) where
-  same_kept : (x y : ClaimedSet) → place_of x ≡ place_of y → (hx : IsOfKeptSet s x) (hy : IsOfKeptSet s y) → hx.kept ≡ hy.kept
-  same_kept x y p hx hy =
+  same_kept : {x y : ClaimedSet} → place_of x ≡ place_of y → (hx : IsOfKeptSet s x) (hy : IsOfKeptSet s y) → hx.kept ≡ hy.kept
+  same_kept {x} {y} p hx hy =
       let there : kept_at s x.ply x.mask ≡ kept_at s y.ply y.mask = ap (λ (q : ℕ × ℕ). kept_at s q.0 q.1) p in
       one_value hx.kept hy.kept (sym hx.is_there ∙ there ∙ hy.is_there)
 
   same_set_bytes : (x y : ClaimedSet) → place_of x ≡ place_of y → IsOfKeptSet s x → IsOfKeptSet s y → set_bytes x ≡ set_bytes y
   same_set_bytes x y p hx hy =
-      let one = same_kept x y p hx hy in
+      let one = same_kept p hx hy in
       let tracks : x.set.tracks ≡ y.set.tracks = hx.tracks ∙ ap (λ (a : Automaton). a.tracks) one ∙ sym hy.tracks in
       let words : AcceptSameWords x.set y.set = record {
         same = λ word is.
@@ -92,12 +92,12 @@ module _ (s : Solution) where
       } in
       alike_set_bytes x y p tracks hx.in_order hy.in_order words
 
-  same_written : (c d : Claim) → IsClaimOf s c → IsClaimOf s d → written c ≡ written d
-  same_written c d hc hd =
+  same_written : {c d : Claim} → IsClaimOf s c → IsClaimOf s d → written c ≡ written d
+  same_written {c} {d} hc hd =
       alike_written (IsOfKeptSet s) same_set_bytes c d (hc.position ∙ sym hd.position) (hc.moves ∙ sym hd.moves) (hc.places ∙ sym hd.places) hc.sets hd.sets
 
 pub one_file : OneFile
-one_file = λ s a b fa fb. fa.bytes_are ∙ same_written s fa.claim fb.claim fa.of fb.of ∙ sym fb.bytes_are
+one_file = λ s a b fa fb. fa.bytes_are ∙ same_written s fa.of fb.of ∙ sym fb.bytes_are
 
 -- ---- a solved position's claim has a file
 

@@ -40,8 +40,8 @@ repeated-letters bound word zero h = h
 repeated-letters bound word (suc k) h = again-letters bound (repeated k word) (repeated-letters bound word k h)
 
 -- it is a word of the same tracks
-pub IsWord-repeated : (tracks : ℕ) (word : List ℕ) (k : ℕ) → IsWord tracks word → IsWord tracks (repeated k word)
-IsWord-repeated tracks word k is = record { nonempty = (repeated_some word k is.nonempty).1; letters = repeated-letters (2 ^ tracks) word k is.letters }
+pub IsWord-repeated : {tracks : ℕ} {word : List ℕ} (k : ℕ) → IsWord tracks word → IsWord tracks (repeated k word)
+IsWord-repeated {tracks} {word} k is = record { nonempty = (repeated_some word k is.nonempty).1; letters = repeated-letters (2 ^ tracks) word k is.letters }
 
-pub IsWord-again : (tracks : ℕ) (word : List ℕ) → IsWord tracks word → IsWord tracks (repeat_first word)
-IsWord-again tracks word is = IsWord-repeated tracks word 1 is
+pub IsWord-again : {tracks : ℕ} {word : List ℕ} → IsWord tracks word → IsWord tracks (repeat_first word)
+IsWord-again is = IsWord-repeated 1 is

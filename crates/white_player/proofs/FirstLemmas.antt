@@ -48,20 +48,20 @@ module _ (s : Solution) (valid : IsValid s) (plan : s.origin ≡ Plan) (turn : s
   left_is = omega (arith, last_is, moves)
 
   -- a first move leads into them where the loser is then lost in time
-  in_lost : (i : ℕ) (z : Square) (q : Position) → Legal s.position i z q → IsIn (table_of s 1) q → Lost s.winner (s.moves - 1) q
-  in_lost i z q legal is =
-      let held : IsHeld s 1 q = next_held s valid 0 s.position refl turn i z q legal.step is in
+  in_lost : {i : ℕ} {z : Square} {q : Position} → Legal s.position i z q → IsIn (table_of s 1) q → Lost s.winner (s.moves - 1) q
+  in_lost {q} legal is =
+      let held : IsHeld s 1 q = next_held s valid 0 s.position refl turn legal.step is in
       let kept : Kept s.winner s.position s.moves 1 q = subst (λ (o : Origin). IsHeldBy o s 1 q) plan held in
       subst (λ n. Lost s.winner n q) left_is (value_lost s.winner (moves_left (end_of s) 1) q (legal.step.after.turn ∙ ap other turn) kept.value)
 
-  lost_in : (i : ℕ) (z : Square) (q : Position) → Legal s.position i z q → Lost s.winner (s.moves - 1) q → IsIn (table_of s 1) q
-  lost_in i z q legal lost =
+  lost_in : {i : ℕ} {z : Square} {q : Position} → Legal s.position i z q → Lost s.winner (s.moves - 1) q → IsIn (table_of s 1) q
+  lost_in {i} {z} {q} legal lost =
       let kept : Kept s.winner s.position s.moves 1 q = record {
         reached = (s.position, refl, (i, z, legal));
         value = inr (subst (λ n. Lost s.winner n q) (sym left_is) lost);
       } in
       let held : IsHeld s 1 q = subst (λ (o : Origin). IsHeldBy o s 1 q) (sym plan) kept in
-      held_next s valid 0 s.position refl turn (omega (arith, last_is, moves)) i z q legal.step held
+      held_next s valid 0 s.position refl turn (omega (arith, last_is, moves)) legal.step held
 
   module _ (t : Table) (is : t ≡ table_of s 1) where
     pub first_next : AreNext s.position t
@@ -80,12 +80,12 @@ module _ (s : Solution) (valid : IsValid s) (plan : s.origin ≡ Plan) (turn : s
       sets_lost : (k : ℕ) → InSets k → IsLost k
       sets_lost k w =
           led_to T (Lost s.winner (s.moves - 1)) w w.is_target
-          (in_lost i w.to w.after w.legal (subst (λ u. IsIn u w.after) is w.is_in))
+          (in_lost w.legal (subst (λ u. IsIn u w.after) is w.is_in))
 
       lost_sets : (k : ℕ) → IsLost k → InSets k
       lost_sets k w =
           led_to T (IsIn t) w w.is_target
-          (subst (λ u. IsIn u w.after) (sym is) (lost_in i w.to w.after w.legal w.is_in))
+          (subst (λ u. IsIn u w.after) (sym is) (lost_in w.legal w.is_in))
 
       -- from the position and the numbers that were passed
       pub passed_on : (Of : (ℕ → Type 0) → Type 0) (p : Position) (j m : ℕ) → p ≡ s.position → j ≡ i → m ≡ n → Of (LeadsAlong T (IsIn t) p j m) → Of InSets
@@ -161,9 +161,9 @@ least_once P (Some m) (Some n) h k =
     ap (λ t. Some t) same
 
 -- a line tells of some distance
-pub line_first : (frame : Frame) (winner : Side) (n : ℕ) (p : Position) (man ray : ℕ) (line : FirstLine) → IsFirstLine frame winner n p man ray line
+pub line_first : {frame : Frame} {winner : Side} {n : ℕ} {p : Position} {man ray : ℕ} {line : FirstLine} → IsFirstLine frame winner n p man ray line
     → (distance : ℕ) × Firsts winner n p man ray distance
-line_first frame winner n p man ray line h = by line.few h.some h.few
+line_first {winner} {n} {p} {man} {ray} {line} h = by line.few h.some h.few
   where
     by : (few : Few) → few ≢ Zero → HasFew few (Firsts winner n p man ray) → (distance : ℕ) × Firsts winner n p man ray distance
     by Zero some has = absurd (some refl)
@@ -171,9 +171,9 @@ line_first frame winner n p man ray line h = by line.few h.some h.few
     by More some has = (has.0, has.3)
 
 -- and a line of a man, a ray and a frame is one
-pub line_once : (frame : Frame) (winner : Side) (n : ℕ) (p : Position) (man ray : ℕ) (a b : FirstLine)
+pub line_once : {frame : Frame} {winner : Side} {n : ℕ} {p : Position} {man ray : ℕ} {a b : FirstLine}
     → IsFirstLine frame winner n p man ray a → IsFirstLine frame winner n p man ray b → a ≡ b
-line_once frame winner n p man ray a b h k =
+line_once {frame} {winner} {n} {p} {man} {ray} {a} {b} h k =
     let him : h.him ≡ k.him = same_Some h.him k.him (sym h.is_man ∙ k.is_man) in
     let step : h.step ≡ k.step = same_Some h.step k.step (subst (λ m. Some h.step ≡ ray_of m.kind m.side ray) him (sym h.is_ray) ∙ k.is_ray) in
     let least : a.least ≡ b.least = least_once (FirstsInside frame winner n p man ray) a.least b.least h.least k.least in

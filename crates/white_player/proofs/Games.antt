@@ -50,11 +50,11 @@ table_is s ply next masks sets t is_next masks_are sets_are is =
 
 reach_stock : (p : Position) (ply : ℕ) (q : Position) → Reach p ply q → HasStock p.men q
 reach_stock p zero q is = subst (HasStock p.men) (sym is) (own_stock p)
-reach_stock p (suc ply) q (before, reached, (i, z, legal)) = step_stock p.men before q i z (reach_stock p ply before reached) legal.step.after
+reach_stock p (suc ply) q (before, reached, (i, z, legal)) = step_stock (reach_stock p ply before reached) legal.step.after
 
 -- the stock of a position of the stock is the stock
-stock_trans : (stock : List Man) (p q : Position) → HasStock stock p → HasStock p.men q → HasStock stock q
-stock_trans stock p q one two = record {
+stock_trans : {stock : List Man} {p q : Position} → HasStock stock p → HasStock p.men q → HasStock stock q
+stock_trans {p} {q} one two = record {
   count = two.count ∙ one.count;
   men = λ k m n is_m is_n.
       let w = at_same q p k n (sym two.count) is_n in
@@ -71,39 +71,39 @@ module _ (s : Solution) (valid : IsValid s) (ply : ℕ) (p : Position) (reached 
   abbrev Has : Position → Option Automaton → Type 0
   Has q o = IsSomeAnd o (λ a. IsAccepted a (tuple_of q))
 
-  losers_turn : (i : ℕ) (z : Square) (q : Position) → Step p i z q → q.turn ≡ other s.winner
-  losers_turn i z q step = step.after.turn ∙ ap other turn
+  losers_turn : {i : ℕ} {z : Square} {q : Position} → Step p i z q → q.turn ≡ other s.winner
+  losers_turn step = step.after.turn ∙ ap other turn
 
   -- a step into them
-  step_losing : (i : ℕ) (z : Square) (q : Position) → Step p i z q → IsIn (table_of s (suc ply)) q → Losing s.origin s (suc ply) q
-  step_losing i z q step is =
-      let stock = step_stock s.position.men p q i z (reach_stock s.position ply p reached) step.after in
+  step_losing : {i : ℕ} {z : Square} {q : Position} → Step p i z q → IsIn (table_of s (suc ply)) q → Losing s.origin s (suc ply) q
+  step_losing {q} step is =
+      let stock = step_stock (reach_stock s.position ply p reached) step.after in
       let at : turn_at s.position.turn (suc ply) ≡ other s.winner = ap other (sym (turn-reach s.position p ply reached) ∙ turn) in
-      held.of_set (suc ply) q stock (losers_turn i z q step) at (subst (Has q) (kept_set s (suc ply) (mask_of q)) is)
+      held.of_set (suc ply) q stock (losers_turn step) at (subst (Has q) (kept_set s (suc ply) (mask_of q)) is)
 
-  pub next_held : (i : ℕ) (z : Square) (q : Position) → Step p i z q → IsIn (table_of s (suc ply)) q → IsHeld s (suc ply) q
-  next_held i z q step is = held.held (suc ply) q (step_losing i z q step is)
+  pub next_held : {i : ℕ} {z : Square} {q : Position} → Step p i z q → IsIn (table_of s (suc ply)) q → IsHeld s (suc ply) q
+  next_held {q} step is = held.held (suc ply) q (step_losing step is)
 
-  pub held_next : suc ply ≤ end_of s → (i : ℕ) (z : Square) (q : Position) → Step p i z q → IsHeld s (suc ply) q → IsIn (table_of s (suc ply)) q
-  held_next within i z q step is =
-      let losing = held.losing (suc ply) q within (losers_turn i z q step) is in
+  pub held_next : suc ply ≤ end_of s → {i : ℕ} {z : Square} {q : Position} → Step p i z q → IsHeld s (suc ply) q → IsIn (table_of s (suc ply)) q
+  held_next within {q} step is =
+      let losing = held.losing (suc ply) q within (losers_turn step) is in
       subst (Has q) (sym (kept_set s (suc ply) (mask_of q))) (held.in_set (suc ply) q losing)
 
   pub are_next : AreNext p (table_of s (suc ply))
   are_next = record {
     askable = λ q stock a is.
         let formed = valid_formed s valid (suc ply) (mask_of q) a (sym (kept_set s (suc ply) (mask_of q)) ∙ is) in
-        let whole = stock_trans s.position.men p q (reach_stock s.position ply p reached) stock in
-        record { integers = formed.integers; count = tuple_count s.position.men q whole ∙ sym (ap length formed.tracks) };
+        let whole = stock_trans (reach_stock s.position ply p reached) stock in
+        record { integers = formed.integers; count = tuple_count whole ∙ sym (ap length formed.tracks) };
     legal = λ i z q step is check.
-        let sound = held.game.sound (suc ply) q (step_losing i z q step is) in
+        let sound = held.game.sound (suc ply) q (step_losing step is) in
         let mover : other q.turn ≡ p.turn = ap other step.after.turn ∙ other_other p.turn in
         sound.other_safe (subst (InCheck q) (sym mover) check);
   }
 
   -- the first move into the sets is the first into what is held
   pub pick_held : suc ply ≤ end_of s → (f : Frame) (o : Option Choice) → Pick (IsIn (table_of s (suc ply))) f p o → Pick (IsHeld s (suc ply)) f p o
-  pick_held within f None none = λ i z q legal inside is. none i z q legal inside (held_next within i z q legal.step is)
+  pick_held within f None none = λ i z q legal inside is. none i z q legal inside (held_next within legal.step is)
   pick_held within f (Some c) h = record {
     has = tt;
     position = h.position;
@@ -115,7 +115,7 @@ module _ (s : Solution) (valid : IsValid s) (ply : ℕ) (p : Position) (reached 
       on = h.leads.on;
       inside = h.leads.inside;
       legal = h.leads.legal;
-      is_in = next_held c.mv.man (target c.mv) h.position h.leads.legal.step h.leads.is_in;
+      is_in = next_held h.leads.legal.step h.leads.is_in;
     };
     first = λ d q has into before. h.first d q tt (record {
       man = into.man;
@@ -125,7 +125,7 @@ module _ (s : Solution) (valid : IsValid s) (ply : ℕ) (p : Position) (reached 
       on = into.on;
       inside = into.inside;
       legal = into.legal;
-      is_in = held_next within d.mv.man (target d.mv) q into.legal.step into.is_in;
+      is_in = held_next within into.legal.step into.is_in;
     }) before;
   }
 
@@ -242,8 +242,8 @@ module _ (g : Game) (game : IsGame g) where
   }
 
   -- each reply leaves the winner mating in time
-  pub held_reply : g.position.turn ≡ other g.solution.winner → (i : ℕ) (z : Square) (q : Position) → Legal g.position i z q → IsGame (moved_to g q)
-  held_reply turn i z q legal =
+  pub held_reply : g.position.turn ≡ other g.solution.winner → {i : ℕ} {z : Square} {q : Position} → Legal g.position i z q → IsGame (moved_to g q)
+  held_reply turn {i} {z} {q} legal =
       let (r, moves, next) = won.left g.ply g.position q (losing turn) (i, z, legal) in
       let at = (has.game.plies (g.ply + 2) r next).before in
       let two : g.ply + 2 ≡ suc (suc g.ply) = omega arith in
@@ -273,9 +273,9 @@ module _ (g : Game) (game : IsGame g) where
       }
 
   -- so does his pick
-  pub held_pick : g.position.turn ≡ g.solution.winner → (c : Choice) (q : Position) → WinPick g (Some c) → Legal g.position c.mv.man (target c.mv) q → IsGame (moved_to g q)
-  held_pick turn c q pick legal =
-      let same : pick.position ≡ q = same_after g.position c.mv.man (target c.mv) pick.position q pick.leads.legal.step.after legal.step.after in
+  pub held_pick : g.position.turn ≡ g.solution.winner → (c : Choice) {q : Position} → WinPick g (Some c) → Legal g.position c.mv.man (target c.mv) q → IsGame (moved_to g q)
+  held_pick turn c {q} pick legal =
+      let same : pick.position ≡ q = same_after pick.leads.legal.step.after legal.step.after in
       held_move turn q (c.mv.man, target c.mv, legal) (subst (IsHeld g.solution (suc g.ply)) same pick.leads.is_in)
 
   -- the sets of the next ply, as they are lent
@@ -292,10 +292,10 @@ module _ (g : Game) (game : IsGame g) where
           let later = winner_ply turn in
           pick_held g.solution game.valid g.ply g.position game.reached turn (omega (arith, later)) g.frame o (subst (λ u. Pick (IsIn u) g.frame g.position o) is pick)
 
-pub picked_game : (g after : Game) (c : Choice) → IsGame g → g.position.turn ≡ g.solution.winner → IsPicked g c after
+pub picked_game : {g : Game} (after : Game) (c : Choice) → IsGame g → g.position.turn ≡ g.solution.winner → IsPicked g c after
     → IsGame after × (after.solution ≡ g.solution) × (after.position.turn ≡ other g.solution.winner) × (made_in after ≡ made_in g + 1)
-picked_game g after c game turn picked =
-    let kept = held_pick g game turn c after.position picked.pick picked.legal in
+picked_game {g} after c game turn picked =
+    let kept = held_pick g game turn c picked.pick picked.legal in
     let one : one_if_same g.solution.winner (turn_at g.solution.position.turn g.ply) ≡ 1 =
     ap (one_if_same g.solution.winner) (sym (game_turn g game) ∙ turn) ∙ self g.solution.winner in (
       subst IsGame (sym picked.is_after) kept,
@@ -320,11 +320,11 @@ abbrev EachLost : Game → List Game → Type 0
 EachLost g games = (k : ℕ) (after : Game) → slice_get games k ≡ Some after → IsLostAfter g (suc k) after
 
 -- where each game after the loser's replies is lost, so is each one after the winner's move
-winner_lost : (g : Game) (typed : List Move) (games : List Game) → IsGame g → g.position.turn ≡ g.solution.winner → WinnerGoes (λ after later. Goes after typed later) g games
+winner_lost : {g : Game} (typed : List Move) (games : List Game) → IsGame g → g.position.turn ≡ g.solution.winner → WinnerGoes (λ after later. Goes after typed later) g games
     → ((next : Game) (later : List Game) → IsGame next → next.position.turn ≡ other next.solution.winner → Goes next typed later → EachLost next later) → EachLost g games
-winner_lost g typed games game turn (inl (none, ended)) go k after is = absurd (none_get games k after ended is)
-winner_lost g typed games game turn (inr (choice, next, later, picked, is_games, goes)) go k after is =
-    let to = picked_game g next choice game turn picked in
+winner_lost typed games game turn (inl (none, ended)) go k after is = absurd (none_get games k after ended is)
+winner_lost {g} typed games game turn (inr (choice, next, later, picked, is_games, goes)) go k after is =
+    let to = picked_game next choice game turn picked in
     let next_turn : next.position.turn ≡ other next.solution.winner = to.2 ∙ ap (λ s. other s.winner) (sym to.1) in
     let first : IsLostAfter g 1 next = record { same = to.1; made = to.3; lost = lost_in next to.0 next_turn } in
     by k (ap (λ l. slice_get l k) (sym is_games) ∙ is) first (go next later to.0 next_turn goes)
@@ -335,20 +335,20 @@ winner_lost g typed games game turn (inr (choice, next, later, picked, is_games,
         let later_one = rest k after is in
         record { same = later_one.same ∙ first.same; made = (let a = later_one.made in let b = first.made in omega (arith, a, b)); lost = later_one.lost }
 
-goes_lost : (g : Game) (typed : List Move) (games : List Game) → IsGame g → g.position.turn ≡ other g.solution.winner → Goes g typed games → EachLost g games
-goes_lost g [] games game turn goes k after is = absurd (none_get games k after goes is)
-goes_lost g (mv ∷ typed) games game turn (inl (refused, goes)) k after is = goes_lost g typed games game turn goes k after is
-goes_lost g (mv ∷ typed) games game turn (inr (q, legal, goes)) k after is =
-    let reply : IsGame (moved_to g q) = held_reply g game turn mv.man (target mv) q legal in
+goes_lost : {g : Game} (typed : List Move) (games : List Game) → IsGame g → g.position.turn ≡ other g.solution.winner → Goes g typed games → EachLost g games
+goes_lost [] games game turn goes k after is = absurd (none_get games k after goes is)
+goes_lost (mv ∷ typed) games game turn (inl (refused, goes)) k after is = goes_lost typed games game turn goes k after is
+goes_lost {g} (mv ∷ typed) games game turn (inr (q, legal, goes)) k after is =
+    let reply : IsGame (moved_to g q) = held_reply g game turn legal in
     let his : q.turn ≡ g.solution.winner = legal.step.after.turn ∙ (ap other turn ∙ other_other g.solution.winner) in
     let none : one_if_same g.solution.winner (turn_at g.solution.position.turn g.ply) ≡ 0 = one_not g.solution.winner (turn_at g.solution.position.turn g.ply) (sym (game_turn g game) ∙ turn) in
-    let all = winner_lost (moved_to g q) typed games reply his goes (λ next later kept turns on i at there. goes_lost next typed later kept turns on i at there) k after is in
+    let all = winner_lost typed games reply his goes (λ next later kept turns on i at there. goes_lost typed later kept turns on i at there) k after is in
     record { same = all.same; made = (let count = all.made in omega (arith, count, none)); lost = all.lost }
 
-pub all_lost : (g : Game) (typed : List Move) (games : List Game) → IsGame g → Plays g typed games → EachLost g games
-all_lost g typed games game (inl (turn, goes)) k after is = goes_lost g typed games game turn goes k after is
-all_lost g typed games game (inr (turn, goes)) k after is =
-    winner_lost g typed games game turn goes (λ next later kept turns on i at there. goes_lost next typed later kept turns on i at there) k after is
+pub all_lost : {g : Game} (typed : List Move) (games : List Game) → IsGame g → Plays g typed games → EachLost g games
+all_lost typed games game (inl (turn, goes)) k after is = goes_lost typed games game turn goes k after is
+all_lost typed games game (inr (turn, goes)) k after is =
+    winner_lost typed games game turn goes (λ next later kept turns on i at there. goes_lost typed later kept turns on i at there) k after is
 
 -- the first game
 pub first_game : (s : Solution) (f : Frame) → IsValid s → Value s.winner s.moves s.position → IsGame (start_of s f)
@@ -371,16 +371,16 @@ first_game s f valid value =
     stands has (inl (turn, (q, moves, is_in))) = inr (turn, (q, moves, has.held 1 q is_in))
     stands has (inr (turn, is_in)) = inl (turn, has.held 0 s.position is_in)
 
-pub lost_picked : (g after : Game) (c : Choice) → IsGame g → g.position.turn ≡ g.solution.winner → WinPick g (Some c)
+pub lost_picked : {g : Game} (after : Game) (c : Choice) → IsGame g → g.position.turn ≡ g.solution.winner → WinPick g (Some c)
     → Legal g.position c.mv.man (target c.mv) after.position → after ≡ moved_to g after.position → LostIn after
-lost_picked g after c game turn pick legal is =
-    let to = picked_game g after c game turn (record { pick = pick; legal = legal; is_after = is }) in
+lost_picked after c game turn pick legal is =
+    let to = picked_game after c game turn (record { pick = pick; legal = legal; is_after = is }) in
     lost_in after to.0 (to.2 ∙ ap (λ s. other s.winner) (sym to.1))
 
 pub whole_game : (s : Solution) (f : Frame) (typed : List Move) (games : List Game) → IsValid s → Value s.winner s.moves s.position → Plays (start_of s f) typed games
     → (k : ℕ) (after : Game) → slice_get games k ≡ Some after → (suc k ≤ s.moves) × Lost s.winner (s.moves - suc k) after.position
 whole_game s f typed games valid value plays k after is =
-    let all = all_lost (start_of s f) typed games (first_game s f valid value) plays k after is in
+    let all = all_lost typed games (first_game s f valid value) plays k after is in
     let moves : after.solution.moves ≡ s.moves = ap (λ t. t.moves) all.same in
     let made_is : made_in after ≡ 0 + suc k = all.made in
     let count = all.lost.count in

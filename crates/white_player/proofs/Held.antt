@@ -68,8 +68,8 @@ pub record HasHeld (o : Origin) (s : Solution) : Type 0 where
   pub of_set : (ply : ℕ) (q : Position) → HasStock s.position.men q → q.turn ≡ other s.winner → turn_at s.position.turn ply ≡ other s.winner
       → IsInSet s ply q → Losing o s ply q
 
-kept_has : (s : Solution) → IsSolution s → HasHeld Plan s
-kept_has s valid = record {
+kept_has : {s : Solution} → IsSolution s → HasHeld Plan s
+kept_has {s} valid = record {
   game = kept_are_of_game s.winner s.position s.moves valid.sound;
   held = λ ply q h. h.kept;
   losing = λ ply q low turn h. record {
@@ -86,8 +86,8 @@ kept_has s valid = record {
       record { losers = losers_ply s.winner s.position s.moves ply low at; kept = kept };
 }
 
-claim_has : (s : Solution) → IsWonClaim s → HasHeld Claimed s
-claim_has s valid =
+claim_has : {s : Solution} → IsWonClaim s → HasHeld Claimed s
+claim_has {s} valid =
     let Has : Position → Option Automaton → Type 0 = λ q o. IsSomeAnd o (λ a. IsAccepted a (tuple_of q)) in
     record {
       game = of_game (claim_of s) valid.claim valid.won;
@@ -98,8 +98,8 @@ claim_has s valid =
     }
 
 has_by : (o : Origin) (s : Solution) → IsValidBy o s → HasHeld o s
-has_by Plan s valid = kept_has s valid
-has_by Claimed s valid = claim_has s valid
+has_by Plan s valid = kept_has valid
+has_by Claimed s valid = claim_has valid
 
 pub has_held : (s : Solution) → IsValid s → HasHeld s.origin s
 has_held s valid = has_by s.origin s valid

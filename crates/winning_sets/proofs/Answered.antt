@@ -27,8 +27,8 @@ use Rattle.winning_sets.proofs.LentLemmas.{Names, empty_sets_are, lent_sets_are}
 use Rattle.winning_sets.proofs.MeaningLaws.{forward_means, keeps_kept, mean, names_known, plan_means}
 
 -- levels that are those of their positions from the last one on, turned
-turned_levels : (Set : ℕ → Position → Type 0) (last : ℕ) (levels : List Level) → AreLevelsOf (λ number. Set (last - number)) last (reverse levels) → AreLevelsOf Set last levels
-turned_levels Set last levels are =
+turned_levels : (Set : ℕ → Position → Type 0) {last : ℕ} (levels : List Level) → AreLevelsOf (λ number. Set (last - number)) last (reverse levels) → AreLevelsOf Set last levels
+turned_levels Set {last} levels are =
     let count : length levels ≡ suc last = sym (length-reverse levels) ∙ are.count in
     record {
       count = count;
@@ -53,8 +53,8 @@ module _ (p : Position) (budget : ℕ) (masks : List ℕ) (empties table : List 
   reached_are last within =
       let ends = is.ends last within in
       let backwards = forward_means p last ends.entries (reverse (map (level_of table (masks_of p)) (take (suc last) levels))) is.sound is.few ends.takes in
-      let are = turned_levels (Reach p) last (map (level_of table (masks_of p)) (take (suc last) levels)) backwards in
-      lent_sets_are (Reach p) p (mean p is.sound is.few).game last table empties (take (suc last) levels) (is.empties_are (omega (arith, within)))
+      let are = turned_levels (Reach p) (map (level_of table (masks_of p)) (take (suc last) levels)) backwards in
+      lent_sets_are (Reach p) p (mean is.sound is.few).game last table empties (take (suc last) levels) (is.empties_are (omega (arith, within)))
       (All-take (AreNames p.men table (masks_of p)) (suc last) levels is.names) are
 
   -- a solution of it
@@ -88,34 +88,34 @@ module _ (p : Position) (budget : ℕ) (masks : List ℕ) (empties table : List 
       → All (AreNames p.men after (masks_of p)) kept → Ends (plan_of winner p moves) budget (map (level_of after (masks_of p)) kept)
       → AreKept winner p moves (sets_at (masks_of p) (map (sets_or after empties) kept))
   kept_are winner moves after kept some last named ends =
-      let decided = names_known p is.sound is.few after (masks_of p) kept named in
+      let decided = names_known is.sound is.few after (masks_of p) kept named in
       let are = plan_means winner p moves ends.entries (map (level_of after (masks_of p)) kept) is.sound is.few last decided ends.takes in
-      lent_sets_are (Kept winner p moves) p (mean p is.sound is.few).game (last_ply winner p.turn moves) after empties kept (is.empties_are some) named are
+      lent_sets_are (Kept winner p moves) p (mean is.sound is.few).game (last_ply winner p.turn moves) after empties kept (is.empties_are some) named are
 
 -- nothing is kept where the winner is to move and has no move
-pub none_kept_are : (winner : Side) (p : Position) (moves : ℕ) (empties : List Automaton) → Sound p → length p.men ≤ 8
+pub none_kept_are : (winner : Side) {p : Position} (moves : ℕ) (empties : List Automaton) → Sound p → length p.men ≤ 8
     → last_ply winner p.turn moves ≡ 0 → AreEmpties p.men (masks_of p) empties → AreKept winner p moves (sets_at (masks_of p) (empties ∷ []))
-none_kept_are winner p moves empties sound few last are =
-    let none : (q : Position) → Kept winner p moves 0 q → ⊥ = λ q h. kept_end winner p moves q (subst (λ (n : ℕ). Kept winner p moves n q) (sym last) h) in
-    let zero_sets = empty_sets_are (Kept winner p moves) p (mean p sound few).game empties are none in
+none_kept_are winner {p} moves empties sound few last are =
+    let none : (q : Position) → Kept winner p moves 0 q → ⊥ = λ q h. kept_end winner p moves (subst (λ (n : ℕ). Kept winner p moves n q) (sym last) h) in
+    let zero_sets = empty_sets_are (Kept winner p moves) (mean sound few).game empties are none in
     subst (λ (n : ℕ). AreSets (Kept winner p moves) p n (sets_at (masks_of p) (empties ∷ []))) (sym last) zero_sets
 
-pub none_solution : (winner : Side) (p : Position) (moves : ℕ) (empties : List Automaton) (kept reach : List (List Automaton)) → Sound p
+pub none_solution : (winner : Side) {p : Position} (moves : ℕ) (empties : List Automaton) (kept reach : List (List Automaton)) → Sound p
     → length p.men ≤ 8 → moves ≤ 20 → last_ply winner p.turn moves ≡ 0 → AreEmpties p.men (masks_of p) empties → kept ≡ empties ∷ [] → reach ≡ []
     → IsSolution (record { origin = Plan; position = p; winner = winner; moves = moves; kept = kept; reach = reach })
-none_solution winner p moves empties kept reach sound few small last are is none =
+none_solution winner {p} moves empties kept reach sound few small last are is none =
     let none_at : (ply mask : ℕ) → sets_at (masks_of p) reach ply mask ≡ None = λ ply mask. ap (λ r. sets_at (masks_of p) r ply mask) none in
     record {
       sound = sound;
       few = few;
       moves = small;
-      kept = subst (λ (k : List (List Automaton)). AreKept winner p moves (sets_at (masks_of p) k)) (sym is) (none_kept_are winner p moves empties sound few last are);
+      kept = subst (λ (k : List (List Automaton)). AreKept winner p moves (sets_at (masks_of p) k)) (sym is) (none_kept_are winner moves empties sound few last are);
       reached = subst (λ (n : ℕ). AreReachedTo p n (sets_at (masks_of p) reach)) (sym last) none_at;
     }
 
 -- the starting position is kept exactly where the winner mates in time
-pub start_kept : (s : Solution) → IsSolution s → IsKeptIn s 0 s.position ↔ Value s.winner s.moves s.position
-start_kept s is =
+pub start_kept : {s : Solution} → IsSolution s → IsKeptIn s 0 s.position ↔ Value s.winner s.moves s.position
+start_kept {s} is =
     let keeps = keeps_kept s 0 s.position is.sound is.few is.kept in
     let first = kept_first s.winner s.position s.moves in
     (λ h. first.1 (keeps.0 h).1, λ h. keeps.1 (omega arith, first.0 h))

@@ -133,7 +133,7 @@ module _ (rules : Rules) (first : Side) (budget : ℕ) (whole : Program (List Le
         → IsPlanError (kept_level rules first ply left (level_of table masks r0) (level_of table masks r1) (level_of table masks k1)) budget e
         → IsPlanError whole budget e
     left_error e leads h =
-        LeadsTo-error (bind one_level (λ l. way_back rules first (level r0 ∷ before) (l ∷ level k1 ∷ later))) whole budget (opened leads) e
+        LeadsTo-error (opened leads) e
         (Error-bind one_level (λ l. way_back rules first (level r0 ∷ before) (l ∷ level k1 ∷ later)) budget e h)
 
     pub left_next : (new : List Automaton) (ids : Names) → turned masks new (take (suc ply) reach) ≡ turned masks table (take (suc ply) reach)
@@ -142,7 +142,7 @@ module _ (rules : Rules) (first : Side) (budget : ℕ) (whole : Program (List Le
         (level_of new masks ids)
         → IsLeft rules first budget whole masks new (take (suc ply) reach) (kept ++ ids ∷ [])
     left_next new ids same_reach same_kept leads h =
-        let next = LeadsTo-later one_level (λ l. way_back rules first (level r0 ∷ before) (l ∷ level k1 ∷ later)) whole budget (level_of new masks ids) h (opened leads) in
+        let next = LeadsTo-later (λ l. way_back rules first (level r0 ∷ before) (l ∷ level k1 ∷ later)) h (opened leads) in
         let reaches : turned masks new (take (suc ply) reach) ≡ level r0 ∷ before = same_reach ∙ rest_opens in
         let keeps : turned masks new (kept ++ ids ∷ []) ≡ level_of new masks ids ∷ level k1 ∷ later =
         ap reverse (map_push (level_of new masks) kept ids) ∙ reverse-append (map (level_of new masks) kept) (level_of new masks ids ∷ [])
@@ -213,10 +213,10 @@ module _ (p : Position) (budget : ℕ) (old : List Automaton) (reach : List Name
   ends_at (r ∷ s ∷ rs) (k ∷ ks) one some = absurd (omega (arith, one))
 
   -- at the first ply all is kept
-  pub back_last : (table : List Automaton) (kept : List Names) (left : ℕ) → 0 < left → left ≡ length reach
+  pub back_last : {table : List Automaton} {kept : List Names} {left : ℕ} → 0 < left → left ≡ length reach
       → IsBack p budget (whole_back p old reach) old table reach kept left
       → Ends (whole_back p old reach) budget (map (level_of table (masks_of p)) (reverse kept))
-  back_last table kept left some at_first is =
+  back_last {table} {kept} {left} some at_first is =
       let rs = turned (masks_of p) table (take (suc (length reach) - left) reach) in
       let ks = turned (masks_of p) table kept in
       let one : length rs ≡ 1 = count_turned (level_of table (masks_of p)) reach (suc (length reach) - left) (omega (arith, at_first, some)) ∙ omega (arith, at_first) in

@@ -18,18 +18,18 @@ use Rattle.winning_sets.specs.OfGame.{AreOfGame}
 use Rattle.winning_sets.proofs.WonLemmas.{won_value}
 
 -- a position of the stock with a mask of the game whose men stand apart is one of the game
-pub stock_fits : (p q : Position) → ((s : Side) → HasOneKing p s) → HasStock p.men q → IsGameMask p (mask_of q) → IsApart q → Fits p q.turn q
-stock_fits p q kings stock game apart =
+pub stock_fits : {p q : Position} → ((s : Side) → HasOneKing p s) → HasStock p.men q → IsGameMask p (mask_of q) → IsApart q → Fits p q.turn q
+stock_fits {p} {q} kings stock game apart =
     let live : ℕ → Bool = is_live (mask_of q) in
-    let is : placed p.men live q.turn (squares_of q) ≡ q = stock_placed p.men q stock in
+    let is : placed p.men live q.turn (squares_of q) ≡ q = stock_placed stock in
     subst (Fits p q.turn) is
     (placed_fits p live q.turn (squares_of q) (subst IsApart (sym is) apart) kings
     (λ k m at king. game.kings k m (sym (stock_man-men p k) ∙ at) king)
     (λ k m at on. game.live k m (sym (stock_man-men p k) ∙ at) on))
 
 -- and it is sound where the side that is not to move is not in check
-pub fits_sound : (p : Position) (side : Side) (q : Position) → Fits p side q → (InCheck q (other side) → ⊥) → Sound q
-fits_sound p side q fits safe = record {
+pub fits_sound : {p : Position} {side : Side} {q : Position} → Fits p side q → (InCheck q (other side) → ⊥) → Sound q
+fits_sound {q} fits safe = record {
   kings = fits.kings;
   apart = fits.apart;
   other_safe = let P : Side → Type 0 = λ s. InCheck q (other s) → ⊥ in subst P (sym fits.turn) safe;
@@ -41,25 +41,25 @@ module _ (c : Claim) (is : IsClaim c) where
   set_there ply q None e h = absurd h
   set_there ply q (Some a) e h = is.only ply (mask_of q) a e
 
-  pub claimed_there : (ply : ℕ) (q : Position) → IsClaimed c ply q → IsLosersPly c.winner c.position c.moves ply × IsGameMask c.position (mask_of q)
-  claimed_there ply q h = set_there ply q (claimed_at c ply (mask_of q)) refl h.is_in
+  pub claimed_there : {ply : ℕ} {q : Position} → IsClaimed c ply q → IsLosersPly c.winner c.position c.moves ply × IsGameMask c.position (mask_of q)
+  claimed_there {ply} {q} h = set_there ply q (claimed_at c ply (mask_of q)) refl h.is_in
 
   -- claimed positions whose men stand apart fit
-  pub claimed_fits : (ply : ℕ) (q : Position) → IsClaimed c ply q → IsApart q → Fits c.position (other c.winner) q
-  claimed_fits ply q h apart =
+  pub claimed_fits : {ply : ℕ} {q : Position} → IsClaimed c ply q → IsApart q → Fits c.position (other c.winner) q
+  claimed_fits {q} h apart =
       let P : Side → Type 0 = λ s. Fits c.position s q in
-      subst P h.turn (stock_fits c.position q is.sound.kings h.stock (claimed_there ply q h).1 apart)
+      subst P h.turn (stock_fits is.sound.kings h.stock (claimed_there h).1 apart)
 
-  pub claimed_sound : (ply : ℕ) (q : Position) → IsClaimed c ply q → IsApart q → (InCheck q c.winner → ⊥) → Sound q
-  claimed_sound ply q h apart safe =
+  pub claimed_sound : {ply : ℕ} {q : Position} → IsClaimed c ply q → IsApart q → (InCheck q c.winner → ⊥) → Sound q
+  claimed_sound {q} h apart safe =
       let P : Side → Type 0 = λ s. InCheck q s → ⊥ in
-      fits_sound c.position (other c.winner) q (claimed_fits ply q h apart) (subst P (sym (other_other c.winner)) safe)
+      fits_sound (claimed_fits h apart) (subst P (sym (other_other c.winner)) safe)
 
   pub of_game : Won c → AreOfGame c.winner c.position c.moves (IsClaimed c)
   of_game won = record {
-    plies = λ ply q h. (claimed_there ply q h).0;
+    plies = λ ply q h. (claimed_there h).0;
     turn = λ ply q h. h.turn;
-    sound = λ ply q h. claimed_sound ply q h (won.positions.same ply q h) (won.positions.guard ply q h);
+    sound = λ ply q h. claimed_sound h (won.positions.same ply q h) (won.positions.guard ply q h);
   }
 
   -- and the winner mates in time

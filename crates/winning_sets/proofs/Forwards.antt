@@ -30,8 +30,8 @@ module _ (rules : Rules) (first : Side) (mask budget : ℕ) where
   Way ply = forward rules first mask ply
 
   -- the first ply
-  pub forward_first : (level : Level) → Ends (point_level rules mask) budget level → Ends (forward rules first mask 0) budget (level ∷ [])
-  forward_first level h = Ends-bind (point_level rules mask) (λ l. Give (l ∷ [])) budget level (level ∷ []) h (Ends-give budget (level ∷ []))
+  pub forward_first : {level : Level} → Ends (point_level rules mask) budget level → Ends (forward rules first mask 0) budget (level ∷ [])
+  forward_first {level} h = Ends-bind (point_level rules mask) (λ l. Give (l ∷ [])) budget level (level ∷ []) h (Ends-give budget (level ∷ []))
 
   pub forward_first_error : (e : PlanError PartName) → IsPlanError (point_level rules mask) budget e → IsPlanError (forward rules first mask 0) budget e
   forward_first_error e h = Error-bind (point_level rules mask) (λ l. Give (l ∷ [])) budget e h
@@ -51,7 +51,7 @@ module _ (rules : Rules) (first : Side) (mask budget : ℕ) where
       → Ends (forward rules first mask ply) budget (level ∷ before) → IsPlanError (reach_level rules (turn_at first ply) (suc ply) level) budget e
       → IsPlanError (forward rules first mask (suc ply)) budget e
   forward_next_error ply level before e h k =
-      Error-later (Way ply) (reach_more rules first ply) budget (level ∷ before) h e
+      Error-later (reach_more rules first ply) budget (level ∷ before) h e
       (Error-bind (next_level ply level) (λ l. Give (l ∷ level ∷ before)) budget e k)
 
   -- an error on the way to a ply is one on the way to a later one
@@ -76,20 +76,20 @@ module _ (p : Position) (budget last : ℕ) (some : 0 < last) where
       by (suc n) is k = k
 
   -- the way forward and the way back make the plan
-  pub plan_ends : (levels kept : List Level)
+  pub plan_ends : {levels kept : List Level}
       → Ends (forward rules p.turn (mask_of p) last) budget levels
       → Ends (backward_from rules p.turn levels) budget kept → Ends (plan_to p last) budget kept
-  plan_ends levels kept h k =
+  plan_ends {levels} {kept} h k =
       to_plan (λ m. Ends m budget kept) (Ends-bind (forward rules p.turn (mask_of p) last) (backward_from rules p.turn) budget levels kept h k)
 
   pub plan_error : (e : PlanError PartName) → IsPlanError (forward rules p.turn (mask_of p) last) budget e → IsPlanError (plan_to p last) budget e
   plan_error e h =
       to_plan (λ m. IsPlanError m budget e) (Error-bind (forward rules p.turn (mask_of p) last) (backward_from rules p.turn) budget e h)
 
-  pub plan_later_error : (levels : List Level) (e : PlanError PartName) → Ends (forward rules p.turn (mask_of p) last) budget levels
+  pub plan_later_error : {levels : List Level} (e : PlanError PartName) → Ends (forward rules p.turn (mask_of p) last) budget levels
       → IsPlanError (backward_from rules p.turn levels) budget e → IsPlanError (plan_to p last) budget e
-  plan_later_error levels e h k =
-      to_plan (λ m. IsPlanError m budget e) (Error-later (forward rules p.turn (mask_of p) last) (backward_from rules p.turn) budget levels h e k)
+  plan_later_error {levels} e h k =
+      to_plan (λ m. IsPlanError m budget e) (Error-later (backward_from rules p.turn) budget levels h e k)
 
 module _ (p : Position) (budget : ℕ) where
   abbrev LevelsIn : List Automaton → List Names → List Level
@@ -202,27 +202,27 @@ module _ (p : Position) (budget : ℕ) (masks : List ℕ) (empties old table : L
     pub finished_plan : (kept : List Level)
         → Ends (backward_from (rules_of p) p.turn (reverse (map (level_of table (masks_of p)) (take (last + 1) levels)))) budget kept
         → Ends (plan_to p last) budget kept
-    finished_plan kept h = plan_ends p budget last some (LevelsIn p budget table (take (last + 1) levels)) kept whole_ends h
+    finished_plan kept h = plan_ends p budget last some whole_ends h
 
     pub finished_plan_error : (e : PlanError PartName)
         → IsPlanError (backward_from (rules_of p) p.turn (reverse (map (level_of table (masks_of p)) (take (last + 1) levels)))) budget e
         → IsPlanError (plan_to p last) budget e
-    finished_plan_error e h = plan_later_error p budget last some (LevelsIn p budget table (take (last + 1) levels)) e whole_ends h
+    finished_plan_error e h = plan_later_error p budget last some e whole_ends h
 
 -- the first ply
-pub first_finished : (p : Position) (budget : ℕ) (masks : List ℕ) (empties old new : List Automaton) (masks' : List ℕ) (empties' : List Automaton)
+pub first_finished : {p : Position} {budget : ℕ} {masks : List ℕ} {empties old : List Automaton} (new : List Automaton) (masks' : List ℕ) (empties' : List Automaton)
     (ids : Names)
     → AreFinished p budget masks empties old [] → Grows old new → AreNames p.men new (masks_of p) ids → masks' ≡ masks_of p
     → AreEmpties p.men (masks_of p) empties' → Ends (point_level (rules_of p) (mask_of p)) budget (level_of new (masks_of p) ids)
     → AreFinished p budget masks' empties' new (ids ∷ [])
-first_finished p budget masks empties old new masks' empties' ids is grows named masks_are empties_are h =
+first_finished {p} {budget} {masks} {empties} {old} new masks' empties' ids is grows named masks_are empties_are h =
     finished_push p budget masks empties old new [] is grows masks' empties' ids (omega arith) named masks_are empties_are
-    (forward_first (rules_of p) p.turn (mask_of p) budget (level_of new (masks_of p) ids) h)
+    (forward_first (rules_of p) p.turn (mask_of p) budget h)
 
 -- the same under other names
-pub same_finished : (p : Position) (budget other : ℕ) (masks : List ℕ) (empties table shown : List Automaton) (levels more : List Names)
+pub same_finished : {p : Position} {budget : ℕ} (other : ℕ) {masks : List ℕ} {empties table : List Automaton} (shown : List Automaton) {levels : List Names} (more : List Names)
     → other ≡ budget → shown ≡ table → more ≡ levels → AreFinished p budget masks empties table levels → AreFinished p other masks empties shown more
-same_finished p budget other masks empties table shown levels more b t l is =
+same_finished {p} {budget} other {masks} {empties} {table} shown more b t l is =
     subst (λ (n : ℕ). AreFinished p n masks empties shown more) (sym b)
     (subst (λ (sets : List Automaton). AreFinished p budget masks empties sets more) (sym t)
     (subst (λ (names : List Names). AreFinished p budget masks empties table names) (sym l) is))
@@ -233,11 +233,11 @@ pub grown_finished : (p : Position) (budget other : ℕ) (masks : List ℕ) (emp
     → (count ≤ length new) × AreFinished p other masks empties (take count new) more
 grown_finished p budget other masks empties old new count levels more within grows same names is =
     let longer = length-grows old new grows in
-    (omega (arith, within, longer), same_finished p budget other masks empties (take count old) (take count new) levels more same (take-grows old new count grows within) names is)
+    (omega (arith, within, longer), same_finished other (take count new) more same (take-grows old new count grows within) names is)
 
 -- and with one more ply all of it is finished
 pub all_finished : (p : Position) (budget other : ℕ) (masks : List ℕ) (empties table : List Automaton) (count : ℕ) (levels more : List Names)
     → other ≡ budget → count ≡ length table → more ≡ levels → AreFinished p budget masks empties table levels
     → (count ≤ length table) × AreFinished p other masks empties (take count table) more
 all_finished p budget other masks empties table count levels more same all names is =
-    (omega (arith, all), same_finished p budget other masks empties table (take count table) levels more same (take_all count table (omega (arith, all))) names is)
+    (omega (arith, all), same_finished other (take count table) more same (take_all count table (omega (arith, all))) names is)

@@ -26,7 +26,7 @@ module _ (s : Solution) (sound : Sound s.position) (few : length s.position.men 
   same_kept : IsKeptIn s ply q → IsTupleOf IsKept (mask_of q) (tuple_of q) → IsKept q
   same_kept is h =
       let there = fits h.position h.is_in in
-      let same : h.position ≡ q = stock_unique s.position.men h.position q there.stock is.stock (there.turn ∙ sym is.turn) h.mask_is h.tuple_is in
+      let same : h.position ≡ q = stock_unique there.stock is.stock (there.turn ∙ sym is.turn) h.mask_is h.tuple_is in
       subst IsKept same h.is_in
 
   kept_of : (o : Option Automaton) → kept_at s ply (mask_of q) ≡ o → IsKeptIn s ply q → IsSomeAnd o (λ a. IsAccepted a (tuple_of q)) → (ply ≤ end_of s) × IsKept q

@@ -15,6 +15,6 @@ there (level ∷ levels) zero within = (level, refl)
 there (level ∷ levels) (suc k) within = there levels k (omega (arith, within))
 
 -- an automaton with the tuples of the level at a mask
-pub same_has : (Set : Position → Type 0) (level : Level) (mask : ℕ) (a : Automaton) → IsLevelOf Set level → SameSets (level mask) (Table a) → HasTuplesOf Set mask a
-same_has Set level mask a is same =
+pub same_has : {Set : Position → Type 0} {level : Level} (mask : ℕ) (a : Automaton) → IsLevelOf Set level → SameSets (level mask) (Table a) → HasTuplesOf Set mask a
+same_has {Set = Set} mask a is same =
     record { same = λ tuple. (λ h. (is.same mask tuple).0 ((same tuple).1 h), λ h. (same tuple).0 ((is.same mask tuple).1 h)) }

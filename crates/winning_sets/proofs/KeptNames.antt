@@ -21,14 +21,14 @@ module _ (p : Position) (game : GameMeans p) where
   ascending : (mask : ℕ) → IsAscending (mask_tracks p mask)
   ascending mask = subst IsAscending (game.tracks mask 0 1) (free_vars-ascend (Or (Among 0 (mask_tracks p mask)) (Among 1 (mask_tracks p mask))))
 
-  set_decided : (mask : ℕ) (a : Automaton) → IsSetOn (mask_tracks p mask) a → IsDecided (Table a)
-  set_decided mask a is = table_decided a (subst IsAscending (sym is.decides.tracks_are) (ascending mask)) is.decides.integers
+  set_decided : (mask : ℕ) {a : Automaton} → IsSetOn (mask_tracks p mask) a → IsDecided (Table a)
+  set_decided mask {a} is = table_decided a (subst IsAscending (sym is.decides.tracks_are) (ascending mask)) is.decides.integers
 
   name_decided : (sets : List Automaton) (mask : ℕ) (id : Option SetId) → IsNameOn (mask_tracks p mask) sets id → IsDecided (set_at sets id)
   name_decided sets mask None is = λ tuple. inr (λ h. h)
   name_decided sets mask (Some id) (a, found, on) =
       let same : as_set (Some a) ≡ set_at sets (Some id) = ap as_set (sym found) in
-      subst IsDecided same (set_decided mask a on)
+      subst IsDecided same (set_decided mask on)
 
   level_decided : (sets : List Automaton) (masks : List ℕ) (ids : List (Option SetId)) (level : Level) → AreNames p.men sets masks ids
       → ((m : ℕ) → IsDecided (level m)) → (m : ℕ) → IsDecided (level_from sets level masks ids m)

@@ -155,10 +155,10 @@ module _ (winner : Side) (p : Position) (sound : Sound p) (j r : ℕ) (KeptAfter
 
   lost_from : (q : Position) → LostPart (Reach p j) (Reach p (suc j)) KeptAfter q → Lost winner r q
   lost_from q (inl c) =
-      flat_lost winner (Win winner r) q (reached_sound p sound j q c.is_in.is_in) (turn q c.is_in.is_in, inl c.check, calm_wins q c.is_in)
+      flat_lost winner (Win winner r) (reached_sound p sound j q c.is_in.is_in) (turn q c.is_in.is_in, inl c.check, calm_wins q c.is_in)
   lost_from q (inr h) =
       let (i, z, legal) = Moves-reached p q h.next j h.leads h.step in
-      flat_lost winner (Win winner r) q (reached_sound p sound j q h.is_in.is_in.is_in) (turn q h.is_in.is_in.is_in, inr (i, z, h.next, legal), calm_wins q h.is_in.is_in)
+      flat_lost winner (Win winner r) (reached_sound p sound j q h.is_in.is_in.is_in) (turn q h.is_in.is_in.is_in, inr (i, z, h.next, legal), calm_wins q h.is_in.is_in)
 
   lost_to : (q : Position) → Reach p j q → Lost winner r q → LostPart (Reach p j) (Reach p (suc j)) KeptAfter q
   lost_to q reached lost =
@@ -271,8 +271,8 @@ module _ (winner : Side) (p : Position) (n : ℕ) where
       )
 
   -- nothing is kept at the last ply
-  pub kept_end : (q : Position) → Kept winner p n end q → ⊥
-  kept_end q h = ((kept_won end 0 (omega arith) q).0 h).1
+  pub kept_end : {q : Position} → Kept winner p n end q → ⊥
+  kept_end {q} h = ((kept_won end 0 (omega arith) q).0 h).1
 
 module _ (winner : Side) (p : Position) (sound : Sound p) (n : ℕ) where
   -- what is kept at a ply of the winner is made of what is kept at the next

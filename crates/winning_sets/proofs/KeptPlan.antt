@@ -124,8 +124,8 @@ module _ (p : Position) (sound : Sound p) (few : length p.men ≤ 8) (mean : Rul
             (λ off tuple h. absurd h);
       })
 
-  reached-next : (j : ℕ) (level more : Level) (xs : Entries) → IsReached j level → Takes (reach_level rules (side_at j) (suc j) level) xs (Some more) → IsReached (suc j) more
-  reached-next j level more xs is t =
+  reached-next : {j : ℕ} {level : Level} (more : Level) (xs : Entries) → IsReached j level → Takes (reach_level rules (side_at j) (suc j) level) xs (Some more) → IsReached (suc j) more
+  reached-next {j} {level} more xs is t =
       let side = side_at j in
       let f = reach_set rules side (suc j) level in
       let inside : (q : Position) → Reach p j q → Fits p (side_at j) q × Sound q = λ q h. (fits_reached j q h, reached_sound p sound j q h) in
@@ -157,7 +157,7 @@ module _ (p : Position) (sound : Sound p) (few : length p.men ≤ 8) (mean : Rul
       let (us, vs, next, order, first, rest) = Takes-split (reach_level rules (side_at ply) (suc ply) level) (λ next. Give (next ∷ level ∷ before)) xs more t in
       let is : more ≡ next ∷ level ∷ before = Takes-give (next ∷ level ∷ before) more vs rest in
       let there = subst (λ (n : ℕ). Takes (reach_level rules (side_at n) (suc n) level) us (Some next)) same first in
-      let reached = reached-next (length before) level next us all.0 there in
+      let reached = reached-next next us all.0 there in
       (subst AllReached (sym is) (reached, all), ap length is ∙ ap suc count)
 
   pub forward-reached : (ply : ℕ) (levels : List Level) (xs : Entries) → Takes (forward rules p.turn (mask_of p) ply) xs (Some levels) → AllReached levels × (length levels ≡ suc ply)
@@ -174,50 +174,50 @@ module _ (p : Position) (sound : Sound p) (few : length p.men ≤ 8) (mean : Rul
   free m = mean.game.tracks m 0 1
 
   -- the tuples of a union of pre are in its source
-  union_pre : (side : Side) (ply : ℕ) (k : Part) (m : ℕ) (source : SetOf) (targets : Level) (s : SetOf) (xs : Entries) → IsGameMask p m
+  union_pre : (side : Side) (ply : ℕ) (k : Part) {m : ℕ} (source : SetOf) (targets : Level) (s : SetOf) (xs : Entries) → IsGameMask p m
       → Takes (union rules ply m k (pre_items rules side m source targets)) xs (Some s) → (tuple : List ℤ) → Member s tuple → Member source tuple
-  union_pre side ply k m source targets s xs game t tuple h =
-      let whole = union-members (mask_tracks p m) (name ply m k) (free m) (pre_items rules side m source targets) xs s (pre_have p mean side m source targets game) t tuple in
+  union_pre side ply k {m} source targets s xs game t tuple h =
+      let whole = union-members (mask_tracks p m) (name ply m k) (free m) (pre_items rules side m source targets) xs s (pre_have p mean side source targets game) t tuple in
       let (o, i, member) = (any-map (pre_item rules m source targets) (options_of p.men m side) tuple).0 (whole.0 h) in
       pre_within p.men m o 0 1 (two source (targets (target_of m o))) tuple few ((mean.options side m o game i).pre_tracks 0 1) member
 
   -- and so are those of a union of bear
-  union_bear : (side : Side) (ply m : ℕ) (source s : SetOf) (xs : Entries) → IsGameMask p m
+  union_bear : (side : Side) (ply : ℕ) {m : ℕ} (source s : SetOf) (xs : Entries) → IsGameMask p m
       → Takes (union rules ply m kind.Check (bear_items rules side m source)) xs (Some s) → (tuple : List ℤ) → Member s tuple → Member source tuple
-  union_bear side ply m source s xs game t tuple h =
-      let whole = union-members (mask_tracks p m) (name ply m kind.Check) (free m) (bear_items rules side m source) xs s (bear_have p mean side m source game) t tuple in
+  union_bear side ply {m} source s xs game t tuple h =
+      let whole = union-members (mask_tracks p m) (name ply m kind.Check) (free m) (bear_items rules side m source) xs s (bear_have p mean side source game) t tuple in
       let (b, i, member) = (any-map (bear_item rules m source) (bearings_of p.men m side) tuple).0 (whole.0 h) in
       bear_within p.men m b.man b.ray b.king 0 (λ _. source) tuple ((mean.bearings m side b game i).bear_tracks 0) member
 
-  lost_within : (side : Side) (ply m : ℕ) (reach s : SetOf) (reach1 rests : Level) (xs : Entries) → IsGameMask p m → IsOver (mask_tracks p m) reach
+  lost_within : (side : Side) (ply : ℕ) {m : ℕ} (reach s : SetOf) (reach1 rests : Level) (xs : Entries) → IsGameMask p m → IsOver (mask_tracks p m) reach
       → Takes (lost_set rules side ply m reach reach1 rests) xs (Some s) → (tuple : List ℤ) → Member s tuple → Member reach tuple
-  lost_within side ply m reach s reach1 rests xs game over t tuple h =
+  lost_within side ply {m} reach s reach1 rests xs game over t tuple h =
       let (a1, b1, escape, order, t1, r1) = Takes-split (union rules ply m kind.Escape (pre_items rules side m reach rests)) _ xs s t in
       let (a2, b2, calm, order, t2, r2) = Takes-split (difference rules ply m kind.Calm reach escape) _ b1 s r1 in
       let (a3, b3, check, order, t3, r3) = Takes-split (union rules ply m kind.Check (bear_items rules (other side) m calm)) _ b2 s r2 in
       let (a4, b4, quiet, order, t4, r4) = Takes-split (difference rules ply m kind.Quiet calm check) _ b3 s r3 in
       let (a5, b5, reply, order, t5, r5) = Takes-split (union rules ply m kind.Reply (pre_items rules side m quiet reach1)) _ b4 s r4 in
       let calm_over = remainder_over (mask_tracks p m) (name ply m kind.Calm) (free m) reach escape a2 calm over t2 in
-      let check_over = union_over (mask_tracks p m) (name ply m kind.Check) (free m) (bear_items rules (other side) m calm) a3 check (bear_have p mean (other side) m calm game) t3 in
-      let reply_over = union_over (mask_tracks p m) (name ply m kind.Reply) (free m) (pre_items rules side m quiet reach1) a5 reply (pre_have p mean side m quiet reach1 game) t5 in
+      let check_over = union_over (mask_tracks p m) (name ply m kind.Check) (free m) (bear_items rules (other side) m calm) a3 check (bear_have p mean (other side) calm game) t3 in
+      let reply_over = union_over (mask_tracks p m) (name ply m kind.Reply) (free m) (pre_items rules side m quiet reach1) a5 reply (pre_have p mean side quiet reach1 game) t5 in
       let joined = together-members (mask_tracks p m) (name ply m kind.Lost) (free m) check reply b5 s check_over reply_over r5 tuple in
       let calms = remainder-members (mask_tracks p m) (name ply m kind.Calm) (free m) reach escape a2 calm over t2 tuple in
       let quiets = remainder-members (mask_tracks p m) (name ply m kind.Quiet) (free m) calm check a4 quiet calm_over t4 tuple in
       elim (joined.0 h) [
-        | inl c ↦ (calms.0 (union_bear (other side) ply m calm check a3 game t3 tuple c)).0
-        | inr r ↦ (calms.0 (quiets.0 (union_pre side ply kind.Reply m quiet reach1 reply a5 game t5 tuple r)).0).0
+        | inl c ↦ (calms.0 (union_bear (other side) ply calm check a3 game t3 tuple c)).0
+        | inr r ↦ (calms.0 (quiets.0 (union_pre side ply kind.Reply quiet reach1 reply a5 game t5 tuple r)).0).0
       ]
 
-  lost_within_if : (side : Side) (ply m : ℕ) (reach reach1 rests : Level) (s : SetOf) (xs : Entries) → IsGameMask p m
+  lost_within_if : (side : Side) (ply : ℕ) {m : ℕ} (reach reach1 rests : Level) (s : SetOf) (xs : Entries) → IsGameMask p m
       → IsOver (mask_tracks p m) (reach m) → Takes (lost_set_if rules side ply reach reach1 rests m) xs (Some s) → (tuple : List ℤ) → Member s tuple
       → Member (reach m) tuple
-  lost_within_if side ply m reach reach1 rests s xs game over (inl (e, o)) tuple h = none_some o
-  lost_within_if side ply m reach reach1 rests s xs game over (inr (inl (inl empty, t))) tuple h =
+  lost_within_if side ply reach reach1 rests s xs game over (inl (e, o)) tuple h = none_some o
+  lost_within_if side ply reach reach1 rests s xs game over (inr (inl (inl empty, t))) tuple h =
       let In_it : SetOf → Type 0 = λ u. Member u tuple in
       absurd (subst In_it (Takes-give Nothing s xs t) h)
-  lost_within_if side ply m reach reach1 rests s xs game over (inr (inl (inr never, t))) tuple h = absurd never
-  lost_within_if side ply m reach reach1 rests s xs game over (inr (inr (some, t))) tuple h =
-      lost_within side ply m (reach m) s reach1 rests xs game over t tuple h
+  lost_within_if side ply reach reach1 rests s xs game over (inr (inl (inr never, t))) tuple h = absurd never
+  lost_within_if side ply {m} reach reach1 rests s xs game over (inr (inr (some, t))) tuple h =
+      lost_within side ply (reach m) s reach1 rests xs game over t tuple h
 
   module _ (winner : Side) (moves : ℕ) where
     abbrev end : ℕ
@@ -230,14 +230,14 @@ module _ (p : Position) (sound : Sound p) (few : length p.men ≤ 8) (mean : Rul
 
     kept-last : IsKept end no_sets
     kept-last = record {
-      stands = λ q fits. (λ h. absurd h, λ h. absurd (kept_end winner p moves q h));
+      stands = λ q fits. (λ h. absurd h, λ h. absurd (kept_end winner p moves h));
       fitting = λ m tuple h. absurd h;
     }
 
     -- a ply of the winner
-    kept-win : (j k : ℕ) (reach kept1 level : Level) (xs : Entries) → j + 2 * suc k ≡ end → IsReached j reach → IsKept (suc j) kept1
+    kept-win : (j k : ℕ) {reach kept1 : Level} (level : Level) (xs : Entries) → j + 2 * suc k ≡ end → IsReached j reach → IsKept (suc j) kept1
         → Takes (win_level rules (side_at j) j reach kept1) xs (Some level) → IsKept j level
-    kept-win j k reach kept1 level xs e reached kept t =
+    kept-win j k {reach} {kept1} level xs e reached kept t =
         let f = win_set rules (side_at j) j reach kept1 in
         let stands = win-stands p mean (side_at j) j reach kept1 level xs (Reach p j) (Kept winner p moves (suc j)) (reached_sound p sound j) reached.stands kept.stands t in
         record {
@@ -245,15 +245,15 @@ module _ (p : Position) (sound : Sound p) (few : length p.men ≤ 8) (mean : Rul
               let step = win-step winner p sound moves j k e q in
               (λ h. step.0 ((stands q fits).0 h), λ h. (stands q fits).1 (step.1 h));
           fitting = λ m. for_masks-level f (HoldsFitting p (side_at j)) (masks_of p)
-              (λ m i s ys made tuple h. reached.fitting m tuple (union_pre (side_at j) j kind.Win m (reach m) kept1 s ys (game_mask p mean m i) made tuple h))
+              (λ m i s ys made tuple h. reached.fitting m tuple (union_pre (side_at j) j kind.Win (reach m) kept1 s ys (game_mask p mean m i) made tuple h))
               no_sets level xs t m (inl (λ tuple h. absurd h));
         }
 
     -- a ply of the loser
-    kept-lost : (j k : ℕ) (reach reach1 kept1 level : Level) (xs : Entries) → j + (2 * k + 1) ≡ end → IsReached j reach → IsReached (suc j) reach1
+    kept-lost : (j k : ℕ) {reach reach1 kept1 : Level} (level : Level) (xs : Entries) → j + (2 * k + 1) ≡ end → IsReached j reach → IsReached (suc j) reach1
         → IsKept (suc j) kept1 → ((m : ℕ) → IsDecided (kept1 m)) → Takes (lost_level rules (side_at j) j reach reach1 kept1) xs (Some level)
         → IsKept j level
-    kept-lost j k reach reach1 kept1 level xs e reached reached1 kept decided t =
+    kept-lost j k {reach} {reach1} {kept1} level xs e reached reached1 kept decided t =
         let stands =
         lost-stands p mean (side_at j) j reach reach1 kept1 level xs (Reach p j) (Reach p (suc j)) (Kept winner p moves (suc j))
         (reached_sound p sound j) reached.over reached1.over reached.stands reached1.stands kept.stands t in
@@ -269,7 +269,7 @@ module _ (p : Position) (sound : Sound p) (few : length p.men ≤ 8) (mean : Rul
               let step = lost-step winner p sound moves j k e kept_or_not q in
               (λ h. step.0 ((stands q fits).0 h), λ h. (stands q fits).1 (step.1 h));
           fitting = λ m. for_masks-level (lost_set_if rules (side_at j) j reach reach1 rests) (HoldsFitting p (side_at j)) (masks_of p)
-              (λ m i s ys made tuple h. reached.fitting m tuple (lost_within_if (side_at j) j m reach reach1 rests s ys (game_mask p mean m i) (reached.over m) made tuple h))
+              (λ m i s ys made tuple h. reached.fitting m tuple (lost_within_if (side_at j) j reach reach1 rests s ys (game_mask p mean m i) (reached.over m) made tuple h))
               no_sets level vs last m (inl (λ tuple h. absurd h));
         }
 
@@ -278,28 +278,28 @@ module _ (p : Position) (sound : Sound p) (few : length p.men ≤ 8) (mean : Rul
     KeptFrom j [] = Unit {0}
     KeptFrom j (level ∷ later) = IsKept j level × KeptFrom (suc j) later
 
-    kept-next : (j left : ℕ) (reach reach1 kept1 level : Level) (xs : Entries) → j + suc left ≡ end → IsReached j reach → IsReached (suc j) reach1
+    kept-next : {j : ℕ} (left : ℕ) {reach reach1 kept1 : Level} (level : Level) (xs : Entries) → j + suc left ≡ end → IsReached j reach → IsReached (suc j) reach1
         → IsKept (suc j) kept1 → ((m : ℕ) → IsDecided (kept1 m)) → Takes (kept_level rules p.turn j (suc left) reach reach1 kept1) xs (Some level)
         → IsKept j level
-    kept-next j left reach reach1 kept1 level xs e reached reached1 kept decided t =
+    kept-next {j} left {reach} {reach1} {kept1} level xs e reached reached1 kept decided t =
         elim (two_steps (suc left)) [
           | inl (zero, is, even) ↦ absurd (omega (arith, is))
           | inl (suc k, is, even) ↦
-              kept-win j k reach kept1 level xs (omega (arith, is, e)) reached kept
+              kept-win j k level xs (omega (arith, is, e)) reached kept
               (branch (is_even (suc left)) true (win_level rules (side_at j) j reach kept1) (lost_level rules (side_at j) j reach reach1 kept1) xs level even t)
           | inr (k, is, odd) ↦
-              kept-lost j k reach reach1 kept1 level xs (omega (arith, is, e)) reached reached1 kept decided
+              kept-lost j k level xs (omega (arith, is, e)) reached reached1 kept decided
               (branch (is_even (suc left)) false (win_level rules (side_at j) j reach kept1) (lost_level rules (side_at j) j reach reach1 kept1) xs level odd t)
         ]
 
-    backward-kept : (before : List Level) (reach1 kept1 : Level) (later levels : List Level) (xs : Entries) → IsReached (length before) reach1
+    backward-kept : (before : List Level) {reach1 : Level} (kept1 : Level) (later levels : List Level) (xs : Entries) → IsReached (length before) reach1
         → AllReached before → KeptFrom (length before) (kept1 ∷ later) → length before + length later ≡ end → AreDecided levels
         → Takes (backward rules p.turn reach1 before kept1 later) xs (Some levels) → KeptFrom 0 levels × (length levels ≡ suc end)
-    backward-kept [] reach1 kept1 later levels xs reached1 all kept sum decided t =
+    backward-kept [] kept1 later levels xs reached1 all kept sum decided t =
         let is : levels ≡ kept1 ∷ later = Takes-give (kept1 ∷ later) levels xs t in
         let count : length (kept1 ∷ later) ≡ suc end = omega (arith, sum) in
         (subst (KeptFrom 0) (sym is) kept, ap length is ∙ count)
-    backward-kept (reach ∷ before) reach1 kept1 later levels xs reached1 all kept sum decided t =
+    backward-kept (reach ∷ before) {reach1} kept1 later levels xs reached1 all kept sum decided t =
         let j = length before in
         let (us, vs, level, order, one, rest) =
         Takes-split (kept_level rules p.turn j (suc (length later)) reach reach1 kept1)
@@ -308,8 +308,8 @@ module _ (p : Position) (sound : Sound p) (few : length p.men ≤ 8) (mean : Rul
         All-head (λ l. (m : ℕ) → IsDecided (l m)) kept1 later
         (backward-all rules p.turn (λ l. (m : ℕ) → IsDecided (l m)) (reach ∷ before) reach1 kept1 later levels xs t decided) in
         let e : j + suc (length later) ≡ end = omega (arith, sum) in
-        let now = kept-next j (length later) reach reach1 kept1 level us e all.0 reached1 kept.0 here one in
-        backward-kept before reach level (kept1 ∷ later) levels vs all.0 all.1 (now, kept) e decided rest
+        let now = kept-next (length later) level us e all.0 reached1 kept.0 here one in
+        backward-kept before level (kept1 ∷ later) levels vs all.0 all.1 (now, kept) e decided rest
 
     plan-kept : (last : ℕ) (levels : List Level) (xs : Entries) → last ≡ end → AreDecided levels
         → Takes (plan rules p.turn (mask_of p) last) xs (Some levels) → KeptFrom 0 levels × (length levels ≡ suc end)
@@ -324,7 +324,7 @@ module _ (p : Position) (sound : Sound p) (few : length p.men ≤ 8) (mean : Rul
         from (reach ∷ before) vs all count rest =
             let at_end : end ≡ length before = omega (arith, count, is) in
             let kept : IsKept (length before) no_sets = subst (λ (n : ℕ). IsKept n no_sets) at_end kept-last in
-            backward-kept before reach no_sets [] levels vs all.0 all.1 (kept, tt) (omega (arith, at_end)) decided rest
+            backward-kept before no_sets [] levels vs all.0 all.1 (kept, tt) (omega (arith, at_end)) decided rest
 
     pub plan_to-kept : (last : ℕ) (levels : List Level) (xs : Entries) → last ≡ end → 0 < last → AreDecided levels
         → Takes (plan_to p last) xs (Some levels) → KeptFrom 0 levels × (length levels ≡ suc end)
@@ -414,7 +414,7 @@ module _ (p : Position) (sound : Sound p) (few : length p.men ≤ 8) (mean : Rul
       by zero is t =
           let none : levels ≡ [] = Takes-give [] levels xs t in
           let first = kept_first winner p moves in (
-            λ h. absurd (kept_end winner p moves p (subst (λ (j : ℕ). Kept winner p moves j p) is (first.0 h))),
+            λ h. absurd (kept_end winner p moves (subst (λ (j : ℕ). Kept winner p moves j p) is (first.0 h))),
             λ h. absurd (subst IsFirst none h),
           )
       by (suc last) is t =

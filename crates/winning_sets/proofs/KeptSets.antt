@@ -74,12 +74,12 @@ module _ (p : Position) (mean : RulesMean p) where
   pub in_masks : (side : Side) (q : Position) → Fits p side q → Contains (masks_of p) (mask_of q)
   in_masks side q fits = (mean.game.masks (mask_of q)).1 (mean.game.mask_is side q fits)
 
-  pub pre_have : (side : Side) (m : ℕ) (source : SetOf) (targets : Level) → IsGameMask p m → HaveTracks (mask_tracks p m) (pre_items rules side m source targets)
-  pre_have side m source targets game =
+  pub pre_have : (side : Side) {m : ℕ} (source : SetOf) (targets : Level) → IsGameMask p m → HaveTracks (mask_tracks p m) (pre_items rules side m source targets)
+  pre_have side {m} source targets game =
       have-map (mask_tracks p m) (pre_item rules m source targets) (options_of p.men m side) (λ o i. (mean.options side m o game i).pre_tracks 0 1)
 
-  pub bear_have : (side : Side) (m : ℕ) (source : SetOf) → IsGameMask p m → HaveTracks (mask_tracks p m) (bear_items rules side m source)
-  bear_have side m source game =
+  pub bear_have : (side : Side) {m : ℕ} (source : SetOf) → IsGameMask p m → HaveTracks (mask_tracks p m) (bear_items rules side m source)
+  bear_have side {m} source game =
       have-map (mask_tracks p m) (bear_item rules m source) (bearings_of p.men m side) (λ b i. (mean.bearings m side b game i).bear_tracks 0)
 
   image_have : (side : Side) (to : ℕ) (level : Level) → HaveTracks (mask_tracks p to) (image_items rules side to level)
@@ -91,13 +91,13 @@ module _ (p : Position) (mean : RulesMean p) where
       (mean.options side m o (game_mask m in_m) j).image_tracks 0 ∙ ap (mask_tracks p) (eqb-true (target_of m o) to e)))
 
   -- a union of pre over all choices, at a position that fits
-  pub pre-stands : (side : Side) (ply : ℕ) (k : Part) (q : Position) (source s : SetOf) (targets : Level) (xs : Entries) (S Q : Positions)
+  pub pre-stands : {side : Side} (ply : ℕ) (k : Part) {q : Position} (source s : SetOf) (targets : Level) (xs : Entries) (S Q : Positions)
       → Fits p side q → (S q → Sound q) → Member source (tuple_of q) ↔ S q → Stands p (other side) targets Q
       → Takes (union rules ply (mask_of q) k (pre_items rules side (mask_of q) source targets)) xs (Some s) → Member s (tuple_of q) ↔ Pre S Q q
-  pre-stands side ply k q source s targets xs S Q fits sound sources leads t =
+  pre-stands {side} ply k {q} source s targets xs S Q fits sound sources leads t =
       let m = mask_of q in
       let game = mean.game.mask_is side q fits in
-      let whole = union-members (mask_tracks p m) (name ply m k) (free m) (pre_items rules side m source targets) xs s (pre_have side m source targets game) t (tuple_of q) in
+      let whole = union-members (mask_tracks p m) (name ply m k) (free m) (pre_items rules side m source targets) xs s (pre_have side source targets game) t (tuple_of q) in
       let any = any-map (pre_item rules m source targets) (options_of p.men m side) (tuple_of q) in
       let means = λ (o : Opt) (i : Contains (options_of p.men m side) o). (mean.options side m o game i).pre 0 1 (two source (targets (target_of m o))) q fits refl in (
         λ h.
@@ -127,35 +127,35 @@ module _ (p : Position) (mean : RulesMean p) where
   win-stands side ply reach kept1 level xs AtPly KeptAfter sound reaches keeps t q fits =
       let Is : ℕ → SetOf → Type 0 = λ m s. (ys : Entries) × Takes (win_set rules side ply reach kept1 m) ys (Some s) in
       let (ys, made) = for_masks-level (win_set rules side ply reach kept1) Is (masks_of p) (λ m i s zs h. (zs, h)) no_sets level xs t (mask_of q) (inr (in_masks side q fits)) in
-      pre-stands side ply kind.Win q (reach (mask_of q)) (level (mask_of q)) kept1 ys AtPly KeptAfter fits (sound q) (reaches q fits) keeps made
+      pre-stands ply kind.Win (reach (mask_of q)) (level (mask_of q)) kept1 ys AtPly KeptAfter fits (sound q) (reaches q fits) keeps made
 
-  checked : (side : Side) (q : Position) → Fits p side q → InCheck q q.turn → InCheck q (other (other side))
-  checked side q fits h =
+  checked : {side : Side} {q : Position} → Fits p side q → InCheck q q.turn → InCheck q (other (other side))
+  checked {side} {q} fits h =
       let P : Side → Type 0 = λ s. InCheck q s in
       subst P (fits.turn ∙ sym (other_other side)) h
 
-  unchecked : (side : Side) (q : Position) → Fits p side q → InCheck q (other (other side)) → InCheck q q.turn
-  unchecked side q fits h =
+  unchecked : {side : Side} {q : Position} → Fits p side q → InCheck q (other (other side)) → InCheck q q.turn
+  unchecked {side} {q} fits h =
       let P : Side → Type 0 = λ s. InCheck q s in
       subst P (other_other side ∙ sym fits.turn) h
 
   -- a union of bear over all bearings on the king of the side to move
-  pub check-stands : (side : Side) (ply : ℕ) (q : Position) (source s : SetOf) (xs : Entries) (S : Positions) → Fits p side q
+  pub check-stands : {side : Side} (ply : ℕ) {q : Position} (source s : SetOf) (xs : Entries) (S : Positions) → Fits p side q
       → Member source (tuple_of q) ↔ S q
       → Takes (union rules ply (mask_of q) kind.Check (bear_items rules (other side) (mask_of q) source)) xs (Some s)
       → Member s (tuple_of q) ↔ Checked S q
-  check-stands side ply q source s xs S fits sources t =
+  check-stands {side} ply {q} source s xs S fits sources t =
       let m = mask_of q in
       let game = mean.game.mask_is side q fits in
-      let whole = union-members (mask_tracks p m) (name ply m kind.Check) (free m) (bear_items rules (other side) m source) xs s (bear_have (other side) m source game) t (tuple_of q) in
+      let whole = union-members (mask_tracks p m) (name ply m kind.Check) (free m) (bear_items rules (other side) m source) xs s (bear_have (other side) source game) t (tuple_of q) in
       let any = any-map (bear_item rules m source) (bearings_of p.men m (other side)) (tuple_of q) in
       let means = λ (b : Bearing) (i : Contains (bearings_of p.men m (other side)) b). (mean.bearings m (other side) b game i).bear 0 (λ _. source) side q fits refl in (
         λ h.
             let (b, i, member) = any.0 (whole.0 h) in
             let (here, bears) = (means b i).0 member in
-            record { is_in = sources.0 here; check = unchecked side q fits ((mean.game.checks side (other side) q fits).1 (b, i, bears)) },
+            record { is_in = sources.0 here; check = unchecked fits ((mean.game.checks side (other side) q fits).1 (b, i, bears)) },
         λ h.
-            let (b, i, bears) = (mean.game.checks side (other side) q fits).0 (checked side q fits h.check) in
+            let (b, i, bears) = (mean.game.checks side (other side) q fits).0 (checked fits h.check) in
             whole.1 (any.1 (b, i, (means b i).1 (sources.1 h.is_in, bears))),
       )
 
@@ -171,12 +171,12 @@ module _ (p : Position) (mean : RulesMean p) where
       )
 
   -- the parts of a loser's ply at one mask
-  lost_set-stands : (side : Side) (ply : ℕ) (q : Position) (reach s : SetOf) (reach1 rests : Level) (xs : Entries)
+  lost_set-stands : {side : Side} (ply : ℕ) {q : Position} (reach s : SetOf) (reach1 rests : Level) (xs : Entries)
       (AtPly AfterPly KeptAfter : Positions)
       → Fits p side q → (AtPly q → Sound q) → IsOver (mask_tracks p (mask_of q)) reach → Member reach (tuple_of q) ↔ AtPly q
       → Stands p (other side) reach1 AfterPly → Stands p (other side) rests (Rest AfterPly KeptAfter)
       → Takes (lost_set rules side ply (mask_of q) reach reach1 rests) xs (Some s) → Member s (tuple_of q) ↔ LostPart AtPly AfterPly KeptAfter q
-  lost_set-stands side ply q reach s reach1 rests xs AtPly AfterPly KeptAfter fits sound over reaches reaches1 rested t =
+  lost_set-stands {side} ply {q} reach s reach1 rests xs AtPly AfterPly KeptAfter fits sound over reaches reaches1 rested t =
       let m = mask_of q in
       let game = mean.game.mask_is side q fits in
       let (a1, b1, escape, order, t1, r1) = Takes-split (union rules ply m kind.Escape (pre_items rules side m reach rests)) _ xs s t in
@@ -184,33 +184,33 @@ module _ (p : Position) (mean : RulesMean p) where
       let (a3, b3, check, order, t3, r3) = Takes-split (union rules ply m kind.Check (bear_items rules (other side) m calm)) _ b2 s r2 in
       let (a4, b4, quiet, order, t4, r4) = Takes-split (difference rules ply m kind.Quiet calm check) _ b3 s r3 in
       let (a5, b5, reply, order, t5, r5) = Takes-split (union rules ply m kind.Reply (pre_items rules side m quiet reach1)) _ b4 s r4 in
-      let escapes = pre-stands side ply kind.Escape q reach escape rests a1 AtPly (Rest AfterPly KeptAfter) fits sound reaches rested t1 in
+      let escapes = pre-stands ply kind.Escape reach escape rests a1 AtPly (Rest AfterPly KeptAfter) fits sound reaches rested t1 in
       let calms = difference-stands ply kind.Calm q reach escape calm a2 AtPly (Escape AtPly AfterPly KeptAfter) over reaches escapes t2 in
       let calm_over = remainder_over (mask_tracks p m) (name ply m kind.Calm) (free m) reach escape a2 calm over t2 in
-      let checks = check-stands side ply q calm check a3 (Calm AtPly AfterPly KeptAfter) fits calms t3 in
+      let checks = check-stands ply calm check a3 (Calm AtPly AfterPly KeptAfter) fits calms t3 in
       let quiets = difference-stands ply kind.Quiet q calm check quiet a4 (Calm AtPly AfterPly KeptAfter) (Check AtPly AfterPly KeptAfter) calm_over calms checks t4 in
-      let replies = pre-stands side ply kind.Reply q quiet reply reach1 a5 (Quiet AtPly AfterPly KeptAfter) AfterPly fits (λ h. sound h.is_in.is_in) quiets reaches1 t5 in
-      let check_over = union_over (mask_tracks p m) (name ply m kind.Check) (free m) (bear_items rules (other side) m calm) a3 check (bear_have (other side) m calm game) t3 in
-      let reply_over = union_over (mask_tracks p m) (name ply m kind.Reply) (free m) (pre_items rules side m quiet reach1) a5 reply (pre_have side m quiet reach1 game) t5 in
+      let replies = pre-stands ply kind.Reply quiet reply reach1 a5 (Quiet AtPly AfterPly KeptAfter) AfterPly fits (λ h. sound h.is_in.is_in) quiets reaches1 t5 in
+      let check_over = union_over (mask_tracks p m) (name ply m kind.Check) (free m) (bear_items rules (other side) m calm) a3 check (bear_have (other side) calm game) t3 in
+      let reply_over = union_over (mask_tracks p m) (name ply m kind.Reply) (free m) (pre_items rules side m quiet reach1) a5 reply (pre_have side quiet reach1 game) t5 in
       let joined = together-members (mask_tracks p m) (name ply m kind.Lost) (free m) check reply b5 s check_over reply_over r5 (tuple_of q) in (
         λ h. elim (joined.0 h) [ inl c ↦ inl (checks.0 c) | inr r ↦ inr (replies.0 r) ],
         λ h. elim h [ inl c ↦ joined.1 (inl (checks.1 c)) | inr r ↦ joined.1 (inr (replies.1 r)) ],
       )
 
-  lost_or_empty : (side : Side) (ply : ℕ) (q : Position) (reach reach1 rests : Level) (s : SetOf) (xs : Entries)
+  lost_or_empty : {side : Side} (ply : ℕ) {q : Position} (reach reach1 rests : Level) (s : SetOf) (xs : Entries)
       (AtPly AfterPly KeptAfter : Positions)
       → Fits p side q → (AtPly q → Sound q) → IsOver (mask_tracks p (mask_of q)) (reach (mask_of q))
       → Member (reach (mask_of q)) (tuple_of q) ↔ AtPly q → Stands p (other side) reach1 AfterPly
       → Stands p (other side) rests (Rest AfterPly KeptAfter) → Takes (lost_set_if rules side ply reach reach1 rests (mask_of q)) xs (Some s)
       → Member s (tuple_of q) ↔ LostPart AtPly AfterPly KeptAfter q
-  lost_or_empty side ply q reach reach1 rests s xs AtPly AfterPly KeptAfter fits sound over reaches reaches1 rested (inl (e, o)) = none_some o
-  lost_or_empty side ply q reach reach1 rests s xs AtPly AfterPly KeptAfter fits sound over reaches reaches1 rested (inr (inl (inl empty, t))) =
+  lost_or_empty ply reach reach1 rests s xs AtPly AfterPly KeptAfter fits sound over reaches reaches1 rested (inl (e, o)) = none_some o
+  lost_or_empty ply {q} reach reach1 rests s xs AtPly AfterPly KeptAfter fits sound over reaches reaches1 rested (inr (inl (inl empty, t))) =
       let is : s ≡ Nothing = Takes-give Nothing s xs t in
       let none = λ (h : AtPly q). empty (tuple_of q) (reaches.1 h) in
       rw is (λ h. absurd h, λ h. elim h [ inl c ↦ none c.is_in.is_in | inr r ↦ none r.is_in.is_in.is_in ])
-  lost_or_empty side ply q reach reach1 rests s xs AtPly AfterPly KeptAfter fits sound over reaches reaches1 rested (inr (inl (inr never, t))) = absurd never
-  lost_or_empty side ply q reach reach1 rests s xs AtPly AfterPly KeptAfter fits sound over reaches reaches1 rested (inr (inr (some, t))) =
-      lost_set-stands side ply q (reach (mask_of q)) s reach1 rests xs AtPly AfterPly KeptAfter fits sound over reaches reaches1 rested t
+  lost_or_empty ply reach reach1 rests s xs AtPly AfterPly KeptAfter fits sound over reaches reaches1 rested (inr (inl (inr never, t))) = absurd never
+  lost_or_empty ply {q} reach reach1 rests s xs AtPly AfterPly KeptAfter fits sound over reaches reaches1 rested (inr (inr (some, t))) =
+      lost_set-stands ply (reach (mask_of q)) s reach1 rests xs AtPly AfterPly KeptAfter fits sound over reaches reaches1 rested t
 
   -- each set of the level is over the tracks of its mask
   abbrev pub AreOver : Level → Type 0
@@ -233,7 +233,7 @@ module _ (p : Position) (mean : RulesMean p) where
       let set_of = lost_set_if rules side ply reach reach1 rests in
       let Is : ℕ → SetOf → Type 0 = λ m s. (ys : Entries) × Takes (set_of m) ys (Some s) in
       let (ys, made) = for_masks-level set_of Is (masks_of p) (λ m i s zs h. (zs, h)) no_sets level vs last (mask_of q) (inr (in_masks side q fits)) in
-      lost_or_empty side ply q reach reach1 rests (level (mask_of q)) ys AtPly AfterPly KeptAfter fits (sound q) (over (mask_of q)) (reaches q fits) reaches1 rested made
+      lost_or_empty ply reach reach1 rests (level (mask_of q)) ys AtPly AfterPly KeptAfter fits (sound q) (over (mask_of q)) (reaches q fits) reaches1 rested made
 
   -- what the union of images has, tuple by tuple
   record IsImageTuple (side : Side) (to : ℕ) (reach : Level) (tuple : List ℤ) : Type 0 where
@@ -282,10 +282,10 @@ module _ (p : Position) (mean : RulesMean p) where
       (r, fits_r, target ∙ same, is)
 
   -- the union of images at a position that fits
-  image-stands : (side : Side) (ply : ℕ) (r : Position) (reach : Level) (s : SetOf) (xs : Entries) (AtPly : Positions) → AreFitting side reach
+  image-stands : (side : Side) (ply : ℕ) {r : Position} (reach : Level) (s : SetOf) (xs : Entries) (AtPly : Positions) → AreFitting side reach
       → Stands p side reach AtPly → ((q : Position) → AtPly q → Fits p side q × Sound q) → Fits p (other side) r
       → Takes (union rules ply (mask_of r) kind.Image (image_items rules side (mask_of r) reach)) xs (Some s) → Member s (tuple_of r) ↔ Image AtPly r
-  image-stands side ply r reach s xs AtPly fitting stands inside fits t =
+  image-stands side ply {r} reach s xs AtPly fitting stands inside fits t =
       let tuples = image-tuples side ply (mask_of r) reach s xs fitting t (tuple_of r) in (
         λ h.
             let it = tuples.0 h in
@@ -319,18 +319,18 @@ module _ (p : Position) (mean : RulesMean p) where
       )
 
   -- the set made narrower by bearings
-  narrow-each : (side : Side) (ply : ℕ) (r : Position) (last : Made) → Fits p side r → (bearings : List Bearing)
+  narrow-each : {side : Side} (ply : ℕ) {r : Position} (last : Made) → Fits p side r → (bearings : List Bearing)
       → ((b : Bearing) → Contains bearings b → BearingsMean p (mask_of r) b) → (made : Made) (xs : Entries)
       → Takes (each bearings (narrow_by rules ply (mask_of r)) made) xs (Some last)
       → Member last.0 (tuple_of r) ↔ (Member made.0 (tuple_of r) × ((b : Bearing) → Contains bearings b → BearsOnKing b r → ⊥))
-  narrow-each side ply r last fits [] means made xs t =
+  narrow-each ply last fits [] means made xs t =
       let is : last ≡ made = Takes-give made last xs t in
       rw is (λ h. (h, λ b i bears. contains_none b i), λ h. h.0)
-  narrow-each side ply r last fits (b ∷ bearings) means made xs t =
+  narrow-each {side} ply {r} last fits (b ∷ bearings) means made xs t =
       let (us, vs, next, order, first, rest) = Takes-split (narrow_by rules ply (mask_of r) b made) (each bearings (narrow_by rules ply (mask_of r))) xs last t in
       let is = make-members (name ply (mask_of r) kind.Safe) made.1 (safe_item rules (mask_of r) made.0 b) us next first in
       let safe = (means b (contains_head b bearings)).safe 0 (λ _. made.0) side r fits refl in
-      let more = narrow-each side ply r last fits bearings (λ c i. means c (contains_rest b bearings c i)) next vs rest in (
+      let more = narrow-each ply last fits bearings (λ c i. means c (contains_rest b bearings c i)) next vs rest in (
         λ h.
             let (x, y) = more.0 h in
             let (c, d) = safe.0 ((is.same (tuple_of r)).0 x) in
@@ -338,14 +338,14 @@ module _ (p : Position) (mean : RulesMean p) where
         λ (c, none). more.1 ((is.same (tuple_of r)).1 (safe.1 (c, λ bears. none b (contains_head b bearings) bears)), λ k j bears. none k (contains_rest b bearings k j) bears),
       )
 
-  narrow-stands : (side : Side) (ply : ℕ) (r : Position) (s u : SetOf) → Fits p side r → (bearings : List Bearing)
+  narrow-stands : {side : Side} (ply : ℕ) {r : Position} (s u : SetOf) → Fits p side r → (bearings : List Bearing)
       → ((b : Bearing) → Contains bearings b → BearingsMean p (mask_of r) b) → (xs : Entries)
       → Takes (narrow rules ply (mask_of r) bearings s) xs (Some u)
       → Member u (tuple_of r) ↔ (Member s (tuple_of r) × ((b : Bearing) → Contains bearings b → BearsOnKing b r → ⊥))
-  narrow-stands side ply r s u fits bearings means xs t =
+  narrow-stands ply {r} s u fits bearings means xs t =
       let (us, vs, last, order, first, given) = Takes-split (each bearings (narrow_by rules ply (mask_of r)) (s, 1)) (λ made. Give made.0) xs u t in
       let is : u ≡ last.0 = Takes-give last.0 u vs given in
-      rw is (narrow-each side ply r last fits bearings means (s, 1) us first)
+      rw is (narrow-each ply last fits bearings means (s, 1) us first)
 
   each_within : (ply m : ℕ) (last : Made) (tuple : List ℤ) (bearings : List Bearing) → ((b : Bearing) → Contains bearings b → BearingsMean p m b)
       → (made : Made) (xs : Entries) → Takes (each bearings (narrow_by rules ply m) made) xs (Some last) → Member last.0 tuple → Member made.0 tuple
@@ -376,8 +376,8 @@ module _ (p : Position) (mean : RulesMean p) where
       let game = mean.game.mask_is (other side) r fits in
       let bearings = bearings_of p.men m (other side) in
       let (us, vs, moved, order, first, rest) = Takes-split (union rules ply m kind.Image (image_items rules side m reach)) (narrow rules ply m bearings) xs s t in
-      let images = image-stands side ply r reach moved us AtPly fitting stands inside fits first in
-      let narrows = narrow-stands (other side) ply r moved s fits bearings (λ b i. mean.bearings m (other side) b game i) vs rest in
+      let images = image-stands side ply reach moved us AtPly fitting stands inside fits first in
+      let narrows = narrow-stands ply moved s fits bearings (λ b i. mean.bearings m (other side) b game i) vs rest in
       let P : Side → Type 0 = λ s. InCheck r (other s) in
       let checks = mean.game.checks (other side) (other side) r fits in (
         λ h.

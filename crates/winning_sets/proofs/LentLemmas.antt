@@ -106,20 +106,20 @@ pub record IsLentAt (stock : List Man) (masks : List ℕ) (level : Level) (m : �
   pub formed : IsSetAt stock m a
 
 module _ (table : List Automaton) (stock : List Man) where
-  formed_of : (m : ℕ) (a : Automaton) → IsSetOn (tracks_of stock (is_live m)) a → IsSetAt stock m a
-  formed_of m a on = record { reduced = on.reduced; integers = on.decides.integers; tracks = on.decides.tracks_are; few = on.few }
+  formed_of : (m : ℕ) {a : Automaton} → IsSetOn (tracks_of stock (is_live m)) a → IsSetAt stock m a
+  formed_of m on = record { reduced = on.reduced; integers = on.decides.integers; tracks = on.decides.tracks_are; few = on.few }
 
-  lent_here : (mask : ℕ) (masks : List ℕ) (other : Automaton) (id : Option SetId) (ids : Names) (level : Level) → (Contains masks mask → ⊥)
+  lent_here : (mask : ℕ) (masks : List ℕ) {other : Automaton} (id : Option SetId) (ids : Names) (level : Level) → (Contains masks mask → ⊥)
       → IsEmptyOn (tracks_of stock (is_live mask)) other → IsNameOn (tracks_of stock (is_live mask)) table id
       → IsLentAt stock (mask ∷ masks) (level_from table (level_with level mask (set_at table id)) masks ids) mask (set_or table other id)
-  lent_here mask masks other id ids level off empty name =
+  lent_here mask masks {other} id ids level off empty name =
       let with_it : Level = level_with level mask (set_at table id) in
       let self : with_it mask ≡ set_at table id = if_true (mask == mask) (set_at table id) (level mask) (eq-eqb mask mask refl) in
       let whole : level_from table with_it masks ids mask ≡ set_at table id = level_from-other table masks ids with_it mask off ∙ self in
       record {
         among = contains_head mask masks;
         same = subst (λ (s : SetOf). SameSets s (Table (set_or table other id))) (sym whole) (set_same table stock mask other empty id name);
-        formed = formed_of mask (set_or table other id) (set_on table stock mask other empty id name);
+        formed = formed_of mask (set_on table stock mask other empty id name);
       }
 
   lent_from : (masks : List ℕ) (others : List Automaton) (ids : Names) (level : Level) → Apart masks → AreEmpties stock masks others
@@ -137,7 +137,7 @@ module _ (table : List Automaton) (stock : List Man) where
           → (if b then Some (set_or table other id) else set_of masks (sets_or table others ids) m) ≡ Some a
           → IsLentAt stock (mask ∷ masks) (level_from table (level_with level mask (set_at table id)) masks ids) m a
       by true q later h =
-          let here = lent_here mask masks other id ids level first empty name in
+          let here = lent_here mask masks id ids level first empty name in
           let there = subst (λ (k : ℕ). IsLentAt stock (mask ∷ masks) (level_from table (level_with level mask (set_at table id)) masks ids) k (set_or table other id)) (eqb-true mask m q) here in
           subst (λ (s : Automaton). IsLentAt stock (mask ∷ masks) (level_from table (level_with level mask (set_at table id)) masks ids) m s) (same_some h) there
       by false q later h = let is = later h in record { among = contains_rest mask masks m is.among; same = is.same; formed = is.formed }
@@ -224,7 +224,7 @@ module _ (Set : ℕ → Position → Type 0) (p : Position) (game : GameMeans p)
       record {
         within = omega (arith, less, count);
         game_mask = (game.masks mask).0 is.among;
-        tuples = same_has (Set ply) (level_of table (masks_of p) ids) mask a level is.same;
+        tuples = same_has mask a level is.same;
         formed = is.formed;
       }
 
@@ -235,8 +235,8 @@ module _ (Set : ℕ → Position → Type 0) (p : Position) (game : GameMeans p)
       let (ids, found, same) = names_at (sets_or table others) names ply sets at in
       handed ply mask a ids found (ap (λ s. set_of (masks_of p) s mask) same ∙ is))
 
-  found_at : (ply mask : ℕ) → ply ≤ last → IsGameMask p mask → (a : Automaton) × (lent_at ply mask ≡ Some a)
-  found_at ply mask within is =
+  found_at : (ply : ℕ) {mask : ℕ} → ply ≤ last → IsGameMask p mask → (a : Automaton) × (lent_at ply mask ≡ Some a)
+  found_at ply {mask} within is =
       let (ids, at) = there names ply (omega (arith, within, count)) in
       let (a, e) = lent_found table p.men (masks_of p) others ids empties (names_there ply ids at) mask ((game.masks mask).1 is) in
       (a, ap (option_and_then (λ sets. set_of (masks_of p) sets mask)) (mapped_at (sets_or table others) names ply ids at) ∙ e)
@@ -244,16 +244,16 @@ module _ (Set : ℕ → Position → Type 0) (p : Position) (game : GameMeans p)
   pub lent_sets_are : AreSets Set p last (sets_at (masks_of p) (map (sets_or table others) names))
   lent_sets_are = record {
     found = λ ply mask within is.
-        let (a, e) = found_at ply mask within is in
+        let (a, e) = found_at ply within is in
         subst (λ o. IsSomeAnd o (HasTuplesOf (Set ply) mask)) (sym e) (handed_at ply mask a e).tuples;
     only = λ ply mask a e. let h = handed_at ply mask a e in (h.within, h.game_mask);
     formed = λ ply mask a e. (handed_at ply mask a e).formed;
   }
 
 -- where the set has no position, the sets of one ply without a tuple
-pub empty_sets_are : (Set : ℕ → Position → Type 0) (p : Position) → GameMeans p → (others : List Automaton) → AreEmpties p.men (masks_of p) others
+pub empty_sets_are : (Set : ℕ → Position → Type 0) {p : Position} → GameMeans p → (others : List Automaton) → AreEmpties p.men (masks_of p) others
     → ((q : Position) → Set 0 q → ⊥) → AreSets Set p 0 (sets_at (masks_of p) (others ∷ []))
-empty_sets_are Set p game others empties none =
+empty_sets_are Set {p} game others empties none =
     let ids : Names = replicate (length (masks_of p)) None in
     let AreNamed : Names → Type 0 = AreNames p.men [] (masks_of p) in
     let level : AreLevelsOf Set 0 (level_of [] (masks_of p) ids ∷ []) = record {
@@ -295,19 +295,19 @@ pub all_within : (stock : List Man) (table : List Automaton) (masks : List ℕ) 
 all_within stock table masks others levels empties named =
     All-weaker (AreNames stock table masks) (AreWithin (length table) (length others)) (λ ids is. names_within stock table masks others ids empties is) levels named
 
-zip_push : (stock : List Man) (masks : List ℕ) (sets : List Automaton) (mask : ℕ) (a : Automaton) → AreEmpties stock masks sets
+zip_push : (stock : List Man) (masks : List ℕ) (sets : List Automaton) (mask : ℕ) {a : Automaton} → AreEmpties stock masks sets
     → IsEmptyOn (tracks_of stock (is_live mask)) a → AreEmpties stock (masks ++ mask ∷ []) (sets ++ a ∷ [])
-zip_push stock [] [] mask a are is = (is, tt)
-zip_push stock [] (b ∷ sets) mask a are is = absurd are
-zip_push stock (m ∷ masks) [] mask a are is = absurd are
-zip_push stock (m ∷ masks) (b ∷ sets) mask a (first, are) is = (first, zip_push stock masks sets mask a are is)
+zip_push stock [] [] mask are is = (is, tt)
+zip_push stock [] (b ∷ sets) mask are is = absurd are
+zip_push stock (m ∷ masks) [] mask are is = absurd are
+zip_push stock (m ∷ masks) (b ∷ sets) mask (first, are) is = (first, zip_push stock masks sets mask are is)
 
 -- an empty set for one more of the masks
-pub empties_more : (stock : List Man) (masks : List ℕ) (sets : List Automaton) (i d : ℕ) (a : Automaton) → i < length masks
+pub empties_more : (stock : List Man) (masks : List ℕ) (sets : List Automaton) (i d : ℕ) {a : Automaton} → i < length masks
     → AreEmpties stock (take i masks) sets → IsEmptyOn (tracks_of stock (is_live (get_or masks i d))) a
     → AreEmpties stock (take (i + 1) masks) (sets ++ a ∷ [])
-empties_more stock masks sets i d a within are is =
-    subst (λ (ms : List ℕ). AreEmpties stock ms (sets ++ a ∷ [])) (sym (take_more masks i d within)) (zip_push stock (take i masks) sets (get_or masks i d) a are is)
+empties_more stock masks sets i d {a} within are is =
+    subst (λ (ms : List ℕ). AreEmpties stock ms (sets ++ a ∷ [])) (sym (take_more masks i d within)) (zip_push stock (take i masks) sets (get_or masks i d) are is)
 
 pub lent_count : (table others : List Automaton) (ids : Names) → length ids ≤ length others → length (sets_or table others ids) ≡ length ids
 lent_count table [] [] few = refl

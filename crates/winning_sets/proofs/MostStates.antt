@@ -48,8 +48,8 @@ most_is s valid count within least = record {
 }
 
 -- each set has few states, and so has the one that has most
-pub most_few : (s : Solution) → IsValid s → (count : ℕ) → IsMostStates s count → count ≤ 200000
-most_few s valid count most = most.least 200000 (λ ply mask a some. (valid_formed s valid ply mask a some).few)
+pub most_few : {s : Solution} → IsValid s → {count : ℕ} → IsMostStates s count → count ≤ 200000
+most_few {s} valid most = most.least 200000 (λ ply mask a some. (valid_formed s valid ply mask a some).few)
 
 pub kept_few : (s : Solution) → IsValid s → (ply mask : ℕ) (o : Option (Bor Automaton)) → option_copied o ≡ kept_at s ply mask → IfSome o (λ a. length a.now.accept ≤ 200000)
 kept_few s valid ply mask None is = tt

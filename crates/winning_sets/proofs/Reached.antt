@@ -108,6 +108,6 @@ module _ (p : Position) (winner : Side) (budget : ℕ) (masks : List ℕ) (empti
   none_of ply mask some none =
       let masks_are = is.masks_are some in
       inr (inr (λ game.
-      let (j, within, same) = ((mean p is.sound is.few).game.masks mask).1 game in
+      let (j, within, same) = ((mean is.sound is.few).game.masks mask).1 game in
       let less : j < length masks = omega (arith, within, ap length masks_are) in
       none j less (ap (λ ms. get_or ms j 0) masks_are ∙ get_or_default (masks_of p) j 0 mask within ∙ same)))

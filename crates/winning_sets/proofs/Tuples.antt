@@ -20,11 +20,11 @@ use Rattle.rule_formula.proofs.PlacedLemmas.{stock_man-men}
 use Rattle.set_plan.proofs.Takings.{same_some}
 
 -- they are as many as its live men have variables
-pub tuple_count : (stock : List Man) (q : Position) → HasStock stock q → length (tuple_of q) ≡ length (tracks_of stock (is_live (mask_of q)))
-tuple_count stock q h =
+pub tuple_count : {stock : List Man} {q : Position} → HasStock stock q → length (tuple_of q) ≡ length (tracks_of stock (is_live (mask_of q)))
+tuple_count {stock} {q} h =
     let live : ℕ → Bool = is_live (mask_of q) in
     let v : Values = values_of (squares_of q) in
-    let is : placed stock live q.turn (squares v) ≡ q = placed_values stock live q.turn (squares_of q) ∙ stock_placed stock q h in
+    let is : placed stock live q.turn (squares v) ≡ q = placed_values stock live q.turn (squares_of q) ∙ stock_placed h in
     sym (ap (λ r. length (tuple_of r)) is) ∙ sym (ap length (tuple_placed stock live q.turn v)) ∙ length-map (tracks_of stock live) (λ x. v x.0)
 
 -- whose turn it is goes by whether the number of moves is even
@@ -70,5 +70,5 @@ alike_all stock p count same is alike = record {
   men = λ k m n is_m is_n. let within = man_within stock.men k m is_m in alike k m n (omega (arith, within, same, is)) is_m is_n;
 }
 
-pub stock_at : (stock p : Position) (k : ℕ) (m n : Man) → HasStock stock.men p → man_at stock k ≡ Some m → man_at p k ≡ Some n → (n.side ≡ m.side) × (n.kind ≡ m.kind)
-stock_at stock p k m n h is_m is_n = h.men k m n (stock_man-men stock k ∙ is_m) is_n
+pub stock_at : (stock : Position) {p : Position} (k : ℕ) (m n : Man) → HasStock stock.men p → man_at stock k ≡ Some m → man_at p k ≡ Some n → (n.side ≡ m.side) × (n.kind ≡ m.kind)
+stock_at stock k m n h is_m is_n = h.men k m n (stock_man-men stock k ∙ is_m) is_n

@@ -73,7 +73,7 @@ module _ (s : Solution) where
 
     -- with the sets of a plan the starting position is kept exactly where the winner mates in time
     pub plan_value : s.origin ≡ Plan → IsKeptIn s 0 s.position ↔ Value s.winner s.moves s.position
-    plan_value is = start_kept s (plan_valid s valid is)
+    plan_value is = start_kept (plan_valid s valid is)
 
     -- with those of a won claim he does
     pub claimed_value : s.origin ≡ Claimed → Value s.winner s.moves s.position

@@ -30,7 +30,7 @@ module _ (winner : Side) (p : Position) (moves : ℕ) (C : ℕ → Position → 
   -- the loser is mated from each of the positions within the moves that are left
   pub claimed_lost : (left ply : ℕ) → ply + (2 * left + 1) ≡ last_ply winner p.turn moves → (q : Position) → C ply q → Lost winner left q
   claimed_lost zero ply before q is =
-      flat_lost winner (Win winner 0) q (are.sound ply q is) (
+      flat_lost winner (Win winner 0) (are.sound ply q is) (
         are.turn ply q is,
         won.stale ply q is,
         λ i z r legal.
@@ -39,7 +39,7 @@ module _ (winner : Side) (p : Position) (moves : ℕ) (C : ℕ → Position → 
             absurd (omega (arith, before, there.before)),
       )
   claimed_lost (suc k) ply before q is =
-      flat_lost winner (Win winner (suc k)) q (are.sound ply q is) (
+      flat_lost winner (Win winner (suc k)) (are.sound ply q is) (
         are.turn ply q is,
         won.stale ply q is,
         λ i z r legal.

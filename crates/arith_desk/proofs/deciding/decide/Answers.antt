@@ -4,7 +4,7 @@ use Rattle.arith_desk.proofs.TruthLemmas.{closed_false, closed_true, compilable}
 use Rattle.arith_desk.proofs.deciding.decide.Goals as goal
 
 pub compile-requires-clause-compilable : goal.compile-requires-clause-compilable
-compile-requires-clause-compilable c = compilable (tree_of c.args.f.now) c.new-sets.result c.requires.question
+compile-requires-clause-compilable c = compilable c.new-sets.result c.requires.question
 
 pub returns-then-is_empty-clause-truth : goal.returns-then-is_empty-clause-truth
 returns-then-is_empty-clause-truth c =

@@ -45,7 +45,7 @@ formula-returns-in-Some-Join-clause-ok t c =
     let fields = texts c.args.fields.now in
     let rest = texts c.in-Some.rest.now in
     let front : fields ≡ word_text (Join c.in-Some-Join.connective) ∷ rest = c.in-Some.ensures.some ∙ ap (λ w. w ∷ rest) word in
-    IfOk-weaker c.joined.result _ _ (λ x h. read_joined c.in-Some-Join.connective c.args.scope.now fields rest (texts x.1.now) (tree_of x.0) front h) c.joined.ensures.ok
+    IfOk-weaker c.joined.result _ _ (λ x h. read_joined fields front h) c.joined.ensures.ok
 
 pub formula-returns-in-Some-Join-clause-err : goal.formula-returns-in-Some-Join-clause-err
 formula-returns-in-Some-Join-clause-err t c =
@@ -63,7 +63,7 @@ formula-returns-in-Some-Bind-clause-ok t c =
     let fields = texts c.args.fields.now in
     let rest = texts c.in-Some.rest.now in
     let front : fields ≡ word_text (Bind c.in-Some-Bind.quantifier) ∷ rest = c.in-Some.ensures.some ∙ ap (λ w. w ∷ rest) word in
-    IfOk-weaker c.bound.result _ _ (λ x h. read_bound c.in-Some-Bind.quantifier c.args.scope.now fields rest (texts x.1.now) (tree_of x.0) front h) c.bound.ensures.ok
+    IfOk-weaker c.bound.result _ _ (λ x h. read_bound fields front h) c.bound.ensures.ok
 
 pub formula-returns-in-Some-Bind-clause-err : goal.formula-returns-in-Some-Bind-clause-err
 formula-returns-in-Some-Bind-clause-err t c =
@@ -81,7 +81,7 @@ formula-returns-in-Some-Compare-clause-ok t c =
     let fields = texts c.args.fields.now in
     let rest = texts c.in-Some.rest.now in
     let front : fields ≡ word_text (Compare c.in-Some-Compare.rel) ∷ rest = c.in-Some.ensures.some ∙ ap (λ w. w ∷ rest) word in
-    IfOk-weaker c.comparison.result _ _ (λ x h. read_comparison c.in-Some-Compare.rel c.args.scope.now fields rest (texts x.1.now) (tree_of x.0) front h) c.comparison.ensures.ok
+    IfOk-weaker c.comparison.result _ _ (λ x h. read_comparison fields front h) c.comparison.ensures.ok
 
 pub formula-returns-in-Some-Compare-clause-err : goal.formula-returns-in-Some-Compare-clause-err
 formula-returns-in-Some-Compare-clause-err t c =

@@ -10,18 +10,18 @@ returns-in-Ok-clause-formula c =
     let line = c.args.line.now in
     let fields = texts c.push_fields.new.fields.items in
     let adds = rw c.new-fields.ensures.items at c.in_ok-push_fields.ensures in
-    let are : AreFields line fields = all_fields line _ fields refl adds in
+    let are : AreFields line fields = all_fields refl adds in
     let read = rw c.as_slice.ensures.value at c.in-Ok.ensures.ok in
-    whole_line line fields (tree_of c.in-Ok.f) are read
+    whole_line are read
 
 pub returns-in-Ok-clause-question : goal.returns-in-Ok-clause-question
 returns-in-Ok-clause-question c =
     let line = c.args.line.now in
     let fields = texts c.push_fields.new.fields.items in
     let adds = rw c.new-fields.ensures.items at c.in_ok-push_fields.ensures in
-    let are : AreFields line fields = all_fields line _ fields refl adds in
+    let are : AreFields line fields = all_fields refl adds in
     let read = rw c.as_slice.ensures.value at c.in-Ok.ensures.ok in
-    whole_question line fields (tree_of c.in-Ok.f) c.requires are read
+    whole_question c.requires are read
 
 pub overflow_sub-result : goal.overflow_sub-result
 overflow_sub-result c =
@@ -36,8 +36,8 @@ overflow_cast-result c =
     let line = c.args.line.now in
     let fields = texts c.push_fields.new.fields.items in
     let adds = rw c.new-fields.ensures.items at c.in_ok-push_fields.ensures in
-    let are : AreFields line fields = all_fields line _ fields refl adds in
-    let short = short_line line fields c.requires are in
+    let are : AreFields line fields = all_fields refl adds in
+    let short = short_line c.requires are in
     let count = count_texts c.push_fields.new.fields.items in
     omega arith
 
@@ -46,8 +46,8 @@ returns-in-Err-Left-clause-refused c =
     let line = c.args.line.now in
     let fields = texts c.push_fields.new.fields.items in
     let adds = rw c.new-fields.ensures.items at c.in_ok-push_fields.ensures in
-    let are : AreFields line fields = all_fields line _ fields refl adds in
+    let are : AreFields line fields = all_fields refl adds in
     let stops = rw (c.as_slice.ensures.value, c.in-Err-Left.field-0-is) at c.in-Err-Left.ensures.err in
     let count = count_texts c.push_fields.new.fields.items in
     let number : length fields - c.in-Err-Left.left + 1 ≡ c.len.result - c.in-Err-Left.left + 1 = omega arith in
-    subst (IsFirstRefused line) number (first_refused line fields c.in-Err-Left.left are stops)
+    subst (IsFirstRefused line) number (first_refused c.in-Err-Left.left are stops)

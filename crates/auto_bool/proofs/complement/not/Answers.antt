@@ -8,7 +8,7 @@ from_diagrams-requires c =
     let copied : c.in_ok-tracks.tracks.items ≡ c.tracks.result.now = search rules in
     let shapes = c.in_ok-diagrams.ensures ∙ c.diagrams.ensures.shapes in
     rw (copied, c.tracks.ensures.tracks, shapes, c.first_node.ensures.is, c.in_ok-rows.ensures, c.in_ok-accept.ensures)
-    (AreRows-flags _ _ _ _ _ _ (length-map c.args.a.now.accept not) c.diagrams.ensures.nodes.nodes)
+    (AreRows-flags _ (length-map c.args.a.now.accept not) c.diagrams.ensures.nodes.nodes)
 
 same_rows : (c : goal.After-from_diagrams) → HasRowsOf c.args.a.now c.from_diagrams.result
 same_rows c =

@@ -5,7 +5,7 @@ use Rattle.auto_bool.proofs.operand.are_among.Goals as goal
 pub returns-then-place_of-all : goal.returns-then-place_of-all
 returns-then-place_of-all c = (
   λ h. absurd (true≢false (sym h)),
-  λ among. absurd (not_among c.args.all.now c.args.some.now c.loop-track.track-index _ _ c.loop-track-test.true c.place_of.ensures.place c.if-place_of-all.true among),
+  λ among. absurd (not_among c.loop-track.track-index _ _ c.loop-track-test.true c.place_of.ensures.place c.if-place_of-all.true among),
 )
 
 pub loop-track-preserved : goal.loop-track-preserved

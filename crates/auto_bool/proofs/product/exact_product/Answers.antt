@@ -34,7 +34,7 @@ returns-clause-within c =
 pub returns-clause-over : goal.returns-clause-over
 returns-clause-over c = λ a_reduced b_reduced over.
     let made = c.in_ok-both.ensures in
-    BothSpreadExceeds-from c.args.a.now c.args.b.now c.args.connective made.left_valid made.right_valid a_reduced b_reduced c.args.budget
+    BothSpreadExceeds-from c.args.a.now c.args.b.now c.args.connective made.left_valid made.right_valid a_reduced b_reduced {budget = c.args.budget}
     (subst (λ w. MoreThan w c.args.budget) (over_pairs c) (c.walked.ensures.over over))
 
 pub returns-clause-many : goal.returns-clause-many

@@ -6,11 +6,11 @@ use Rattle.auto_bool.proofs.side.side.Goals as goal
 pub new-requires-clause-ascending : goal.new-requires-clause-ascending
 new-requires-clause-ascending c =
     rw (c.in_ok-places.ensures, c.tracks.ensures.tracks)
-    (places-ascend c.args.all.now c.args.a.now.tracks c.requires.ascending c.tracks.ensures.valid.ascending c.requires.among)
+    (places-ascend c.requires.ascending c.tracks.ensures.valid.ascending c.requires.among)
 
 pub new-requires-clause-low : goal.new-requires-clause-low
 new-requires-clause-low c =
-    rw (c.in_ok-places.ensures, c.tracks.ensures.tracks) (places-low c.args.all.now c.args.a.now.tracks c.requires.all c.requires.among)
+    rw (c.in_ok-places.ensures, c.tracks.ensures.tracks) (places-low c.requires.all c.requires.among)
 
 pub returns : goal.returns
 returns c =

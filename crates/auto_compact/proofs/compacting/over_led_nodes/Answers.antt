@@ -8,7 +8,7 @@ from_diagrams-requires c =
     let accept : c.in_ok-accept.accept.items ≡ c.args.a.now.accept = search rules in
     let carried = rw (c.diagrams.ensures.shapes, c.as_slice.ensures.value, c.in_ok-nodes.ensures.nodes) at c.in_ok-rows.ensures.brought in
     rw (tracks, c.tracks.ensures.tracks, accept)
-    (AreRows-brought _ _ _ _ c.diagrams.ensures.nodes (AreBrought-carried _ _ _ _ _ carried c.remove-first.ensures.value c.remove-first.ensures.items))
+    (AreRows-brought c.diagrams.ensures.nodes (AreBrought-carried _ _ _ _ _ carried c.remove-first.ensures.value c.remove-first.ensures.items))
 
 pub returns : goal.returns
 returns c =
@@ -19,5 +19,5 @@ returns c =
     let brought = AreBrought-carried c.args.a.now _ _ _ _ carried c.remove-first.ensures.value c.remove-first.ensures.items in
     let first = rw (tracks, c.tracks.ensures.tracks) at made.first in
     let next = rw (tracks, c.tracks.ensures.tracks) at made.next in
-    HasSameTables-brought c.args.a.now c.from_diagrams.result c.diagrams.ensures.nodes (rw (made.shapes, made.first_node, made.row_nodes) brought)
+    HasSameTables-brought c.from_diagrams.result c.diagrams.ensures.nodes (rw (made.shapes, made.first_node, made.row_nodes) brought)
     (made.tracks ∙ tracks ∙ c.tracks.ensures.tracks) (rw (made.shapes, made.first_node) first) (rw (made.shapes, made.row_nodes) next) (made.accept ∙ accept)

@@ -14,10 +14,10 @@ pub returns-clause-row : goal.returns-clause-row
 returns-clause-row c = row c
 
 pub returns-clause-entries : goal.returns-clause-entries
-returns-clause-entries c = row_of-is c.node_from.new.diagrams (2 ^ c.args.tracks) c.args.table.now c.in_ok-node.node c.requires.size (row c)
+returns-clause-entries c = row_of-is c.requires.size (row c)
 
 pub returns-clause-narrow : goal.returns-clause-narrow
-returns-clause-narrow c = LooksBelow-row c.node_from.new.diagrams c.args.tracks c.args.table.now 0 c.in_ok-node.node (row c)
+returns-clause-narrow c = LooksBelow-row c.args.tracks (row c)
 
 pub returns-clause-leaves : goal.returns-clause-leaves
-returns-clause-leaves c = λ letter. leaves-row c.node_from.new.diagrams c.args.tracks c.args.table.now c.in_ok-node.node c.requires.size (row c) letter
+returns-clause-leaves c = λ letter. leaves-row c.args.tracks c.requires.size (row c) letter

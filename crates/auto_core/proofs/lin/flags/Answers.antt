@@ -13,6 +13,6 @@ loop-state-preserved c =
       count = let l = c.in_ok-push.ensures.len in let n = inv.count in omega (arith, l, n);
       tells =
           rw c.in_ok-push.ensures.items
-          (AreFlagsOf-push _ _ _ _ _ _ inv.count inv.tells
-          (flag-is _ _ c.args.span c.loop-state.state c.value_of.result _ c.requires within c.value_of.ensures c.compares.ensures));
+          (AreFlagsOf-push _ _ inv.count inv.tells
+          (flag-is _ _ c.loop-state.state c.value_of.result _ c.requires within c.value_of.ensures c.compares.ensures));
     }

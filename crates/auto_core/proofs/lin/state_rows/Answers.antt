@@ -11,13 +11,13 @@ loop-state-preserved c =
     let sum = c.doubled-sum.ensures in
     record {
       count = let l = c.in_ok-push.ensures.len in let n = inv.count in omega (arith, l, n);
-      rows = rw c.in_ok-push.ensures.items (AreSumRows-push _ _ _ _ _ _ inv.count (AreSumRows-grows _ _ _ _ _ made.grows inv.rows) (IsSumRow-doubled _ _ _ _ _ _ sum.near sum.sum made.row));
+      rows = rw c.in_ok-push.ensures.items (AreSumRows-push _ inv.count (AreSumRows-grows made.grows inv.rows) (IsSumRow-doubled _ sum.near sum.sum made.row));
       remembered = made.remembered;
-      grows = Grows-trans _ _ _ inv.grows made.grows;
+      grows = Grows-trans inv.grows made.grows;
     }
 
 pub row-requires-clause-near : goal.row-requires-clause-near
-row-requires-clause-near c = let near = c.doubled-sum.ensures.near in rw (to_z-of_z w32 c.doubled-sum.result (SFits-near c.doubled-sum.result near)) near
+row-requires-clause-near c = let near = c.doubled-sum.ensures.near in rw (to_z-of_z w32 c.doubled-sum.result (SFits-near near)) near
 
 pub returns-in_err-push-clause-grows : goal.returns-in_err-push-clause-grows
-returns-in_err-push-clause-grows c = Grows-trans _ _ _ c.loop-state.invariant.grows c.in_ok-node.ensures.grows
+returns-in_err-push-clause-grows c = Grows-trans c.loop-state.invariant.grows c.in_ok-node.ensures.grows

@@ -14,7 +14,7 @@ returns-clause-tracks c = c.from_diagrams-decided.ensures.tracks
 pub row-requires : goal.row-requires
 row-requires c =
     let weights = c.requires.weights in
-    let other = AreWeights-opposite _ _ _ weights in
+    let other = AreWeights-opposite weights in
     record {
       few = let size = other.1 in let few = weights.few in omega (arith, size, few);
       small = other.0;
@@ -27,9 +27,9 @@ row-requires c =
 pub from_diagrams-decided-requires : goal.from_diagrams-decided-requires
 from_diagrams-decided-requires c =
     let weights = c.requires.weights in
-    let other = AreWeights-opposite _ _ _ weights in
-    AreRows-sums _ _ _ _ _ _ _ _ c.span_of-span.ensures.is_span weights.ascending weights.few weights.size other.1 c.in_ok-rows.ensures.count
-    c.in_ok-accept.ensures.count c.in_ok-first.ensures.row (AreSumRows-grows _ _ _ _ _ c.in_ok-first.ensures.grows c.in_ok-rows.ensures.rows)
+    let other = AreWeights-opposite weights in
+    AreRows-sums _ _ c.span_of-span.ensures.is_span weights.ascending weights.few weights.size other.1 c.in_ok-rows.ensures.count
+    c.in_ok-accept.ensures.count c.in_ok-first.ensures.row (AreSumRows-grows c.in_ok-first.ensures.grows c.in_ok-rows.ensures.rows)
 
 pub returns-clause-words : goal.returns-clause-words
 returns-clause-words c =
@@ -40,7 +40,7 @@ returns-clause-words c =
     λ word is. subst (λ b. Accepts c.from_diagrams-decided.result word ↔ Compares c.args.rel (total (weight_from 0 c.args.weights.now) word) b) (to_z-of_z w32 c.args.bound c.ranges.bound) (
     sum_words c.from_diagrams-decided.result _ _ _ _ _ _ _ c.span_of-span.ensures weights.negative (rw made.tracks made.first)
     (rw made.tracks made.next) (rw made.accept (omega (arith, ints, counts, others)))
-    c.in_ok-first.ensures.row (AreSumRows-grows _ _ _ _ _ c.in_ok-first.ensures.grows c.in_ok-rows.ensures.rows) c.args.rel made.valid
+    c.in_ok-first.ensures.row (AreSumRows-grows c.in_ok-first.ensures.grows c.in_ok-rows.ensures.rows) c.args.rel made.valid
     (rw made.accept c.in_ok-accept.ensures.flags) word (rw made.tracks is))
 
 pub returns-clause-few : goal.returns-clause-few

@@ -14,20 +14,20 @@ returns-in-Some-clause-row t c =
     (c.requires.remembered.rows c.args.track (to_z w32 (of_z w32 c.args.sum)) c.in-Some.node.now (sym c.in-Some.ensures.value))
 
 pub returns-then-track-weights-clause-remembered : goal.returns-then-track-weights-clause-remembered
-returns-then-track-weights-clause-remembered t c = RemembersSums-grows _ _ _ _ _ c.in_ok-node.ensures.grows c.requires.remembered
+returns-then-track-weights-clause-remembered t c = RemembersSums-grows c.in_ok-node.ensures.grows c.requires.remembered
 
-near-same : (track : ℕ) (sum : ℤ) → SFits w32 sum → IsNear track sum → IsNear (track + 1) (to_z w32 (of_z w32 sum))
-near-same track sum fits near = let low = near.low in let high = near.high in record { low = omega (arith, ints, low); high = omega (arith, ints, high) }
+near-same : {track : ℕ} {sum : ℤ} → SFits w32 sum → IsNear track sum → IsNear (track + 1) (to_z w32 (of_z w32 sum))
+near-same fits near = let low = near.low in let high = near.high in record { low = omega (arith, ints, low); high = omega (arith, ints, high) }
 
 pub row-requires : goal.row-requires
-row-requires t c = (omega arith, (c.requires.few, (c.requires.small, (c.requires.span, (omega arith, (near-same c.args.track c.args.sum c.ranges.sum c.requires.near, c.requires.remembered))))))
+row-requires t c = (omega arith, (c.requires.few, (c.requires.small, (c.requires.span, (omega arith, (near-same c.ranges.sum c.requires.near, c.requires.remembered))))))
 
 IsStep : ℕ → ℤ → ℤ → Type 0
 IsStep track sum weight = (to_z w32 (of_z w32 (to_z w32 (of_z w32 sum) +ℤ to_z w32 (of_z w32 weight))) ≡ sum +ℤ weight) × IsNear (track + 1) (sum +ℤ weight)
 
-stepped : (track : ℕ) (sum weight : ℤ) → track ≤ 8 → IsNear track sum → IsSmall weight → IsStep track sum weight
+stepped : (track : ℕ) {sum : ℤ} (weight : ℤ) → track ≤ 8 → IsNear track sum → IsSmall weight → IsStep track sum weight
 unfolding IsStep
-stepped track sum weight few near small =
+stepped track weight few near small =
     let low = near.low in
     let high = near.high in
     let down = small.0 in
@@ -52,7 +52,7 @@ row-requires-2 t c =
     let few = c.requires.few in
     let below : c.args.track < length c.args.weights.now = grind (arith, ne, le) in
     let step =
-    stepped c.args.track c.args.sum (get_or c.args.weights.now c.args.track (pos 0)) (omega (arith, below, few)) c.requires.near
+    stepped c.args.track (get_or c.args.weights.now c.args.track (pos 0)) (omega (arith, below, few)) c.requires.near
     (small-at c.args.weights.now c.args.track c.requires.small below) in
     (omega (arith, below), (c.requires.few, (c.requires.small, (c.requires.span, (omega (arith, below), (step-near _ _ _ step, c.in_ok-low.ensures.remembered))))))
 
@@ -60,7 +60,7 @@ pub returns-then-track-weights-clause-row : goal.returns-then-track-weights-clau
 returns-then-track-weights-clause-row t c =
     let few = c.requires.few in
     let le = c.requires.track in
-    IsSumRow-leaf _ _ _ _ _ _ _ c.if-track-weights.true (omega (arith, le, few)) c.in_ok-node.ensures.known c.in_ok-node.ensures.map
+    IsSumRow-leaf _ _ _ _ c.if-track-weights.true (omega (arith, le, few)) c.in_ok-node.ensures.known c.in_ok-node.ensures.map
     c.in_ok-node.ensures.top (subst (λ s. StandsFor c.args.span s c.state_of.result) (to_z-of_z w32 c.args.sum c.ranges.sum) c.state_of.ensures)
 
 made : (t : ℕ) (c : goal.In_ok-insert t) → IsSumRow c.node.new.self c.args.weights.now c.args.span c.args.track c.args.sum c.in_ok-node-2.node
@@ -70,19 +70,19 @@ made t c =
     let few = c.requires.few in
     let below : c.args.track < length c.args.weights.now = grind (arith, ne, le) in
     let step =
-    stepped c.args.track c.args.sum (get_or c.args.weights.now c.args.track (pos 0)) (omega (arith, below, few)) c.requires.near
+    stepped c.args.track (get_or c.args.weights.now c.args.track (pos 0)) (omega (arith, below, few)) c.requires.near
     (small-at c.args.weights.now c.args.track c.requires.small below) in
     let from_high = c.in_ok-node-2.ensures.grows in
-    let from_low = Grows-trans _ _ _ c.in_ok-high.ensures.grows from_high in
-    let low = IsSumRow-grows _ _ _ _ _ _ _ from_low c.in_ok-low.ensures.row in
-    let high = IsSumRow-grows _ _ _ _ _ _ _ from_high c.in_ok-high.ensures.row in
+    let from_low = Grows-trans c.in_ok-high.ensures.grows from_high in
+    let low = IsSumRow-grows from_low c.in_ok-low.ensures.row in
+    let high = IsSumRow-grows from_high c.in_ok-high.ensures.row in
     let longer = c.in_ok-high.ensures.grows.longer in
     let first_known = c.in_ok-low.ensures.row.known in
     let low_known : c.in_ok-low.low < length c.row-2.new.diagrams = omega (arith, longer, first_known) in
     let high_known = c.in_ok-high.ensures.row.known in
-    IsSumRow-test _ _ _ _ _ (get_or c.args.weights.now c.args.track (pos 0)) c.in_ok-low.low c.in_ok-high.high _ below refl
+    IsSumRow-test _ (get_or c.args.weights.now c.args.track (pos 0)) c.in_ok-low.low c.in_ok-high.high _ below refl
     c.in_ok-node-2.ensures.known c.in_ok-node-2.ensures.top
-    (λ letter. c.in_ok-node-2.ensures.map letter ∙ chosen-grows _ _ _ _ _ letter low_known high_known from_high)
+    (λ letter. c.in_ok-node-2.ensures.map letter ∙ chosen-grows _ _ _ letter low_known high_known from_high)
     (rw (to_z-of_z w32 c.args.sum c.ranges.sum) at low) (rw (step-same _ _ _ step) at high)
 
 pub returns-clause-row : goal.returns-clause-row
@@ -90,8 +90,8 @@ returns-clause-row t c = made t c
 
 pub returns-clause-remembered : goal.returns-clause-remembered
 returns-clause-remembered t c =
-    RemembersSums-insert _ _ _ _ _ _ _ _ (RemembersSums-grows _ _ _ _ _ c.in_ok-node-2.ensures.grows c.in_ok-high.ensures.remembered)
+    RemembersSums-insert _ (RemembersSums-grows c.in_ok-node-2.ensures.grows c.in_ok-high.ensures.remembered)
     (subst (λ s. Updates key_eq c.row-2.new.memo c.insert.new.self (c.args.track, s) (Some c.in_ok-node-2.node)) (to_z-of_z w32 c.args.sum c.ranges.sum) c.in_ok-insert.ensures.updates) (made t c)
 
 pub returns-clause-grows : goal.returns-clause-grows
-returns-clause-grows t c = Grows-trans _ _ _ c.in_ok-low.ensures.grows (Grows-trans _ _ _ c.in_ok-high.ensures.grows c.in_ok-node-2.ensures.grows)
+returns-clause-grows t c = Grows-trans c.in_ok-low.ensures.grows (Grows-trans c.in_ok-high.ensures.grows c.in_ok-node-2.ensures.grows)

@@ -10,7 +10,7 @@ loop-left-preserved c =
     let second = c.in_ok-push-2.ensures.items in
     record {
       size = let a = c.in_ok-push.ensures.len in let b = c.in_ok-push-2.ensures.len in let s = inv.size in omega (arith, a, b, s);
-      rows = rw (second, first) (ArePrefixRows-push _ _ _ _ _ inv.size inv.rows c.state_after_bit.ensures c.state_after_bit-in-loop-left.ensures);
+      rows = rw (second, first) (ArePrefixRows-push inv.size inv.rows c.state_after_bit.ensures c.state_after_bit-in-loop-left.ensures);
     }
 
 pub returns : goal.returns
@@ -20,4 +20,4 @@ returns c =
     let fits = to_z-of_z w64 c.args.value c.ranges.value in
     let size : length c.loop-left.rows.items ≡ 128 = inv.size ∙ ap (λ n. n * 2) end in
     let rows = rw (end, fits) at inv.rows in
-    rw (c.in_ok-push-4.ensures.items, c.in_ok-push-3.ensures.items) (AreAllPrefixRows-push _ _ size rows)
+    rw (c.in_ok-push-4.ensures.items, c.in_ok-push-3.ensures.items) (AreAllPrefixRows-push size rows)

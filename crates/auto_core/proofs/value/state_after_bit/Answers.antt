@@ -13,7 +13,7 @@ casts s bit fits below = omega (arith, ints)
 shifted : (z : ℤ) (k : ℕ) → SFits w64 z → SFits w64 (int_shr z k)
 shifted z k fits = record { sfits = let m = mag_shr z (2 ^ k) in let f = fits.sfits in omega (arith, m, f) }
 
-read : (value : ℤ) (left bit state : ℕ) → SFits w64 value → bit < 2
+read : (value : ℤ) (left bit : ℕ) {state : ℕ} → SFits w64 value → bit < 2
     → IsPrefixState (to_z w64 (of_z w64 value))
     (to_z w128
     (of_z w128
@@ -21,10 +21,10 @@ read : (value : ℤ) (left bit state : ℕ) → SFits w64 value → bit < 2
     bit)))
     state
     → IsPrefixState value (int_shr value left +ℤ int_shr value left +ℤ pos bit) state
-read value left bit state fits below h =
+read value left bit {state} fits below h =
     let same = to_z-of_z w64 value fits in
     let h' = rw same at h in
     subst (λ r. IsPrefixState value r state) (casts (int_shr value left) bit (shifted value left fits) below) h'
 
 pub returns : goal.returns
-returns c = read c.args.value c.args.left c.args.bit c.state_after.result c.ranges.value c.requires.bit c.state_after.ensures
+returns c = read c.args.value c.args.left c.args.bit c.ranges.value c.requires.bit c.state_after.ensures

@@ -9,7 +9,7 @@ returns-clause-tracks c = c.in_ok-m.ensures.tracks ∙ c.in_ok-once.ensures.merg
 pub returns-clause-words : goal.returns-clause-words
 returns-clause-words c = λ word is.
     let here = c.in_ok-m.ensures.words word (subst (λ t. IsWord (length t) word) (sym c.in_ok-once.ensures.merged.tracks) is) in
-    let there = merged_words _ _ c.in_ok-once.ensures word is in
+    let there = merged_words c.in_ok-once.ensures word is in
     (λ h. there.0 (here.0 h), λ h. here.1 (there.1 h))
 
 pub returns-clause-fewer : goal.returns-clause-fewer
@@ -20,4 +20,4 @@ returns-clause-fewer c =
     omega (arith, fewer, size, few)
 
 pub returns-clause-reached : goal.returns-clause-reached
-returns-clause-reached c = λ all. c.in_ok-m.ensures.reached (merged_reached _ _ c.in_ok-once.ensures all)
+returns-clause-reached c = λ all. c.in_ok-m.ensures.reached (merged_reached c.in_ok-once.ensures all)

@@ -15,11 +15,11 @@ returns-in-Some-clause-merging c =
     let owners = c.args.merging.now.owners.items in
     let valid = c.states.ensures.valid in
     let keyed = IsKeyed-at m.keys (sym c.get.ensures.value ∙ sym c.copied.ensures ∙ c.in-Some.is) c.accept_of-flag.ensures in
-    let settled = IsSettled-key c.give.ensures c.requires.new a owners _ _ _ valid m.classes keyed c.requires.key in
+    let settled = IsSettled-key c.give.ensures c.requires.new a valid m.classes keyed c.requires.key in
     record {
-      classes = AreClasses-shared c.give.ensures c.requires.new a owners valid m.classes keyed.class_known keyed.flag_is settled;
-      keys = AreKeyed-give c.give.ensures c.requires.new a owners owners (Longer-same owners) _ _ m.keys;
-      remembered = RemembersGiven-give c.give.ensures c.requires.new _ _ _ m.remembered;
+      classes = AreClasses-shared c.give.ensures c.requires.new a valid m.classes keyed.class_known keyed.flag_is settled;
+      keys = AreKeyed-give c.give.ensures c.requires.new a (Longer-same owners) m.keys;
+      remembered = RemembersGiven-give c.give.ensures c.requires.new m.remembered;
     }
 
 pub returns-in-Some-clause-given : goal.returns-in-Some-clause-given
@@ -37,9 +37,9 @@ returns-clause-merging c =
     let table = c.give-2.new.table.items in
     let own = c.in_ok-class.ensures.class in
     let items = c.in_ok-class.ensures.owners in
-    let keyed = AreKeyed-own c.give-2.ensures c.requires.new a owners _ _ _ _ c.insert.new.self own (sym c.accept_of-flag.ensures) c.requires.key c.in_ok-insert.ensures.updates m.keys in
+    let keyed = AreKeyed-own c.give-2.ensures c.requires.new a _ c.insert.new.self own (sym c.accept_of-flag.ensures) c.requires.key c.in_ok-insert.ensures.updates m.keys in
     record {
-      classes = subst (AreClasses a table) (sym items) (AreClasses-own c.give-2.ensures c.requires.new a owners c.states.ensures.valid m.classes c.requires.within own);
+      classes = subst (AreClasses a table) (sym items) (AreClasses-own c.give-2.ensures c.requires.new a c.states.ensures.valid m.classes c.requires.within own);
       keys = subst (λ l. AreKeyed a table l c.args.merging.now.to c.insert.new.self) (sym items) keyed;
-      remembered = RemembersGiven-give c.give-2.ensures c.requires.new _ _ _ m.remembered;
+      remembered = RemembersGiven-give c.give-2.ensures c.requires.new m.remembered;
     }

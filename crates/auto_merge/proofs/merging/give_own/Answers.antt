@@ -12,9 +12,9 @@ returns-clause-merging c =
     let own = c.in_ok-class.ensures.class in
     let items = c.in_ok-class.ensures.owners in
     record {
-      classes = subst (AreClasses a table) (sym items) (AreClasses-own c.give.ensures c.requires.new a owners c.states.ensures.valid m.classes c.requires.within own);
+      classes = subst (AreClasses a table) (sym items) (AreClasses-own c.give.ensures c.requires.new a c.states.ensures.valid m.classes c.requires.within own);
       keys =
           subst (λ l. AreKeyed a table l c.args.merging.now.to c.args.merging.now.keyed) (sym items)
-          (AreKeyed-give c.give.ensures c.requires.new a owners _ (Longer-push owners c.args.state) _ _ m.keys);
-      remembered = RemembersGiven-give c.give.ensures c.requires.new _ _ _ m.remembered;
+          (AreKeyed-give c.give.ensures c.requires.new a (Longer-push owners c.args.state) m.keys);
+      remembered = RemembersGiven-give c.give.ensures c.requires.new m.remembered;
     }

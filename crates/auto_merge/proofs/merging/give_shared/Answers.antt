@@ -15,7 +15,7 @@ returns-clause-merging c =
     let states = valid.few_states in
     let some : c.args.class ≢ NO_CLASS = λ e. absurd (omega (arith, e, known, few, states)) in
     record {
-      classes = AreClasses-shared c.give.ensures c.requires.new a owners valid m.classes can.known can.flag (IsSettled-join c.give.ensures c.requires.new a owners can some);
-      keys = AreKeyed-give c.give.ensures c.requires.new a owners owners (Longer-same owners) _ _ m.keys;
-      remembered = RemembersGiven-give c.give.ensures c.requires.new _ _ _ m.remembered;
+      classes = AreClasses-shared c.give.ensures c.requires.new a valid m.classes can.known can.flag (IsSettled-join c.give.ensures c.requires.new a can some);
+      keys = AreKeyed-give c.give.ensures c.requires.new a (Longer-same owners) m.keys;
+      remembered = RemembersGiven-give c.give.ensures c.requires.new m.remembered;
     }

@@ -6,6 +6,6 @@ returns-clause-merging c =
     let m = c.requires.merging in
     record {
       classes = m.classes;
-      keys = AreKeyed-grows _ _ _ _ _ _ c.key_of.ensures.grows m.keys;
+      keys = AreKeyed-grows c.key_of.ensures.grows m.keys;
       remembered = rw (c.diagrams.ensures.shapes, c.as_slice.ensures.value) at c.key_of.ensures.remembered;
     }

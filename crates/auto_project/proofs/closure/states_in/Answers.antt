@@ -6,7 +6,7 @@ use Rattle.auto_project.proofs.closure.states_in.Goals as goal
 pub add_states-requires : goal.add_states-requires
 add_states-requires c =
     let are = rw (← c.as_slice-number-items.ensures.value) at c.in_ok-leaves.ensures in
-    leaves-known c.args.diagrams.now c.args.sets.now c.args.node c.as_slice-number-items.result.now c.requires are c.loop-number.number-index 0 c.loop-number-test.true
+    leaves-known c.requires are c.loop-number.number-index 0 c.loop-number-test.true
 
 pub loop-number-preserved : goal.loop-number-preserved
 loop-number-preserved c =

@@ -7,5 +7,5 @@ returns-clause-united t c =
     let b = c.in_ok-b.ensures in
     let e = c.in_ok-node.ensures in
     let parts = c.split_at.ensures.by_index.0 in
-    IsUnionOf-both _ _ _ _ _ _ c.args.merger.now.shapes c.args.merger.now.sets _ _ _ _ _ _ parts (front-sets _ _ _ _ _ parts c.requires.sets)
+    IsUnionOf-both c.args.merger.now.shapes c.args.merger.now.sets _ parts (front-sets _ _ _ _ _ parts c.requires.sets)
     (back-sets _ _ _ _ _ parts c.requires.sets) a.grows a.kept b.grows b.kept e.grows e.kept a.united b.united e.united

@@ -9,9 +9,9 @@ loop-pair-preserved c =
     let e = c.in_ok-number.ensures in
     let i = c.loop-pair.invariant in
     record {
-      kept = SetsKept-trans _ _ _ i.kept e.kept;
-      so_far = rw c.in_ok-push.ensures.items (AreJoinedSoFar-push _ _ _ _ _ _ _ _ e.kept (slice_get-get_or c.args.pairs.now c.loop-pair.pair-index (0, 0) c.loop-pair-test.true) i.so_far e.joined);
+      kept = SetsKept-trans i.kept e.kept;
+      so_far = rw c.in_ok-push.ensures.items (AreJoinedSoFar-push _ e.kept (slice_get-get_or c.args.pairs.now c.loop-pair.pair-index (0, 0) c.loop-pair-test.true) i.so_far e.joined);
     }
 
 pub returns-clause-table : goal.returns-clause-table
-returns-clause-table c = AreJoinedSets-all _ _ _ _ _ (omega (arith, c.loop-pair-test.false)) c.loop-pair.invariant.so_far
+returns-clause-table c = AreJoinedSets-all (omega (arith, c.loop-pair-test.false)) c.loop-pair.invariant.so_far

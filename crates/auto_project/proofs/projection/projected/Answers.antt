@@ -29,7 +29,7 @@ pub returns-clause-within : goal.returns-clause-within
 returns-clause-within c = within-if _ c.args.var _ _ _ _ (closed c) _ (same c) c.walked.result c.args.budget c.walked.ensures.within
 
 pub returns-clause-over : goal.returns-clause-over
-returns-clause-over c = λ reduced over. over-from _ c.args.var _ _ _ _ (closed c) reduced _ (same c) c.args.budget (c.walked.ensures.over over)
+returns-clause-over c = λ reduced over. over-from _ c.args.var _ _ _ _ (closed c) reduced (same c) (c.walked.ensures.over over)
 
 pub returns-clause-many : goal.returns-clause-many
-returns-clause-many c = λ over. many-from _ c.args.var _ _ _ _ (closed c) _ (same c) c.args.budget (c.walked.ensures.over over)
+returns-clause-many c = λ over. many-from _ c.args.var _ _ _ _ (closed c) (same c) (c.walked.ensures.over over)

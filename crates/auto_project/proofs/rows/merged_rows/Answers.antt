@@ -9,7 +9,7 @@ use Rattle.auto_project.proofs.rows.merged_rows.Goals as goal
 pub merged_row-requires : goal.merged_row-requires
 merged_row-requires c =
     let i = c.loop-node.invariant in
-    HasSets-grows _ _ _ _ _ i.grows i.kept
+    HasSets-grows i.grows i.kept
     (subst (HasSets c.args.merger.now.shapes c.args.merger.now.sets) (sym c.node-item.is)
     (c.requires c.loop-node.node-index c.node-item.result c.loop-node-test.true))
 
@@ -18,11 +18,11 @@ loop-node-preserved c =
     let e = c.in_ok-row.ensures in
     let i = c.loop-node.invariant in
     record {
-      grows = Grows-trans _ _ _ i.grows e.grows;
-      kept = SetsKept-trans _ _ _ i.kept e.sets;
+      grows = Grows-trans i.grows e.grows;
+      kept = SetsKept-trans i.kept e.sets;
       track = e.track ∙ i.track;
       merged =
           rw (c.in_ok-push.ensures.items, e.track)
-          (EachAnswers-push _ _ _ _ _ _ _ (λ x y is. IsMerged-grows _ _ _ _ _ x y e.grows e.sets is) c.loop-node-test.true c.node-item.is i.merged
+          (EachAnswers-push _ _ _ _ _ (λ x y is. IsMerged-grows e.grows e.sets is) c.loop-node-test.true c.node-item.is i.merged
           e.merged);
     }

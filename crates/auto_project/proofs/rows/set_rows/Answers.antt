@@ -28,7 +28,7 @@ returns-then-tracks-all c =
     let wide = subst (λ t. HasWideRows c.in_ok-wide.wide.diagrams c.args.a.now t c.in_ok-wide.wide.first c.in_ok-wide.wide.rows.items) c.requires c.in_ok-wide.ensures.rows in
     rw (c.uniter.ensures.shapes, c.uniter.ensures.sets)
     (subst (λ t. HasSetRows c.in_ok-wide.wide.diagrams c.in_ok-sets.sets c.args.a.now t c.in_ok-wide.wide.first c.in_ok-wide.wide.rows.items) (sym c.requires)
-    (HasSetRows-wide c.args.a.now c.args.var c.tracks-all.ensures.valid _ _ _ _ states wide (sym (ap length c.requires) ∙ same)))
+    (HasSetRows-wide c.args.a.now c.args.var c.tracks-all.ensures.valid states wide (sym (ap length c.requires) ∙ same)))
 
 pub overflow_cast-tracks : goal.overflow_cast-tracks
 overflow_cast-tracks c =
@@ -48,13 +48,13 @@ pub without_track-requires-clause-first : goal.without_track-requires-clause-fir
 without_track-requires-clause-first c =
     let states = subst (AreSingletons c.in_ok-sets.sets) c.states.ensures.states c.in_ok-sets.ensures in
     let wide = subst (λ t. HasWideRows c.in_ok-wide.wide.diagrams c.args.a.now t c.in_ok-wide.wide.first c.in_ok-wide.wide.rows.items) c.requires c.in_ok-wide.ensures.rows in
-    wide-sets c.args.a.now c.args.var c.tracks-all.ensures.valid _ _ _ _ states wide.first_row
+    wide-sets c.args.a.now c.args.var c.tracks-all.ensures.valid states wide.first_row
 
 pub without_track-requires-clause-rows : goal.without_track-requires-clause-rows
 without_track-requires-clause-rows c =
     let states = subst (AreSingletons c.in_ok-sets.sets) c.states.ensures.states c.in_ok-sets.ensures in
     let wide = subst (λ t. HasWideRows c.in_ok-wide.wide.diagrams c.args.a.now t c.in_ok-wide.wide.first c.in_ok-wide.wide.rows.items) c.requires c.in_ok-wide.ensures.rows in
-    wide-rows-sets c.args.a.now c.args.var c.tracks-all.ensures.valid _ _ _ states wide.state_rows
+    wide-rows-sets c.args.a.now c.args.var c.tracks-all.ensures.valid states wide.state_rows
 
 pub returns : goal.returns
 returns c =
@@ -63,6 +63,6 @@ returns c =
     let made = c.in_ok-made.ensures in
     let size = ap length c.requires in
     subst (λ t. HasSetRows c.in_ok-made.made.merger.shapes c.in_ok-made.made.merger.sets c.args.a.now t c.in_ok-made.made.first c.in_ok-made.made.rows.items) (sym c.requires)
-    (HasSetRows-merged c.args.a.now c.args.var c.tracks-all.ensures.valid _ _ _ _ _ _ _ _ states wide made.grows made.kept
+    (HasSetRows-merged c.args.a.now c.args.var c.tracks-all.ensures.valid states wide made.grows made.kept
     (subst (λ n. IsMerged c.in_ok-made.made.merger.shapes c.in_ok-made.made.merger.sets n c.in_ok-wide.wide.first c.in_ok-made.made.first) size made.first)
     (subst (λ n. EachAnswers (IsMerged c.in_ok-made.made.merger.shapes c.in_ok-made.made.merger.sets n) c.in_ok-wide.wide.rows.items c.in_ok-made.made.rows.items) size made.rows))

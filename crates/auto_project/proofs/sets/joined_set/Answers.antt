@@ -7,5 +7,5 @@ returns-then-has_state-clause-joined c = IsJoinedSet-second _ _ _ _ c.requires.a
 
 pub returns-clause-joined : goal.returns-clause-joined
 returns-clause-joined c =
-    IsJoinedSet-nothing _ _ _ _ _ _ c.in_ok-number.ensures.kept c.requires.a_known c.requires.b_known
+    IsJoinedSet-nothing _ _ _ _ c.in_ok-number.ensures.kept c.requires.a_known c.requires.b_known
     (λ there. true≢false (sym (c.has_state.ensures.1 there) ∙ c.if-has_state.false)) c.in_ok-number.ensures.number

@@ -7,7 +7,7 @@ pub loop-state-init : goal.loop-state-init
 loop-state-init c = AreSingletonsSoFar-none _ c.new-sets.ensures
 
 pub loop-state-preserved : goal.loop-state-preserved
-loop-state-preserved c = AreSingletonsSoFar-push _ _ _ _ c.in_ok-number_of.ensures.numbers c.in_ok-number_of.ensures.number c.loop-state.invariant
+loop-state-preserved c = AreSingletonsSoFar-push _ _ c.in_ok-number_of.ensures.numbers c.in_ok-number_of.ensures.number c.loop-state.invariant
 
 pub returns : goal.returns
-returns c = let all : c.loop-state.state ≡ c.args.states = omega arith in subst (AreSingletons c.loop-state.sets) all (AreSingletons-all _ _ c.loop-state.invariant)
+returns c = let all : c.loop-state.state ≡ c.args.states = omega arith in subst (AreSingletons c.loop-state.sets) all (AreSingletons-all c.loop-state.invariant)

@@ -8,4 +8,4 @@ pub united-requires-clause-sets : goal.united-requires-clause-sets
 united-requires-clause-sets c = rw c.as_slice.ensures.value (picked-sets _ _ _ _ _ c.in_ok-nodes.ensures c.requires.set c.requires.rows)
 
 pub returns-clause-union : goal.returns-clause-union
-returns-clause-union c = IsUnionRow-from _ _ _ _ _ _ c.in_ok-nodes.ensures (rw c.as_slice.ensures.value at c.in_ok-node.ensures.united)
+returns-clause-union c = IsUnionRow-from _ _ c.in_ok-nodes.ensures (rw c.as_slice.ensures.value at c.in_ok-node.ensures.united)

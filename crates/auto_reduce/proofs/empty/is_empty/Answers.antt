@@ -15,4 +15,4 @@ pub returns : goal.returns
 returns c =
     let same = c.flags-flag-items.ensures in
     let sizes = ap length same in
-    (λ e. no_word c.args.a.now c.states.ensures.valid (λ k h. ap (λ l. get_or l k false) (sym same) ∙ c.loop-flag.invariant k (omega (arith, sizes, h, c.loop-flag-test.false))), λ none. refl)
+    (λ e. no_word c.states.ensures.valid (λ k h. ap (λ l. get_or l k false) (sym same) ∙ c.loop-flag.invariant k (omega (arith, sizes, h, c.loop-flag-test.false))), λ none. refl)

@@ -19,7 +19,7 @@ loop-place-init c =
     let apart = c.in_ok-order.ensures.different in
     let adds : AddsRow row [] order = rw (c.diagrams-from.ensures.shapes, c.first_node.ensures.is) at c.in_ok-order.ensures.adds in
     record {
-      order_to = order-first c.requires.canonical row leads order adds apart;
+      order_to = order-first c.requires.canonical leads adds apart;
       numbered = IsNumberedTo-row a canon row 0 (first_state a) [] order leads adds apart (IsNumberedTo-none a canon) (omega arith) (λ letter. refl)
           (λ row letter none below. absurd (omega (arith, none)));
       within = omega arith;
@@ -62,9 +62,9 @@ loop-place-preserved c =
     let adds : AddsRow row old new = rw (c.diagrams-from.ensures.shapes, node) at c.in_ok-add_row.ensures.adds in
     let longer = adds.longer in
     record {
-      order_to = order-next c.requires.canonical row old new place state leads o here refl adds apart;
+      order_to = order-next c.requires.canonical state leads o here refl adds apart;
       numbered = IsNumberedTo-row a canon row (place + 1) (next_state a state) old new leads adds apart c.loop-place.invariant.numbered
-          (omega (arith, here)) (λ letter. led-next a canon old place letter) (order-closed a canon old place o);
+          (omega (arith, here)) (λ letter. led-next a canon old place letter) (order-closed o);
       within = omega (arith, here, longer);
       done = rw c.diagrams-from.ensures.shapes at c.in_ok-add_row.ensures.done;
     }

@@ -17,7 +17,7 @@ row_node-row-requires c =
     let is = c.in_ok-diagrams.ensures ∙ c.diagrams.ensures.shapes in
     let are = subst (λ s. AreLeaves s c.first_node-first.result c.in_ok-states.states.items) is c.in_ok-states.ensures in
     rw c.as_slice-state-items.ensures.value
-    (leaf_within c.args.m.now.shapes c.first_node-first.result (length c.args.m.now.accept) c.in_ok-states.states.items are c.first_node-first.ensures.within c.loop-state.state-index
+    (leaf_within (length c.args.m.now.accept) are c.first_node-first.ensures.within c.loop-state.state-index
     (let l = ap length c.as_slice-state-items.ensures.value in omega (arith, l, c.loop-state-test.true)))
 
 pub loop-state-preserved : goal.loop-state-preserved
@@ -31,7 +31,7 @@ loop-state-preserved c =
     row.ensures.known first.ensures.narrow row.ensures.narrow first.ensures.map row.ensures.map
     (c.in_ok-keeps.ensures.keeps.0 c.if-not-branch.false) in
     record {
-      grows = Grows-trans _ _ _ before.grows c.keeps.ensures.grows;
+      grows = Grows-trans before.grows c.keeps.ensures.grows;
       kept = λ k less. elim (cases_lt k c.loop-state.state-index) [
         | inl low ↦ before.kept k low
         | inr past ↦ let same : c.loop-state.state-index ≡ k = omega (arith, less, past) in subst (λ n. IsKept m (get_or c.as_slice-state-items.result.now n 0)) same here
@@ -58,7 +58,7 @@ returns c =
     let are = subst (λ s. AreLeaves s c.first_node-first.result c.in_ok-states.states.items) is c.in_ok-states.ensures in
     let items = c.as_slice-state-items.ensures.value in
     let sizes = ap length items in (
-      λ e. DecidesIntegers-kept m (IsKept-leaves m m.shapes c.first_node-first.result c.in_ok-states.states.items are c.first_node-first.ensures.map
+      λ e. DecidesIntegers-kept m (IsKept-leaves m are c.first_node-first.ensures.map
           (λ k within. subst (λ l. IsKept m (get_or l k 0)) items (c.loop-state.invariant.kept k (omega (arith, sizes, within, c.loop-state-test.false))))),
       λ d. refl,
     )

@@ -47,13 +47,13 @@ pruned-requires-in-Test t c =
 
 made : (t : ℕ) (c : goal.Joined-same_map t) → IsPruned c.args.rows.now c.match-shape.to c.args.met.now.order.now c.args.node c.match-shape.made
 made t c = elim c.match-shape.branch [
-  | in-Leaf+in_ok-made-in-Leaf w ↦ rw (w.to-is, w.made-is) (let e = w.in_ok-made-in-Leaf.ensures in IsPruned-leaf _ _ _ _ _ w.in-Leaf.state _
+  | in-Leaf+in_ok-made-in-Leaf w ↦ rw (w.to-is, w.made-is) (let e = w.in_ok-made-in-Leaf.ensures in IsPruned-leaf _ _ _ _ w.in-Leaf.state _
       (subst (IsAt c.args.rows.now.from.now c.args.node) w.in-Leaf.is c.shape-shape.ensures.at) refl e.known e.top e.map)
   | in-Test+in_ok-low-in-Test+in_ok-high-in-Test+in_ok-made-in-Test w ↦ rw (w.to-is, w.made-is) (
       let e = w.in_ok-made-in-Test.ensures in
       let low = w.in_ok-low-in-Test.ensures.pruned in
       let high = w.in_ok-high-in-Test.ensures.pruned in
-      IsPruned-test _ _ _ _ _ _ w.in-Test.track w.in-Test.low w.in-Test.high _ _
+      IsPruned-test _ _ w.in-Test.track w.in-Test.low w.in-Test.high
       (subst (IsAt c.args.rows.now.from.now c.args.node) w.in-Test.is c.shape-shape.ensures.at)
       (IsPruned-grows w.in_ok-high-in-Test.ensures.grows low) high e.known e.map e.top)
 ]
@@ -85,7 +85,7 @@ grows : (t : ℕ) (c : goal.Joined-same_map t) → IsMetLeaf c.match-shape.to c.
 grows t c = elim c.match-shape.branch [
   | in-Leaf+in_ok-made-in-Leaf w ↦ rw w.to-is (IsMetLeaf-grows w.in_ok-made-in-Leaf.ensures.grows c.requires.met)
   | in-Test+in_ok-low-in-Test+in_ok-high-in-Test+in_ok-made-in-Test w ↦ rw w.to-is (
-      let all = Grows-trans _ _ _ w.in_ok-low-in-Test.ensures.grows (Grows-trans _ _ _ w.in_ok-high-in-Test.ensures.grows w.in_ok-made-in-Test.ensures.grows) in
+      let all = Grows-trans w.in_ok-low-in-Test.ensures.grows (Grows-trans w.in_ok-high-in-Test.ensures.grows w.in_ok-made-in-Test.ensures.grows) in
       IsMetLeaf-grows all c.requires.met)
 ]
 
@@ -93,7 +93,7 @@ pub returns-clause-done : goal.returns-clause-done
 returns-clause-done t c = elim c.if-same_map.branch [
   | then-same_map w ↦ rw w.kept-is (
       let same = c.same_map.ensures.equal.0 w.if-same_map.true in
-      AreDone-note c.args.rows.now c.match-shape.to c.args.met.now.order.now _ _ c.args.node c.match-shape.made (before_done t c)
+      AreDone-note c.args.rows.now c.match-shape.to _ c.args.node c.match-shape.made (before_done t c)
       w.add.ensures (made t c) (subst (IsMetLeaf c.match-shape.to c.args.met.now.order.now) (sym same) (grows t c)))
   | else-same_map w ↦ rw w.kept-is (before_done t c)
 ]

@@ -31,16 +31,16 @@ finds : (t : ℕ) (c : goal.After-add t) → Finds c.args.order.now c.args.found
 finds t c = elim c.match-shape.branch [
   | in-Leaf w ↦
       rw w.unmet-is
-      (Finds-leaf c.args.rows.now.from.now c.args.rows.now.canon.now c.args.order.now c.args.found _ c.args.node w.in-Leaf.state
+      (Finds-leaf c.args.rows.now.from.now c.args.rows.now.canon.now c.args.order.now c.args.found c.args.node w.in-Leaf.state
       w.in-Leaf.ensures.at w.with_state-unmet.ensures)
   | in-Test+in_ok-low-in-Test+in_ok-unmet-in-Test w ↦ rw w.unmet-is (
-      Finds-test c.args.rows.now.from.now c.args.rows.now.canon.now c.args.order.now c.args.found _ _ c.args.node w.in-Test.track w.in-Test.low w.in-Test.high
+      Finds-test c.args.rows.now.from.now c.args.rows.now.canon.now c.args.order.now c.args.found c.args.node w.in-Test.track w.in-Test.low w.in-Test.high
       w.in-Test.ensures.at w.in-Test.ensures.children w.in_ok-low-in-Test.ensures.finds w.in_ok-unmet-in-Test.ensures.finds)
 ]
 
 done : (t : ℕ) (c : goal.After-add t) → AreDoneWith (canonical_at c.args.rows.now) c.args.order.now c.match-shape.unmet c.match-shape.kept.done
 done t c = elim c.match-shape.branch [
-  | in-Leaf w ↦ rw (w.unmet-is, w.kept-is) (AreDoneWith-kept (canonical_at c.args.rows.now) c.args.order.now c.args.found _ _ _ w.with_state-unmet.ensures c.requires.done)
+  | in-Leaf w ↦ rw (w.unmet-is, w.kept-is) (AreDoneWith-kept w.with_state-unmet.ensures c.requires.done)
   | in-Test+in_ok-low-in-Test+in_ok-unmet-in-Test w ↦ rw (w.unmet-is, w.kept-is) w.in_ok-unmet-in-Test.ensures.done
 ]
 
@@ -56,6 +56,5 @@ returns t c = record {
   done =
       AreDoneWith-note (canonical_at c.args.rows.now) c.args.order.now c.args.found c.match-shape.unmet c.match-shape.kept.done
       c.add.new.self c.args.node (done t c) c.add.ensures (finds t c);
-  passed = rw c.in_ok-push.ensures.items (AreDoneBut-note (canonical_at c.args.rows.now) c.args.order.now c.match-shape.kept.passed.items
-      c.match-shape.kept.done c.add.new.self c.args.node (passed t c) c.add.ensures);
+  passed = rw c.in_ok-push.ensures.items (AreDoneBut-note c.add.new.self c.args.node (passed t c) c.add.ensures);
 }

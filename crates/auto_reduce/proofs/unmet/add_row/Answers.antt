@@ -7,7 +7,7 @@ use Rattle.auto_reduce.proofs.unmet.add_row.Goals as goal
 pub returns-in-Nothing-clause-adds : goal.returns-in-Nothing-clause-adds
 returns-in-Nothing-clause-adds c =
     let row = canonical_at c.args.rows.now c.args.row in
-    AddsRow-none c.args.order.now row (subst (Finds c.args.order.now Nothing row) c.in-Nothing.is c.in_ok-unmet.ensures.finds)
+    AddsRow-none (subst (Finds c.args.order.now Nothing row) c.in-Nothing.is c.in_ok-unmet.ensures.finds)
 
 pub returns-in-Nothing-clause-done : goal.returns-in-Nothing-clause-done
 returns-in-Nothing-clause-done c =
@@ -17,9 +17,9 @@ returns-in-Nothing-clause-done c =
 pub returns-in_ok-add-in-One-clause-adds : goal.returns-in_ok-add-in-One-clause-adds
 returns-in_ok-add-in-One-clause-adds c =
     let row = canonical_at c.args.rows.now c.args.row in
-    AddsRow-one c.args.order.now c.add.new.self row c.in-One.state (subst (Finds c.args.order.now Nothing row) c.in-One.is c.in_ok-unmet.ensures.finds) c.in_ok-add-in-One.ensures.adds
+    AddsRow-one c.in-One.state (subst (Finds c.args.order.now Nothing row) c.in-One.is c.in_ok-unmet.ensures.finds) c.in_ok-add-in-One.ensures.adds
 
 pub returns-in_ok-add-in-One-clause-done : goal.returns-in_ok-add-in-One-clause-done
 returns-in_ok-add-in-One-clause-done c =
-    AreDone-from_one (canonical_at c.args.rows.now) c.args.order.now c.add.new.self c.in-One.state c.unmet_states.new.kept.done c.in_ok-add-in-One.ensures.adds
+    AreDone-from_one (canonical_at c.args.rows.now) c.in-One.state c.unmet_states.new.kept.done c.in_ok-add-in-One.ensures.adds
     (subst (λ unmet. AreDoneWith (canonical_at c.args.rows.now) c.args.order.now unmet c.unmet_states.new.kept.done) c.in-One.is c.in_ok-unmet.ensures.done)

@@ -15,4 +15,4 @@ returns-clause-adds c =
     let size = c.in_ok-led.ensures.led.size in
     let node = get_or_read nodes 0 c.index.result.now (omega (arith, size)) c.index.ensures 0 in
     let are_leaves = subst (λ n. AreLeaves shapes n leaves) node c.in_ok-leaves.ensures in
-    AddsRow-first shapes (entry_at c.args.canon.now c.args.from.now c.args.row) (get_or nodes 0 0) c.add_all.new.self leaves led.map are_leaves added c.add_all.ensures.different
+    AddsRow-first (entry_at c.args.canon.now c.args.from.now c.args.row) led.map are_leaves added c.add_all.ensures.different

@@ -16,6 +16,6 @@ loop-turn-preserved c =
     let below = c.requires.within turn 0 (omega (arith, c.loop-turn-test.true, c.requires.same)) in
     record {
       size = search rules;
-      to = AreListedTo-put (map f c.args.lists.now.items) states classes (map f lists) (map f c.list.new.lists.items) turn (get_or classes turn 0) (get_or states turn 0) c.loop-turn.invariant.to
+      to = AreListedTo-put (map f c.list.new.lists.items) (get_or classes turn 0) (get_or states turn 0) c.loop-turn.invariant.to
           c.loop-turn-test.true (omega (arith, below, size, len, mapped)) refl refl c.in_ok-list.ensures.lists;
     }

@@ -7,5 +7,5 @@ pub returns-clause-candidates : goal.returns-clause-candidates
 returns-clause-candidates c =
     let size : c.args.partition.now.classes.len ≡ length c.args.partition.now.classes.items = search rules in
     let all = rw c.as_slice.ensures.value at c.in_ok-once.ensures.all in
-    AreCandidates-once c.args.partition.now c.args.representatives.now c.args.stale.now c.in_ok-found.found.items c.in_ok-once.once.items c.in_ok-found.ensures.candidates
+    AreCandidates-once c.in_ok-once.once.items c.in_ok-found.ensures.candidates
     (subst (λ n. All (λ state. state < n) c.in_ok-once.once.items) (c.len.ensures ∙ size) c.in_ok-once.ensures.within) all

@@ -24,7 +24,7 @@ loop-state-preserved c =
     elim c.if-representatives-class.branch [
       | then-representatives-class+in_ok-prune+in_ok-extend_from_slice w ↦
           let pruned = w.prune.new.lists.items in
-          let listing = IsListing-pruned classes count representatives (map f lists) (map f pruned) before.listing w.in_ok-prune.ensures.pruned in
+          let listing = IsListing-pruned before.listing w.in_ok-prune.ensures.pruned in
           let mapped = length-map pruned f in
           let size = listing.size in
           let inside : class < length pruned = omega (arith, class_is, class_below, mapped, size) in

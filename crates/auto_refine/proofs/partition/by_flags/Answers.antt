@@ -7,4 +7,4 @@ returns-clause-sound c =
     let classes = c.in_ok-classes.classes.items in
     let other = rw c.as_slice.ensures.value at c.contains-both.ensures.cases in
     let one : c.from.result ≡ cond c.contains-both.result 1 0 = search rules in
-    rw one (IsSound-flags c.args.a.now classes c.contains-both.result c.flag_classes.ensures.valid.some_state c.in_ok-classes.ensures.flags (HasOther-from classes c.contains-both.result other))
+    rw one (IsSound-flags c.contains-both.result c.flag_classes.ensures.valid.some_state c.in_ok-classes.ensures.flags (HasOther-from classes c.contains-both.result other))

@@ -12,7 +12,7 @@ next_round-requires-clause-refined c =
     let moved = c.loop-alloc.moved.items in
     let stale = c.in_ok-stale.stale.items in
     subst (λ all. IsRefined a r (Contains all)) (sym c.as_slice-in-loop-alloc.ensures.value)
-    (IsRefined-stale a r moved stale c.loop-alloc.invariant.refined (rw c.as_slice.ensures.value at c.in_ok-stale.ensures))
+    (IsRefined-stale moved stale c.loop-alloc.invariant.refined (rw c.as_slice.ensures.value at c.in_ok-stale.ensures))
 
 pub loop-alloc-smaller : goal.loop-alloc-smaller
 loop-alloc-smaller c =

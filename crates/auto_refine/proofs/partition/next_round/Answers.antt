@@ -18,7 +18,7 @@ round-requires-clause-led c =
     let led = old.led.items in
     let next = c.lead_again.new.led in
     let again = rw (c.as_slice.ensures.value, c.as_mut_slice.ensures.value) at c.in_ok-lead_again.ensures.led in
-    let rows = AreLedRows-again a old.diagrams c.lead_again.new.diagrams classes c.args.stale.now led next f.sound.partition.states f.size f.led c.lead_again.ensures.grows again in
+    let rows = AreLedRows-again f.sound.partition.states f.size f.led c.lead_again.ensures.grows again in
     let len : length led ≡ old.led.len = search rules in
     let whole = take_whole old.led.len next (drop (length next) led) (again.size ∙ len) in
     record {

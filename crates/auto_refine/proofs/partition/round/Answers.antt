@@ -11,7 +11,7 @@ returns-clause-refined c =
     let led = c.requires.led.led in
     let split = rw c.as_slice.ensures.value at c.in_ok-moved.ensures.split in
     let settled = rw c.as_slice.ensures.value at c.in_ok-moved.ensures.settled in
-    let round = IsRound-split a old.diagrams c.alloc.ensures.diagram old.partition.classes.items old.led.items led _ _ split in
+    let round = IsRound-split a old.diagrams c.alloc.ensures.diagram old.partition.classes.items old.led.items led split in
     let sound = IsSound-round a valid _ _ _ _ c.requires.led.sound round in
     let finer = IsFiner-round a valid _ _ _ _ c.requires.led.sound round in
     record {
@@ -19,5 +19,5 @@ returns-clause-refined c =
       listing = c.in_ok-moved.ensures.listing;
       settled = settled;
       size = led.size;
-      led = led_to_finer a valid old.diagrams old.partition new c.in_ok-moved.moved.items old.led.items led sound.partition.states finer c.in_ok-moved.ensures.moved;
+      led = led_to_finer valid led sound.partition.states finer c.in_ok-moved.ensures.moved;
     }

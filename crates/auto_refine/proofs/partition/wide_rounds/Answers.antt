@@ -26,7 +26,7 @@ next_round-requires-clause-refined c =
     let states = before.sound.partition.states in
     let stale = c.in_ok-stale-2.stale.items in
     subst (λ all. IsRefined a r (Contains all)) (sym c.as_slice-in-loop-alloc.ensures.value)
-    (IsRefined-fewer a r (LeadsInto a c.loop-alloc.moved.items) (Contains stale) before (λ state known shared _. c.in_ok-stale-2.ensures.all state (omega (arith, known, states)) shared))
+    (IsRefined-fewer (Contains stale) before (λ state known shared _. c.in_ok-stale-2.ensures.all state (omega (arith, known, states)) shared))
 
 pub loop-alloc-smaller : goal.loop-alloc-smaller
 loop-alloc-smaller c =

@@ -10,4 +10,4 @@ lead_nodes-requires-clause-leaves c = rw (c.diagrams.ensures.shapes, c.as_slice.
 pub returns : goal.returns
 returns c =
     let led = rw (c.diagrams.ensures.shapes, c.as_slice.ensures.value) at c.in_ok-led.ensures.led in
-    AreLedRows-first c.args.a.now _ c.args.rows.now c.args.partition.now.classes.items _ c.requires.rows c.requires.partition.states led
+    AreLedRows-first _ c.args.partition.now.classes.items c.requires.rows c.requires.partition.states led

@@ -26,7 +26,7 @@ returns-clause-counting c =
     let alone : IsAlone (get_or m.slots.items c.args.entry 0) (get_or m.states.items c.args.entry 0) c.alone-front.result =
     rw (← c.slot_of.ensures, ← c.state_of.ensures) c.alone-front.ensures.alone in
     rw c.plus.ensures
-    (turn-counts c.args.course.now.auto.now c.args.course.now.ray.now c.args.course.now.suits m.times.items m.states.items m.slots.items
+    (turn-counts c.args.course.now.suits m.times.items m.states.items m.slots.items
     m1.times.items m1.states.items m1.slots.items m2.times.items m2.states.items m2.slots.items m.len m1.len m2.len c.args.starts c.args.entry
     c.args.few c.several-more.result c.alone-front.result
     c.requires.counting c.requires.entry alone c.several-more.ensures.few c.follow.ensures c.follow-2.ensures)

@@ -30,7 +30,7 @@ returns-in-Zero-clause-few t c =
     c.several-below.result c.several.result c.several-below.ensures.few c.several.ensures.few)
 
 pub returns-in-Zero-clause-room : goal.returns-in-Zero-clause-room
-returns-in-Zero-clause-room t c = SameRoom-trans _ _ _ c.several-below.ensures.room (SameRoom-trans _ _ _ c.several.ensures.room c.add_all.ensures.room)
+returns-in-Zero-clause-room t c = SameRoom-trans c.several-below.ensures.room (SameRoom-trans c.several.ensures.room c.add_all.ensures.room)
 
 pub returns-in_default-few-clause-few : goal.returns-in_default-few-clause-few
 returns-in_default-few-clause-few t c =
@@ -40,4 +40,4 @@ returns-in_default-few-clause-few t c =
     c.several-below.result c.several.result c.several-below.ensures.few c.several.ensures.few)
 
 pub returns-in_default-few-clause-room : goal.returns-in_default-few-clause-room
-returns-in_default-few-clause-room t c = SameRoom-trans _ _ _ c.several-below.ensures.room c.several.ensures.room
+returns-in_default-few-clause-room t c = SameRoom-trans c.several-below.ensures.room c.several.ensures.room

@@ -3,7 +3,7 @@ use Rattle.auto_shift.proofs.first_row.first_moved.Goals as goal
 
 pub returns-clause-moved : goal.returns-clause-moved
 returns-clause-moved c =
-    IsFirstMoved-parts _ _ _ _ _ c.args.track c.args.up c.args.turned.now c.in_ok-longer.longer c.in_ok-as_long.as_long _ _ _ (record {
+    IsFirstMoved-parts c.args.track c.args.up c.args.turned.now c.in_ok-longer.longer c.in_ok-as_long.as_long (record {
       has_nodes = c.requires.nodes;
       track_low = c.requires.track;
       are_turned = c.requires.turned;

@@ -25,7 +25,7 @@ pub loop-done-preserved : goal.loop-done-preserved
 loop-done-preserved c =
     let e = c.in_ok-moved-2.ensures in
     record {
-      walked = walked-next _ _ _ c.args.track c.of-up.result.up c.loop-done._done c.loop-done.invariant.walked e.walked;
+      walked = walked-next _ _ c.args.track c.of-up.result.up c.loop-done._done c.loop-done.invariant.walked e.walked;
       moved = DecidesMoved-next c.of-up.result.up c.loop-done._done c.moving_adds_up.ensures c.requires.track c.loop-done.invariant.moved e.moved;
       integers = e.integers;
       reached = e.reached;

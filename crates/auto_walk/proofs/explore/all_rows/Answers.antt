@@ -10,15 +10,15 @@ loop-number-preserved g c =
     let numbered = rw so_far.walker at step.numbered in
     let row = rw so_far.walker at step.row in
     let test : c.loop-number.number < length (g.W.Walk.places c.loop-number.walk) = omega (arith, c.count.ensures, c.loop-number-test.true) in
-    let longer = length-Extends _ _ _ step.kept test in
+    let longer = length-Extends _ step.kept test in
     let last : c.loop-number.number ≡ length c.loop-number.rows.items = omega (arith, so_far.size) in
     record {
       walker = step.walker ∙ so_far.walker;
       numbered = numbered;
       room = step.room;
-      kept = Extends-trans _ _ _ so_far.kept step.kept;
-      grows = Grows-trans _ _ _ so_far.grows step.grows;
+      kept = Extends-trans so_far.kept step.kept;
+      grows = Grows-trans so_far.grows step.grows;
       within = omega (arith, longer);
-      rows = rw c.in_ok-push.ensures.items (AreRows-push _ _ _ _ _ _ _ _ last step.grows step.kept so_far.rows (LeadsOn-row _ _ _ _ _ _ step.kept row));
+      rows = rw c.in_ok-push.ensures.items (AreRows-push _ last step.grows step.kept so_far.rows (LeadsOn-row _ step.kept row));
       size = omega (arith, c.in_ok-push.ensures.len, so_far.size);
     }

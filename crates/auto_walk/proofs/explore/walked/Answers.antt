@@ -30,7 +30,7 @@ returns-clause-ok g c =
     rw (dense, copied ∙ c.tracks.ensures.tracks ∙ walker, c.into_diagrams.ensures) (IsWalked-closed (closed g c.before))
 
 pub returns-clause-within : goal.returns-clause-within
-returns-clause-within g c = not_MoreThan (closed g c.before) _ c.in_ok-rows.ensures.room
+returns-clause-within g c = not_MoreThan (closed g c.before) c.in_ok-rows.ensures.room
 
 pub returns-clause-few : goal.returns-clause-few
 returns-clause-few g c =

@@ -7,7 +7,7 @@ made : (c : goal.In_ok-decided) → IsWalked (residue_walker c.in_ok-residues.re
 made c = rw (c.in_ok-residues.ensures.modulus, c.in_ok-residues.ensures.wanted) at c.in_ok-decided.ensures.ok
 
 pub returns-clause-words : goal.returns-clause-words
-returns-clause-words c = residue_words _ _ _ _ _ c.requires.modulus c.in_ok-residues.ensures.tracks (made c)
+returns-clause-words c = residue_words _ _ _ _ c.requires.modulus c.in_ok-residues.ensures.tracks (made c)
 
 pub returns-clause-integers : goal.returns-clause-integers
-returns-clause-integers c = residue_integers c.repeating_first_letter_keeps_values.ensures _ _ _ _ _ c.requires.modulus c.in_ok-residues.ensures.tracks (made c)
+returns-clause-integers c = residue_integers c.repeating_first_letter_keeps_values.ensures _ _ _ _ c.requires.modulus c.in_ok-residues.ensures.tracks (made c)

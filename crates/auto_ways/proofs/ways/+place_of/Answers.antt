@@ -17,13 +17,13 @@ place_of-requires-in-Test t c =
 
 pub returns-in_ok-place-in-Leaf-clause-placed : goal.returns-in_ok-place-in-Leaf-clause-placed
 returns-in_ok-place-in-Leaf-clause-placed t c =
-    rw (c.in_ok-place-in-Leaf.ensures.ways, c.in_ok-place-in-Leaf.ensures.place) (IsPlaced-leaf _ _ _ _ c.in-Leaf.ensures.at)
+    rw (c.in_ok-place-in-Leaf.ensures.ways, c.in_ok-place-in-Leaf.ensures.place) (IsPlaced-leaf _ _ c.in-Leaf.ensures.at)
 
 pub returns-in_ok-place-in-Leaf-clause-remembered : goal.returns-in_ok-place-in-Leaf-clause-remembered
 returns-in_ok-place-in-Leaf-clause-remembered t c =
     let e = c.in_ok-place-in-Leaf.ensures in
     let m = c.in-Leaf.ensures.at.map 0 in
-    RemembersPlaced-next _ _ _ _ _ _ _ _ c.requires.remembered (rw (← m) (c.requires.leaves 0)) c.requires.known (IsPlaced-leaf _ _ _ _ c.in-Leaf.ensures.at) e.ways e.places
+    RemembersPlaced-next _ _ _ c.requires.remembered (rw (← m) (c.requires.leaves 0)) c.requires.known (IsPlaced-leaf _ _ c.in-Leaf.ensures.at) e.ways e.places
 
 pub returns-in_ok-place-in-Leaf-clause-kept : goal.returns-in_ok-place-in-Leaf-clause-kept
 returns-in_ok-place-in-Leaf-clause-kept t c = rw c.in_ok-place-in-Leaf.ensures.ways (KeepsWays-push _ _)
@@ -40,9 +40,9 @@ returns-in_ok-place-in-Test-clause-remembered t c =
     let low = c.in_ok-low-in-Test.ensures in
     let high = c.in_ok-high-in-Test.ensures in
     let lq = IsPlaced-grows high.kept low.placed in
-    RemembersPlaced-next _ _ _ _ _ _ _ _ high.remembered (lq.within, high.placed.within) c.requires.known
+    RemembersPlaced-next _ _ _ high.remembered (lq.within, high.placed.within) c.requires.known
     (IsPlaced-low high.kept c.in-Test.ensures.at low.placed high.placed) e.ways e.places
 
 pub returns-in_ok-place-in-Test-clause-kept : goal.returns-in_ok-place-in-Test-clause-kept
 returns-in_ok-place-in-Test-clause-kept t c =
-    rw c.in_ok-place-in-Test.ensures.ways (KeepsWays-trans _ _ _ (KeepsWays-trans _ _ _ c.in_ok-low-in-Test.ensures.kept c.in_ok-high-in-Test.ensures.kept) (KeepsWays-push _ _))
+    rw c.in_ok-place-in-Test.ensures.ways (KeepsWays-trans (KeepsWays-trans c.in_ok-low-in-Test.ensures.kept c.in_ok-high-in-Test.ensures.kept) (KeepsWays-push _ _))

@@ -11,7 +11,7 @@ mark_all-requires c =
     let place = c.in-Some.place in
     let before = c.loop-place.invariant in
     let inside = All-last size place c.loop-place.waiting.items c.pop.new.self.items c.in-Some.ensures.items before.waits in
-    rw (c.as_slice-in-Some.ensures, before.size) (AreListedBelow-all above size place c.index-above-place.result c.requires.above
+    rw (c.as_slice-in-Some.ensures, before.size) (AreListedBelow-all place c.index-above-place.result c.requires.above
     (slice_get_read above size place c.index-above-place.result (sym c.requires.above_size) inside c.index-above-place.is))
 
 pub loop-place-preserved : goal.loop-place-preserved
@@ -31,12 +31,11 @@ loop-place-preserved c =
     let marked = rw c.as_slice-in-Some.ensures at c.in_ok-mark_all.ensures.marked in
     record {
       size = m.size ∙ before.size;
-      waits = All-waits size place c.loop-place.marks c.mark_all.new.marks waiting rest c.mark_all.new.waiting.items before.size popped before.waits m;
+      waits = All-waits size place waiting before.size popped before.waits m;
       kept = λ p on. m.kept p (before.kept p on);
-      climbed = rw (c.in_ok-extend_from_slice.ensures.items, c.as_slice.ensures) (AreClimbed-step above owners c.loop-place.marks c.mark_all.new.marks
-          waiting rest c.mark_all.new.waiting.items c.loop-place.found.items place c.index-above-place.result c.index-owners-place.result
+      climbed = rw (c.in_ok-extend_from_slice.ensures.items, c.as_slice.ensures) (AreClimbed-step place c.index-above-place.result c.index-owners-place.result
           before.climbed popped next listed m marked);
       within = λ bound below. rw (c.in_ok-extend_from_slice.ensures.items, c.as_slice.ensures)
           (All-append (λ state. state < bound) c.loop-place.found.items c.index-owners-place.result.items (before.within bound below)
-          (AreListedBelow-all owners bound place c.index-owners-place.result below listed));
+          (AreListedBelow-all place c.index-owners-place.result below listed));
     }

@@ -11,8 +11,8 @@ returns c =
     let started = rw c.as_slice.ensures.value at c.in_ok-mark_leaves.ensures.started in
     let climbed = rw (c.as_slice-2.ensures.value, c.as_slice-3.ensures.value) at c.in_ok-found.ensures.climbed in
     let within = rw c.as_slice-3.ensures.value at c.in_ok-found.ensures.within in
-    let kept = AreStarted-kept states w.leaves.items c.mark_leaves.new.marks c.climb.new.marks c.in_ok-found.ensures.kept started in
+    let kept = AreStarted-kept c.climb.new.marks c.in_ok-found.ensures.kept started in
     record {
       within = subst (λ n. All (λ state. state < n) found) r.placed.size (within (length r.rows) r.owners.below);
-      all = found_above c.args.a.now w states c.climb.new.marks found r kept climbed;
+      all = found_above r kept climbed;
     }

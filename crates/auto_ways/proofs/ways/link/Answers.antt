@@ -42,7 +42,7 @@ at_both c =
     let items = c.in_ok-push-in-Both-2.ensures.ok in
     let adds = AddsListed-set more high place list c.push-in-Both-2.new.self at items in (
       (adds.kept low place first, IsListed-set more high place list c.push-in-Both-2.new.self at items),
-      AddsListed-trans above more (slice_set more high c.push-in-Both-2.new.self) place first_adds adds,
+      AddsListed-trans first_adds adds,
     )
 
 pub returns-in_ok-push-in-Both-2-clause-linked : goal.returns-in_ok-push-in-Both-2-clause-linked

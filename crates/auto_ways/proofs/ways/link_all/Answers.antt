@@ -23,9 +23,9 @@ loop-place-preserved c =
     record {
       above_size = e.above.size ∙ before.above_size;
       leaves_size = e.leaves.size ∙ before.leaves_size;
-      above_below = AreListedBelow-adds c.loop-place.above c.link.new.above place before.above_below e.above;
-      leaves_below = AreListedBelow-adds c.loop-place.leaves c.link.new.leaves place before.leaves_below e.leaves;
-      linked = linked_more ways c.loop-place.above c.link.new.above c.loop-place.leaves c.link.new.leaves place (get_or ways place (State 0))
+      above_below = AreListedBelow-adds before.above_below e.above;
+      leaves_below = AreListedBelow-adds before.leaves_below e.leaves;
+      linked = linked_more ways (get_or ways place (State 0))
           before.linked e.above e.leaves (slice_get-get_or ways place (State 0) c.loop-place-test.true) e.linked;
     }
 

@@ -10,7 +10,7 @@ mark_all-requires c =
     let leaves = c.args.leaves.now in
     let index = c.loop-state.state-index in
     let within = All-get_or (λ state. state < length leaves) states index 0 c.loop-state-test.true c.requires.states in
-    rw (c.as_slice.ensures, c.loop-state.invariant.more.size) (AreListedBelow-all leaves (length c.args.marks.now) (get_or states index 0) c.index-leaves-state.result c.requires.leaves
+    rw (c.as_slice.ensures, c.loop-state.invariant.more.size) (AreListedBelow-all (get_or states index 0) c.index-leaves-state.result c.requires.leaves
     (slice_get_read leaves _ (get_or states index 0) c.index-leaves-state.result refl within c.index-leaves-state.is))
 
 pub loop-state-preserved : goal.loop-state-preserved

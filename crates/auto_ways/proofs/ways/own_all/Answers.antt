@@ -19,6 +19,6 @@ loop-state-preserved c =
     let adds = AddsListed-set owners place state list c.push.new.self at items in
     record {
       size = adds.size ∙ before.size;
-      below = AreListedBelow-adds owners (slice_set owners place c.push.new.self) state before.below adds;
-      owned = owned_more rows owners (slice_set owners place c.push.new.self) state before.owned adds (IsListed-set owners place state list c.push.new.self at items);
+      below = AreListedBelow-adds before.below adds;
+      owned = owned_more rows before.owned adds (IsListed-set owners place state list c.push.new.self at items);
     }

@@ -31,8 +31,7 @@ loop-node-preserved c =
     record {
       size = grind (arith, common_steps);
       remembered = rw (← same, take-append_seam c.place_of.new.places (drop (length c.place_of.new.places) c.loop-node.places.items)) remembered;
-      placed = rw c.in_ok-push.ensures.items (placed_push shapes c.loop-node.ways.items c.place_of.new.ways.items rows c.loop-node.found.items index
-          c.in_ok-place.place c.in_ok-place.ensures.kept size before.placed
+      placed = rw c.in_ok-push.ensures.items (placed_push rows c.loop-node.found.items index c.in_ok-place.ensures.kept size before.placed
           (subst (λ n. IsPlaced shapes c.place_of.new.ways.items n c.in_ok-place.place) node placed));
     }
 
@@ -40,5 +39,5 @@ pub returns : goal.returns
 returns c =
     let size : length c.loop-node.found.items ≡ c.loop-node.node-index = search rules in
     let end : c.loop-node.node-index ≡ length c.args.rows.now = (let to = c.loop-node.auto.node-index-end in omega (arith, to, c.loop-node-test.false)) in
-    ArePlacedRows-from c.args.a.now c.args.rows.now c.loop-node.ways.items c.loop-node.found.items c.requires.rows
+    ArePlacedRows-from c.loop-node.ways.items c.loop-node.found.items c.requires.rows
     c.loop-node.invariant.remembered.fits (omega (arith, size, end)) (λ k less. c.loop-node.invariant.placed k (omega (arith, less, end)))

@@ -15,7 +15,7 @@ returns-then-all-few c = (
 
 pub returns-then-is_times : goal.returns-then-is_times
 returns-then-is_times c = (
-  λ t. part_from c.args.whole.x c.args.whole.y c.args.part.x c.args.part.y c.unit_toward-unit.result.x c.unit_toward-unit.result.y
+  λ t. part_from
       c.steps_of-all.result c.steps_of-few.result c.unit_toward-unit.ensures.right c.unit_toward-unit.ensures.up c.steps_of-all.ensures (omega arith)
       (c.is_times.ensures.0 c.if-is_times.true) (c.is_times-then-is_times.ensures.0 t),
   λ h. c.is_times-then-is_times.ensures.1

@@ -29,7 +29,7 @@ returns-then-in_check-clause-reason c =
 pub returns-clause-ok : goal.returns-clause-ok
 returns-clause-ok c =
     record {
-      kings = kings_from c.args.board.now
+      kings = kings_from
           (one_king c.args.board.now White c.in_ok-white.white c.in_ok-white.ensures.king c.in_ok-white.ensures.first c.in_ok-check_only.ensures.only c.in_ok-check_live.ensures.live)
           (one_king c.args.board.now Black c.in_ok-black.black c.in_ok-black.ensures.king c.in_ok-black.ensures.first c.in_ok-check_only-2.ensures.only c.in_ok-check_live-2.ensures.live);
       apart = apart_from c.args.board.now c.in_ok-check_apart.ensures.apart;

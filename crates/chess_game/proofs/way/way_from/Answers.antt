@@ -16,9 +16,9 @@ free c t near far =
     free_from c.args.board.now c.args.from c.args.ray c.args.frame c.first_on_ray-hit.result (nearest c) t ((c.reach-span.ensures.span t).0 (near, last.0)) last.1
 
 -- a free distance is one of these
-not_free : (c : After-number_within-hits) (t : ℕ) → IsFreeFrom c.args.board.now c.args.from c.args.ray c.args.frame t → (c.reach-span.result.first ≤ t) × (t ≤ c.last_before-far.result)
-not_free c t h =
-    let w = from_free c.args.board.now c.args.from c.args.ray c.args.frame c.first_on_ray-hit.result (nearest c) t h in
+not_free : (c : After-number_within-hits) {t : ℕ} → IsFreeFrom c.args.board.now c.args.from c.args.ray c.args.frame t → (c.reach-span.result.first ≤ t) × (t ≤ c.last_before-far.result)
+not_free c {t} h =
+    let w = from_free c.args.board.now c.args.from c.args.ray c.args.frame c.first_on_ray-hit.result (nearest c) h in
     let span = (c.reach-span.ensures.span t).1 w.0 in
     (span.0, (c.last_before-far.ensures.last t).1 (span.1, w.1))
 
@@ -29,7 +29,7 @@ pub returns-then-span-far-clause-distances : goal.returns-then-span-far-clause-d
 returns-then-span-far-clause-distances c =
     λ t. (
       λ h. free ((goal.at.returns-then-span-far-clause-distances c).After-number_within-hits) t h.0 h.1,
-      λ h. not_free ((goal.at.returns-then-span-far-clause-distances c).After-number_within-hits) t h,
+      λ h. not_free ((goal.at.returns-then-span-far-clause-distances c).After-number_within-hits) h,
     )
 
 pub returns-then-span-far-clause-none : goal.returns-then-span-far-clause-none
@@ -55,7 +55,7 @@ pub returns-clause-distances : goal.returns-clause-distances
 returns-clause-distances c =
     λ t. (
       λ h. absurd (omega (arith, h.0, h.1)),
-      λ h. let w = not_free ((goal.at.returns-clause-distances c).After-number_within-hits) t h in absurd (omega (arith, w.0, w.1)),
+      λ h. let w = not_free ((goal.at.returns-clause-distances c).After-number_within-hits) h in absurd (omega (arith, w.0, w.1)),
     )
 
 pub returns-clause-hit : goal.returns-clause-hit

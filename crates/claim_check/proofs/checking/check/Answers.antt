@@ -16,7 +16,7 @@ pub from_sets-requires-clause-valid : goal.from_sets-requires-clause-valid
 from_sets-requires-clause-valid c =
     let sets = c.in_ok-claimed.claimed in
     let Within : ℕ → Type 0 = λ b. Ends (check_plan (claim_in sets)) b None in
-    won_sets sets c.args.budget c.in_ok-claimed.ensures.ready (subst Within c.new.ensures.budget (rw (c.in-Ok-None.is, c.in-Ok-None.field-0-is) at c.check_plan.ensures))
+    won_sets c.in_ok-claimed.ensures.ready (subst Within c.new.ensures.budget (rw (c.in-Ok-None.is, c.in-Ok-None.field-0-is) at c.check_plan.ensures))
 
 pub returns-in-Ok-None-clause-won : goal.returns-in-Ok-None-clause-won
 returns-in-Ok-None-clause-won c =

@@ -25,7 +25,7 @@ check_first-requires-clause-signed c =
     let budget = c.args.work.now.memo.budget in
     let sets = for_each plies (check_sets d) in
     let At : List ℕ → Type 0 = λ l. Ends (for_each l (check_sets d)) budget None in
-    signed_sets d c.requires.ready.claim budget (subst At are (none_found sets budget budget refl c.in_ok-sets.sets (sym c.is_some.ensures ∙ c.if-is_some.false) c.in_ok-sets.ensures.finds))
+    signed_sets d c.requires.ready.claim (subst At are (none_found budget refl (sym c.is_some.ensures ∙ c.if-is_some.false) c.in_ok-sets.ensures.finds))
 
 pub check_replies-requires-clause-signed : goal.check_replies-requires-clause-signed
 check_replies-requires-clause-signed c =
@@ -36,7 +36,7 @@ check_replies-requires-clause-signed c =
     let budget = c.args.work.now.memo.budget in
     let sets = for_each plies (check_sets d) in
     let At : List ℕ → Type 0 = λ l. Ends (for_each l (check_sets d)) budget None in
-    signed_sets d c.requires.ready.claim budget (subst At are (none_found sets budget budget refl c.in_ok-sets.sets (sym c.is_some.ensures ∙ c.if-is_some.false) c.in_ok-sets.ensures.finds))
+    signed_sets d c.requires.ready.claim (subst At are (none_found budget refl (sym c.is_some.ensures ∙ c.if-is_some.false) c.in_ok-sets.ensures.finds))
 
 pub check_replies-requires-clause-low : goal.check_replies-requires-clause-low
 check_replies-requires-clause-low c = All-same (λ ply. ply ≤ 41) c.as_slice-plies.result.now c.in_ok-list.list.items c.as_slice-plies.ensures.value c.in_ok-list.ensures.low
@@ -112,5 +112,5 @@ returns c =
     let after_sets = left_after sets (and_then first replies) (check_plan d) budget budget refl leads c.in_ok-sets.sets (sym c.is_some.ensures ∙ c.if-is_some.false) c.in_ok-sets.ensures.finds in
     let after_first = left_after first replies (check_plan d) budget c.check_sets.new.work.memo.budget c.in_ok-sets.ensures.budget after_sets c.in_ok-first.first
     (sym c.is_some-2.ensures ∙ c.if-is_some-2.false) c.in_ok-first.ensures.finds in
-    left_finds replies (check_plan d) budget c.check_first.new.work.memo.budget (c.in_ok-first.ensures.budget ∙ c.in_ok-sets.ensures.budget) after_first
+    left_finds c.check_first.new.work.memo.budget (c.in_ok-first.ensures.budget ∙ c.in_ok-sets.ensures.budget) after_first
     c.check_replies.result c.check_replies.ensures.finds

@@ -20,7 +20,7 @@ returns-in-Ok-clause-level c =
     let budget = c.args.work.now.memo.budget in
     let new = c.level_by.new.work.sets in
     let At : Position → Type 0 = λ p. Ends (for_masks (masks_of p) (given d c.args.ply) no_sets) budget (level_in p new c.in-Ok.level) in
-    given_level d c.args.ply c.requires.ready.claim budget (level_in d.position new c.in-Ok.level) (subst At c.requires.of (rw c.in-Ok.is at c.level_by.ensures.answers))
+    given_level d c.args.ply c.requires.ready.claim (subst At c.requires.of (rw c.in-Ok.is at c.level_by.ensures.answers))
 
 pub returns-in-Ok-clause-names : goal.returns-in-Ok-clause-names
 returns-in-Ok-clause-names c =

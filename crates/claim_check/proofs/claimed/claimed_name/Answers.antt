@@ -19,5 +19,5 @@ pub returns-in_ok-put-in-Some-clause-name : goal.returns-in_ok-put-in-Some-claus
 returns-in_ok-put-in-Some-clause-name c =
     let d = claim_in c.args.claimed.now in
     let there : claimed_at d c.args.ply c.args.mask ≡ Some c.in-Some.set.now = sym c.claimed_set.ensures ∙ ap option_copied c.in-Some.is in
-    let on = claimed_on c.args.claimed.now c.requires.ready c.requires.signed c.args.ply c.args.mask c.in-Some.set.now there in
+    let on = claimed_on c.requires.ready c.requires.signed c.args.ply c.args.mask c.in-Some.set.now there in
     (c.in_ok-copy-in-Some.field-0, c.in_ok-put-in-Some.ensures.ok, subst (IsSetOn (mask_tracks c.args.claimed.now.position c.args.mask)) (sym c.in_ok-copy-in-Some.ensures) on)

@@ -5,4 +5,4 @@ use Rattle.claim_plan.specs.declared.names.Rule.TheVariants as rule
 use Rattle.claim_check.proofs.first.first_rule.Goals as goal
 
 pub returns : goal.returns
-returns c = c.rule_at.ensures ∙ ap (λ m. rule_at 0 m rule.First) (mask_one c.args.claimed.now.position c.mask.result c.mask.ensures)
+returns c = c.rule_at.ensures ∙ ap (λ m. rule_at 0 m rule.First) (mask_one c.mask.ensures)

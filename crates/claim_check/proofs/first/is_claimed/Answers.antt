@@ -15,14 +15,14 @@ use Rattle.claim_check.proofs.first.is_claimed.Goals as goal
 there : (c : In-Some) → claimed_at (claim_in c.args.claimed.now) 0 (mask_of c.args.claimed.now.position) ≡ Some c.in-Some.set.now
 there c =
     let At : ℕ → Type 0 = λ m. claimed_at (claim_in c.args.claimed.now) 0 m ≡ Some c.in-Some.set.now in
-    subst At (mask_one c.args.claimed.now.position c.mask.result c.mask.ensures) (sym c.claimed_set.ensures ∙ ap option_copied c.in-Some.is)
+    subst At (mask_one c.mask.ensures) (sym c.claimed_set.ensures ∙ ap option_copied c.in-Some.is)
 
 pub member-requires-clause-count : goal.member-requires-clause-count
 member-requires-clause-count c =
     let s = c.args.claimed.now in
     let at = (goal.at.member-requires-clause-count c).In-Some in
-    let on = claimed_on s c.requires.ready c.requires.signed 0 (mask_of s.position) c.in-Some.set.now (there at) in
-    ap length (c.as_slice.ensures.value ∙ c.coordinates.ensures) ∙ own_count s.position c.requires.ready.claim.sound ∙ sym (ap length on.decides.tracks_are)
+    let on = claimed_on c.requires.ready c.requires.signed 0 (mask_of s.position) c.in-Some.set.now (there at) in
+    ap length (c.as_slice.ensures.value ∙ c.coordinates.ensures) ∙ own_count c.requires.ready.claim.sound ∙ sym (ap length on.decides.tracks_are)
 
 pub member-requires-clause-decides : goal.member-requires-clause-decides
 member-requires-clause-decides c = c.requires.signed 0 (mask_of c.args.claimed.now.position) c.in-Some.set.now (there (goal.at.member-requires-clause-decides c).In-Some)
@@ -39,6 +39,6 @@ returns-in-Some c =
 pub returns-in-None : goal.returns-in-None
 returns-in-None c =
     let At : ℕ → Type 0 = λ m. claimed_at (claim_in c.args.claimed.now) 0 m ≡ None in
-    let none = subst At (mask_one c.args.claimed.now.position c.mask.result c.mask.ensures) (sym c.claimed_set.ensures ∙ ap option_copied c.in-None.is) in
+    let none = subst At (mask_one c.mask.ensures) (sym c.claimed_set.ensures ∙ ap option_copied c.in-None.is) in
     let In : Option Automaton → Type 0 = λ o. Member (as_set o) (tuple_of c.args.claimed.now.position) in
     (λ never. cc, λ has. absurd (subst In none has))

@@ -14,13 +14,13 @@ loop-before-init c =
 pub loop-before-preserved : goal.loop-before-preserved
 loop-before-preserved c =
     let Bare : List (List Automaton) → Type 0 = λ l. AreBare c.args.masks.now l (c.loop-before._before + 1) in
-    subst Bare (sym c.in_ok-push_none.ensures) (bare_more c.args.masks.now c.loop-before.plies.items c.loop-before._before c.loop-before.invariant)
+    subst Bare (sym c.in_ok-push_none.ensures) (bare_more c.args.masks.now c.loop-before.invariant)
 
 pub loop-done-init : goal.loop-done-init
 loop-done-init c =
     let all : c.loop-before._before ≡ c.args.losers.first = omega arith in
     let Bare : ℕ → Type 0 = λ n. AreBare c.args.masks.now c.loop-before.plies.items n in
-    grouped_none c.args.sets.items c.args.masks.now c.args.losers.first c.args.losers.count c.loop-before.plies.items (subst Bare all c.loop-before.invariant) c.requires.places
+    grouped_none c.args.sets.items c.args.masks.now c.args.losers.first c.args.losers.count (subst Bare all c.loop-before.invariant) c.requires.places
 
 pub split_off-requires : goal.split_off-requires
 split_off-requires c =

@@ -5,4 +5,4 @@ pub returns : goal.returns
 returns c =
     let is = c.in_ok-set.ensures in
     let m = c.in_ok-reduced.ensures in
-    reduced_of c.args.claimed.set c.in_ok-set.set c.in_ok-reduced.reduced is.tracks is.first is.next is.accept m.tracks m.words m.reduced m.fewer
+    reduced_of c.args.claimed.set c.in_ok-set.set is.tracks is.first is.next is.accept m.tracks m.words m.reduced m.fewer

@@ -15,13 +15,13 @@ use Rattle.claim_check.proofs.ReplyParts.{at_own_ply, ply_leads, reach_stopped, 
 use Rattle.claim_check.proofs.replies.check_ply.Goals as goal
 
 pub check_all_left-requires-clause-replies : goal.check_all_left-requires-clause-replies
-check_all_left-requires-clause-replies c = at_own_ply c.args.claimed.now c.args.ply c.replies_at.new.work.sets c.in_ok-replies.replies c.in_ok-replies.ensures.replies
+check_all_left-requires-clause-replies c = at_own_ply c.in_ok-replies.ensures.replies
 
 pub check_all_stale-requires-clause-replies : goal.check_all_stale-requires-clause-replies
 check_all_stale-requires-clause-replies c =
     let s = c.args.claimed.now in
     let r = c.in_ok-replies.replies in
-    replies_grow s r.ply c.replies_at.new.work.sets c.check_all_left.new.work.sets r c.in_ok-left.ensures.grows (at_own_ply s c.args.ply c.replies_at.new.work.sets r c.in_ok-replies.ensures.replies)
+    replies_grow c.check_all_left.new.work.sets c.in_ok-left.ensures.grows (at_own_ply c.in_ok-replies.ensures.replies)
 
 pub returns-in_err-replies-clause-finds : goal.returns-in_err-replies-clause-finds
 returns-in_err-replies-clause-finds c =
@@ -40,7 +40,7 @@ returns-in_err-left-clause-finds c =
     let reached = level_in p one r.reached in
     let left_of = for_each masks (check_left (rules_of p) d.winner (suc r.ply) reached (claimed_level d (r.ply + 2))) in
     let stale_of = for_each masks (check_stale (rules_of p) (other d.winner) r.ply (claimed_level d r.ply) reached) in
-    let leads = ply_leads d c.args.ply budget r.ply masks reached c.in_ok-replies.ensures.replies.ply_is refl c.in_ok-replies.ensures.reached in
+    let leads = ply_leads d c.args.ply r.ply masks c.in_ok-replies.ensures.replies.ply_is refl c.in_ok-replies.ensures.reached in
     let e = err_from_is_err_and c.from_residual-in_err-left.result c.from_residual-in_err-left.ensures.1 in
     rw (e.1, e.2)
     (stopped_in left_of stale_of (check_ply d c.args.ply) budget c.replies_at.new.work.memo.budget c.in_ok-replies.ensures.budget leads
@@ -58,7 +58,7 @@ returns-then-is_some-clause-finds c =
     let reached = level_in p one r.reached in
     let left_of = for_each masks (check_left (rules_of p) d.winner (suc r.ply) reached (claimed_level d (r.ply + 2))) in
     let stale_of = for_each masks (check_stale (rules_of p) (other d.winner) r.ply (claimed_level d r.ply) reached) in
-    let leads = ply_leads d c.args.ply budget r.ply masks reached c.in_ok-replies.ensures.replies.ply_is refl c.in_ok-replies.ensures.reached in
+    let leads = ply_leads d c.args.ply r.ply masks c.in_ok-replies.ensures.replies.ply_is refl c.in_ok-replies.ensures.reached in
     found_in left_of stale_of (check_ply d c.args.ply) budget c.replies_at.new.work.memo.budget c.in_ok-replies.ensures.budget leads
     c.in_ok-left.left (sym c.is_some.ensures ∙ c.if-is_some.true) c.in_ok-left.ensures.finds
 
@@ -74,7 +74,7 @@ returns-in_err-stale-clause-finds c =
     let reached = level_in p one r.reached in
     let left_of = for_each masks (check_left (rules_of p) d.winner (suc r.ply) reached (claimed_level d (r.ply + 2))) in
     let stale_of = for_each masks (check_stale (rules_of p) (other d.winner) r.ply (claimed_level d r.ply) reached) in
-    let leads = ply_leads d c.args.ply budget r.ply masks reached c.in_ok-replies.ensures.replies.ply_is refl c.in_ok-replies.ensures.reached in
+    let leads = ply_leads d c.args.ply r.ply masks c.in_ok-replies.ensures.replies.ply_is refl c.in_ok-replies.ensures.reached in
     let after_left = left_after left_of stale_of (check_ply d c.args.ply) budget c.replies_at.new.work.memo.budget c.in_ok-replies.ensures.budget leads
     c.in_ok-left.left (sym c.is_some.ensures ∙ c.if-is_some.false) c.in_ok-left.ensures.finds in
     let within = c.in_ok-left.ensures.budget ∙ c.in_ok-replies.ensures.budget in
@@ -84,7 +84,7 @@ returns-in_err-stale-clause-finds c =
     (Err c.in_err-stale.field-0.0) in
     let e = err_from_is_err_and c.from_residual-in_err-stale.result c.from_residual-in_err-stale.ensures.1 in
     rw (e.1, e.2)
-    (left_finds stale_of (check_ply d c.args.ply) budget c.check_all_left.new.work.memo.budget within after_left (Err c.in_err-stale.field-0.0)
+    (left_finds c.check_all_left.new.work.memo.budget within after_left (Err c.in_err-stale.field-0.0)
     (subst From grown c.in_err-stale.ensures.finds))
 
 pub truncate-requires : goal.truncate-requires
@@ -108,7 +108,7 @@ returns-clause-finds c =
     let reached = level_in p one r.reached in
     let left_of = for_each masks (check_left (rules_of p) d.winner (suc r.ply) reached (claimed_level d (r.ply + 2))) in
     let stale_of = for_each masks (check_stale (rules_of p) (other d.winner) r.ply (claimed_level d r.ply) reached) in
-    let leads = ply_leads d c.args.ply budget r.ply masks reached c.in_ok-replies.ensures.replies.ply_is refl c.in_ok-replies.ensures.reached in
+    let leads = ply_leads d c.args.ply r.ply masks c.in_ok-replies.ensures.replies.ply_is refl c.in_ok-replies.ensures.reached in
     let after_left = left_after left_of stale_of (check_ply d c.args.ply) budget c.replies_at.new.work.memo.budget c.in_ok-replies.ensures.budget leads
     c.in_ok-left.left (sym c.is_some.ensures ∙ c.if-is_some.false) c.in_ok-left.ensures.finds in
     let within = c.in_ok-left.ensures.budget ∙ c.in_ok-replies.ensures.budget in
@@ -116,7 +116,7 @@ returns-clause-finds c =
     let From : Level → Type 0 =
     λ l. Finds (for_each masks (check_stale (rules_of p) (other d.winner) r.ply (claimed_level d r.ply) l)) c.check_all_left.new.work.memo.budget
     (Ok c.in_ok-stale.stale) in
-    left_finds stale_of (check_ply d c.args.ply) budget c.check_all_left.new.work.memo.budget within after_left (Ok c.in_ok-stale.stale) (subst From grown c.in_ok-stale.ensures.finds)
+    left_finds c.check_all_left.new.work.memo.budget within after_left (Ok c.in_ok-stale.stale) (subst From grown c.in_ok-stale.ensures.finds)
 
 pub returns-in_err-left-clause-grows : goal.returns-in_err-left-clause-grows
 returns-in_err-left-clause-grows c = grows-grows c.args.work.now.sets c.replies_at.new.work.sets c.check_all_left.new.work.sets c.in_ok-replies.ensures.grows c.in_err-left.ensures.grows

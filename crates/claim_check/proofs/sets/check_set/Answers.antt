@@ -21,7 +21,7 @@ lone_level-requires-clause-mask c = (c.requires.ready.claim.only c.args.ply c.ar
 
 pub lone_level-requires-clause-set : goal.lone_level-requires-clause-set
 lone_level-requires-clause-set c =
-    one_on c.args.claimed.now c.requires.ready c.args.ply c.args.mask c.in-Some.set.now
+    one_on c.requires.ready c.args.ply c.args.mask c.in-Some.set.now
     (c.in_ok-sign.ensures.signed (none_told c.in_ok-sign.sign (sym c.is_some.ensures ∙ c.if-is_some.false))) (sym c.claimed_set.ensures ∙ ap option_copied c.in-Some.is)
 
 pub returns-in_err-sign-clause-finds : goal.returns-in_err-sign-clause-finds
@@ -107,7 +107,7 @@ returns-in_err-guard-clause-finds c =
     c.check_same.new.work.memo.budget (Err c.in_err-guard.field-0.0) in
     let h = subst Over c.in_ok-same.ensures.sets (subst By c.other.ensures c.in_err-guard.ensures.finds) in
     let e = err_from_is_err_and c.from_residual-in_err-guard.result c.from_residual-in_err-guard.ensures.1 in
-    rw (e.1, e.2) (left_finds guard (check_set d c.args.ply c.args.mask) budget c.check_same.new.work.memo.budget within after_same (Err c.in_err-guard.field-0.0) h)
+    rw (e.1, e.2) (left_finds c.check_same.new.work.memo.budget within after_same (Err c.in_err-guard.field-0.0) h)
 
 pub truncate-requires : goal.truncate-requires
 truncate-requires c =
@@ -136,7 +136,7 @@ returns-clause-finds c =
     λ t. Finds (check_guard (rules_of p) (other d.winner) c.args.ply c.args.mask (level_in p t c.in_ok-level.level c.args.mask))
     c.check_same.new.work.memo.budget (Ok c.in_ok-guard.guard) in
     let h = subst Over c.in_ok-same.ensures.sets (subst By c.other.ensures c.in_ok-guard.ensures.finds) in
-    left_finds guard (check_set d c.args.ply c.args.mask) budget c.check_same.new.work.memo.budget within after_same (Ok c.in_ok-guard.guard) h
+    left_finds c.check_same.new.work.memo.budget within after_same (Ok c.in_ok-guard.guard) h
 
 pub returns-in_err-same-clause-grows : goal.returns-in_err-same-clause-grows
 returns-in_err-same-clause-grows c = rw c.in_err-same.ensures.sets c.in_ok-level.ensures.grows

@@ -11,7 +11,7 @@ returns-in-Ok g c =
     let f = c.in-Ok.ensures.fetches in
     let file = c.args.file.now in
     let line = c.as_slice.ensures ∙ c.verdict_line-line.ensures.won refl ∙ ap mate_line c.moves.ensures in
-    record { ends = (f.0, f.1, line_checks file.budget file.name.now f.0 c.in-Ok.solved f.2 c.print.result c.as_slice.result.now _ _ line f.1 c.in-Ok.ensures.same (c.print.ensures.ends f.0)) }
+    record { ends = (f.0, f.1, line_checks f.2 c.print.result c.as_slice.result.now _ _ line f.1 c.in-Ok.ensures.same (c.print.ensures.ends f.0)) }
 
 pub returns-in-Err : goal.returns-in-Err
 returns-in-Err g c =

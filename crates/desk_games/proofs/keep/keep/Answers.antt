@@ -21,7 +21,7 @@ returns-in-Ok-Some g c = record {
       (KeepReports task.moves task.budget problem c.args.name.now files) (Unit {0}) (¬ HasNothingToPlay task.moves problem)
       _ (MissesKeep c.args.name.now (HasFileToKeep task.moves task.budget problem)) _ _
       (λ report right. inr (fits, inr (value, kept_reports problem task.moves s of c.args.name.now files report right)))
-      (λ some none. none_mates problem task.moves none value)
+      (λ some none. none_mates none value)
       (λ keeping miss. (kept_file problem task.moves s of task.budget fits value miss.0.0 miss.0.1, miss.1))
       (c.keep_file.ensures.ends files kept);
 }

@@ -30,7 +30,7 @@ returns-in-Ok g c = record {
       game_ends Says (LacksAtFirst task.moves problem) (λ (bytes : List ℕ). NeverMisses) files problem.lines (first_match task.moves problem)
       (reports_game task.moves task.budget problem files fits value)
       _ _ (seen game.new.session) _ _ _ _ _ _ _ _ _ _ game.result c.finish.result
-      (same_played problem.lines game.result (seen c.in-Ok.session) (first_match task.moves problem) (seen game.new.session) _ _ first game.ensures.plays)
+      (same_played problem.lines game.result (seen c.in-Ok.session) (first_match task.moves problem) (seen game.new.session) first game.ensures.plays)
       game.ensures.read_failed game.ensures.write_failed game.ensures.writes_never_fall c.finish.ensures.never_falls c.finish.ensures.ends;
 }
 
@@ -42,7 +42,7 @@ returns-in-Ok-Some g c = record {
       let value = (rw c.in-Ok-Some.field-0-is at c.in-Ok-Some.ensures.won).0 refl in
       still Says (LacksAtFirst task.moves task.problem) (λ (bytes : List ℕ). NeverMisses) files _ c.requires.held _ _ _ _ _ _ _ (λ report. ⊥) (¬ HasNothingToPlay task.moves task.problem)
       (λ report lines none. absurd none) (λ some. record { some = some; none = refl })
-      (λ none. none_mates task.problem task.moves none value, record { written = c.refuse.ensures.written; files = refl });
+      (λ none. none_mates none value, record { written = c.refuse.ensures.written; files = refl });
 }
 
 pub returns-in-Ok-None : goal.returns-in-Ok-None

@@ -17,7 +17,7 @@ returns-in-Ok g c = record {
         game.new.reader.pending,
         game_ends Says LacksBefore (λ (bytes : List ℕ). NeverMisses) files 0 (claimed_match (claim_of s)) (λ lines played right. (played, right, refl))
             [] _ (seen game.new.session) _ _ _ _ _ _ _ _ _ _ game.result c.finish.result
-            (same_played 0 game.result (seen c.in-Ok.session) (claimed_match (claim_of s)) (seen game.new.session) _ _ first (rw c.new-reader.ensures at game.ensures.plays))
+            (same_played 0 game.result (seen c.in-Ok.session) (claimed_match (claim_of s)) (seen game.new.session) first (rw c.new-reader.ensures at game.ensures.plays))
             game.ensures.read_failed game.ensures.write_failed game.ensures.writes_never_fall c.finish.ensures.never_falls c.finish.ensures.ends,
       );
 }

@@ -14,7 +14,7 @@ returns-in-Ok g c =
     let f = c.in-Ok.ensures.fetches in
     let file = c.args.file.now in
     let p = c.play_on.ensures.ends f.0 in
-    record { ends = (f.0, f.1, (p.0, game_resumes file.budget file.name.now f.0 c.in-Ok.solved f.2 c.play_on.result p.0 _ _ f.1 c.in-Ok.ensures.same p.1)) }
+    record { ends = (f.0, f.1, (p.0, game_resumes file.budget file.name.now f.0 c.in-Ok.solved f.2 _ _ f.1 c.in-Ok.ensures.same p.1)) }
 
 pub returns-in-Err : goal.returns-in-Err
 returns-in-Err g c =

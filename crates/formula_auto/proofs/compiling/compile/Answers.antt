@@ -12,7 +12,7 @@ returns-clause-decides c = rw c.level-level.ensures.sets at (IfOk-weaker c.whole
 
 pub returns-clause-integers : goal.returns-clause-integers
 returns-clause-integers c =
-    IfOk-weaker c.whole.result _ _ (λ a made. Decides-integers (tree_of c.args.f.now) (members (tables c.level-level.result.sets)) a made.decides) c.whole.ensures.compiled
+    IfOk-weaker c.whole.result _ _ (λ a made. Decides-integers made.decides) c.whole.ensures.compiled
 
 pub returns-clause-within : goal.returns-clause-within
 returns-clause-within c = rw (c.new-memo.ensures.budget, c.level-level.ensures.sets) at (IfOk-weaker c.whole.result _ _ (λ a made. made.within) c.whole.ensures.compiled)

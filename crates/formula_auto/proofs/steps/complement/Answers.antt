@@ -6,7 +6,7 @@ use Rattle.formula_auto.proofs.steps.complement.Goals as goal
 
 pub returns-clause-decides : goal.returns-clause-decides
 returns-clause-decides c =
-    both_ok c.not.result _ _ _ (λ made tracks words f e part. Decides-Not (members e) f c.args.a.now made part tracks words) c.not.ensures.tracks c.not.ensures.words
+    both_ok c.not.result _ _ _ (λ made tracks words f e part. Decides-Not made part tracks words) c.not.ensures.tracks c.not.ensures.words
 
 pub returns-clause-reached : goal.returns-clause-reached
 returns-clause-reached c = AllReached-turned c.not.result c.args.a.now c.not.ensures.tracks c.not.ensures.first c.not.ensures.next c.not.ensures.accept

@@ -4,6 +4,6 @@ use Rattle.formula_auto.proofs.steps.keeps_itself.Goals as goal
 
 pub returns-in-And : goal.returns-in-And
 returns-in-And c = λ fits. elim c.in-And.is [
-  | inl is ↦ rw is (step-And _ _ _ _ (c.fits_with_itself.ensures.both fits))
-  | inr is ↦ rw is (step-Or _ _ _ _ (c.fits_with_itself.ensures.either fits))
+  | inl is ↦ rw is (step-And (c.fits_with_itself.ensures.both fits))
+  | inr is ↦ rw is (step-Or (c.fits_with_itself.ensures.either fits))
 ]

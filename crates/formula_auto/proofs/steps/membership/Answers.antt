@@ -12,20 +12,20 @@ use Rattle.formula_auto.proofs.SameAutomata.{still_decides}
 use Rattle.formula_auto.proofs.steps.membership.Goals as goal
 
 -- a renamed set decides membership of the variables
-renamed : (set a : Automaton) (vars : List Var) → IsAutomaton set → DecidesIntegers set → length vars ≡ length set.tracks → a.tracks ≡ with_vars vars [] → AcceptsRenamed set vars a
+renamed : {set : Automaton} (a : Automaton) (vars : List Var) → IsAutomaton set → DecidesIntegers set → length vars ≡ length set.tracks → a.tracks ≡ with_vars vars [] → AcceptsRenamed set vars a
     → DecidesAmong set vars a
-renamed set a vars valid integers size tracks words = λ e number is. Decides-Among e number vars set a is integers (apart-ascending set.tracks valid.ascending) size tracks words
+renamed {set} a vars valid integers size tracks words = λ e number is. Decides-Among e number vars a is integers (apart-ascending set.tracks valid.ascending) size tracks words
 
 pub returns-then-are_distinct-clause-decides : goal.returns-then-are_distinct-clause-decides
 returns-then-are_distinct-clause-decides c =
-    renamed c.args.set.now c.in_ok-a.a c.args.vars.now c.tracks.ensures.valid c.requires.integers c.requires.size c.in_ok-a.ensures.tracks c.in_ok-a.ensures.words
+    renamed c.in_ok-a.a c.args.vars.now c.tracks.ensures.valid c.requires.integers c.requires.size c.in_ok-a.ensures.tracks c.in_ok-a.ensures.words
 
 pub returns-then-are_distinct-clause-reached : goal.returns-then-are_distinct-clause-reached
 returns-then-are_distinct-clause-reached c = c.in_ok-a.ensures.reached c.requires.reached (c.are_distinct.ensures.0 c.if-are_distinct.true)
 
 pub returns-clause-decides : goal.returns-clause-decides
 returns-clause-decides c =
-    let same = renamed c.args.set.now c.in_ok-a.a c.args.vars.now c.tracks.ensures.valid c.requires.integers c.requires.size c.in_ok-a.ensures.tracks c.in_ok-a.ensures.words in
+    let same = renamed c.in_ok-a.a c.args.vars.now c.tracks.ensures.valid c.requires.integers c.requires.size c.in_ok-a.ensures.tracks c.in_ok-a.ensures.words in
     IfOk-weaker c.reduced.result _ _ (λ made accepts e number is. still_decides accepts (same e number is)) c.reduced.ensures.same
 
 pub returns-clause-reached : goal.returns-clause-reached

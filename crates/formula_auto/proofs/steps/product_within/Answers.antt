@@ -35,12 +35,12 @@ returns-in-AndNot-clause-accessible c = accessible c.difference_within.result c.
 
 pub returns-in-And-clause-over : goal.returns-in-And-clause-over
 returns-in-And-clause-over c = λ a_reduced b_reduced over.
-    BothSpreadExceeds-from c.args.a.now c.args.b.now connective.And c.states.ensures.valid c.states-2.ensures.valid a_reduced b_reduced c.args.budget (c.meet_within.ensures.over over)
+    BothSpreadExceeds-from c.args.a.now c.args.b.now connective.And c.states.ensures.valid c.states-2.ensures.valid a_reduced b_reduced (c.meet_within.ensures.over over)
 
 pub returns-in-Or-clause-over : goal.returns-in-Or-clause-over
 returns-in-Or-clause-over c = λ a_reduced b_reduced over.
-    BothSpreadExceeds-from c.args.a.now c.args.b.now connective.Or c.states.ensures.valid c.states-2.ensures.valid a_reduced b_reduced c.args.budget (c.join_within.ensures.over over)
+    BothSpreadExceeds-from c.args.a.now c.args.b.now connective.Or c.states.ensures.valid c.states-2.ensures.valid a_reduced b_reduced (c.join_within.ensures.over over)
 
 pub returns-in-AndNot-clause-over : goal.returns-in-AndNot-clause-over
 returns-in-AndNot-clause-over c = λ a_reduced b_reduced over.
-    BothSpreadExceeds-from c.args.a.now c.args.b.now connective.AndNot c.states.ensures.valid c.states-2.ensures.valid a_reduced b_reduced c.args.budget (c.difference_within.ensures.over over)
+    BothSpreadExceeds-from c.args.a.now c.args.b.now connective.AndNot c.states.ensures.valid c.states-2.ensures.valid a_reduced b_reduced (c.difference_within.ensures.over over)

@@ -20,12 +20,12 @@ returns-in_default-clause-comes g c =
 pub move_line-line-requires-clause-first : goal.move_line-line-requires-clause-first
 move_line-line-requires-clause-first g c =
     let mv = c.in-Ok.played.mv in
-    (mover_number c.win_move-moved.new.self c.position-position.ensures.game c.args.session.now.position mv.man (target mv) c.in-Ok.ensures.picked.legal).0
+    (mover_number c.position-position.ensures.game c.in-Ok.ensures.picked.legal).0
 
 pub move_line-line-requires-clause-last : goal.move_line-line-requires-clause-last
 move_line-line-requires-clause-last g c =
     let mv = c.in-Ok.played.mv in
-    (mover_number c.win_move-moved.new.self c.position-position.ensures.game c.args.session.now.position mv.man (target mv) c.in-Ok.ensures.picked.legal).1
+    (mover_number c.position-position.ensures.game c.in-Ok.ensures.picked.legal).1
 
 pub returns-in_err-put_all-clause-comes : goal.returns-in_err-put_all-clause-comes
 returns-in_err-put_all-clause-comes g c =

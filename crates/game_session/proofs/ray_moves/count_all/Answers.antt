@@ -8,4 +8,4 @@ way_along-along-requires-clause-tuple c = c.as_slice.ensures.value ∙ c.coordin
 pub returns-clause-few : goal.returns-clause-few
 returns-clause-few c =
     let h = c.args.his in
-    count_along c.args.set.now c.args.p.now h.man h.ray _ c.count_on_ray.result c.way_along-along.ensures.along c.count_on_ray.ensures.few
+    count_along c.args.set.now c.count_on_ray.result c.way_along-along.ensures.along c.count_on_ray.ensures.few

@@ -12,4 +12,4 @@ returns-clause-few c =
     let table = c.args.aim.now.sets.now in
     let his = c.args.his in
     subst (λ (few : Few). HasFew few (LeadsAnywhere (IsIn table) p his.man his.number)) (sym c.plus.ensures)
-    (counted_together p table his.man his.number his.ray c.requires.mover c.count_quiet-quiet.result c.count_captures.result c.count_quiet-quiet.ensures.few c.count_captures.ensures.few)
+    (counted_together p table c.requires.mover c.count_quiet-quiet.result c.count_captures.result c.count_quiet-quiet.ensures.few c.count_captures.ensures.few)

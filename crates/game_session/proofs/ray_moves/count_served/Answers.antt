@@ -12,7 +12,7 @@ use Rattle.game_session.proofs.ray_moves.count_served.Goals as goal
 -- the set of the position's own mask
 here : (c : In-Some) → set_at c.args.aim.now.sets.now (mask_of c.args.aim.now.position.now) ≡ Some c.in-Some.set.now
 here c =
-    let mask = mask_one c.args.aim.now.position.now c.mask.result c.mask.ensures in
+    let mask = mask_one c.mask.ensures in
     ap (set_at c.args.aim.now.sets.now) (sym mask) ∙ sym c.get.ensures ∙ ap option_copied c.in-Some.is
 
 suits : (c : In-Some) → IsSetFor c.args.aim.now.position.now c.in-Some.set.now
@@ -20,10 +20,10 @@ suits c = c.requires.aim.next.askable c.args.aim.now.position.now (own_stock c.a
 
 pub returns-in_default-clause-few : goal.returns-in_default-clause-few
 returns-in_default-clause-few c =
-    let mask = mask_one c.args.aim.now.position.now c.mask.result c.mask.ensures in
+    let mask = mask_one c.mask.ensures in
     let none : set_at c.args.aim.now.sets.now (mask_of c.args.aim.now.position.now) ≡ None =
     ap (set_at c.args.aim.now.sets.now) (sym mask) ∙ sym c.get.ensures ∙ ap option_copied c.in_default.is in
-    unset_of c.args.aim.now.position.now c.args.aim.now.sets.now c.args.his.man c.args.his.number c.args.his.ray c.requires.mover none
+    unset_of c.args.aim.now.position.now c.args.aim.now.sets.now c.requires.mover none
 
 pub count_to-requires-clause-decides : goal.count_to-requires-clause-decides
 count_to-requires-clause-decides c = (suits (goal.at.count_to-requires-clause-decides c).In-Some).integers

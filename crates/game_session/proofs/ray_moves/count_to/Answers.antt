@@ -7,8 +7,8 @@ returns-in_default-clause-few c = none_to (IsHitAlong c.args.set.now c.args.p.no
 
 pub returns-in-Some-least_hit-clause-few : goal.returns-in-Some-least_hit-clause-few
 returns-in-Some-least_hit-clause-few c =
-    more_to (IsHitAlong c.args.set.now c.args.p.now c.args.his.man c.args.his.ray) c.args.last c.in-Some.first _ c.in-Some.ensures.least c.in-Some-least_hit.ensures.least
+    more_to (IsHitAlong c.args.set.now c.args.p.now c.args.his.man c.args.his.ray) c.args.last c.in-Some.ensures.least c.in-Some-least_hit.ensures.least
 
 pub returns-in-None-clause-few : goal.returns-in-None-clause-few
 returns-in-None-clause-few c =
-    one_to (IsHitAlong c.args.set.now c.args.p.now c.args.his.man c.args.his.ray) c.args.last c.in-Some.first c.in-Some.ensures.least c.in-None.ensures.least
+    one_to (IsHitAlong c.args.set.now c.args.p.now c.args.his.man c.args.his.ray) c.args.last c.in-Some.ensures.least c.in-None.ensures.least

@@ -8,4 +8,4 @@ way_along-along-requires-clause-tuple c = c.as_slice.ensures.value ∙ c.coordin
 pub returns-clause-least : goal.returns-clause-least
 returns-clause-least c =
     let h = c.args.his in
-    least_along c.args.set.now c.args.p.now h.man h.ray _ c.args.way.near c.args.way.far c.least_on_ray.result c.way_along-along.ensures.along c.least_on_ray.ensures.least
+    least_along c.args.set.now c.args.way.near c.args.way.far c.least_on_ray.result c.way_along-along.ensures.along c.least_on_ray.ensures.least

@@ -11,15 +11,15 @@ use Rattle.game_session.proofs.ray_pick.quiet.Goals as goal
 -- the set of the position's own mask
 here : (c : In-Some) → set_at c.args.aim.now.sets.now (mask_of c.args.aim.now.position.now) ≡ Some c.in-Some.set.now
 here c =
-    let mask = mask_one c.args.aim.now.position.now c.mask.result c.mask.ensures in
+    let mask = mask_one c.mask.ensures in
     ap (set_at c.args.aim.now.sets.now) (sym mask) ∙ sym c.get.ensures ∙ ap option_copied c.in-Some.is
 
 pub returns-in_default-clause-first : goal.returns-in_default-clause-first
 returns-in_default-clause-first c =
-    let mask = mask_one c.args.aim.now.position.now c.mask.result c.mask.ensures in
+    let mask = mask_one c.mask.ensures in
     let none : set_at c.args.aim.now.sets.now (mask_of c.args.aim.now.position.now) ≡ None =
     ap (set_at c.args.aim.now.sets.now) (sym mask) ∙ sym c.get.ensures ∙ ap option_copied c.in_default.is in
-    quiet_none_there c.args.aim.now.position.now c.args.aim.now.sets.now c.requires.aim.next c.args.aim.now.frame c.args.his.man c.args.his.number c.args.his.ray c.requires.mover none
+    quiet_none_there c.args.aim.now.position.now c.args.aim.now.sets.now c.requires.aim.next c.args.aim.now.frame c.requires.mover none
 
 pub least_hit-requires-clause-decides : goal.least_hit-requires-clause-decides
 least_hit-requires-clause-decides c =

@@ -8,5 +8,5 @@ pub returns-then-not-serves_moves-clause-first : goal.returns-then-not-serves_mo
 returns-then-not-serves_moves-clause-first c =
     let m = c.requires.mover in
     let same : m.man ≡ c.man-kind.result = same_Some m.man c.man-kind.result (sym m.is_man ∙ c.man-kind.ensures) in
-    quiet_none_served c.args.aim.now.position.now c.args.aim.now.sets.now c.requires.aim.next c.args.aim.now.frame c.args.his.man c.args.his.number c.args.his.ray m
+    quiet_none_served c.args.aim.now.position.now c.args.aim.now.sets.now c.requires.aim.next c.args.aim.now.frame m
     (ap (λ k. serves_moves k.kind c.args.his.number) same ∙ (sym c.serves_moves.ensures ∙ c.if-not-serves_moves.true))

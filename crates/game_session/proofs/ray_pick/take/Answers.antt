@@ -12,7 +12,7 @@ returns-in_default c = record {
 pub contains-requires : goal.contains-requires
 contains-requires c =
     c.requires.aim.next.askable c.in-Ok.after
-    (step_stock c.args.aim.now.position.now.men c.args.aim.now.position.now c.in-Ok.after c.args.mv.man _ (own_stock c.args.aim.now.position.now)
+    (step_stock {q = c.in-Ok.after} {i = c.args.mv.man} (own_stock c.args.aim.now.position.now)
     c.in-Ok.ensures.legal.step.after)
 
 pub returns-then-not-contains : goal.returns-then-not-contains

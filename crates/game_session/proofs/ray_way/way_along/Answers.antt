@@ -4,10 +4,10 @@ use Rattle.game_session.proofs.ray_way.way_along.Goals as goal
 pub returns-clause-along : goal.returns-clause-along
 returns-clause-along c =
     let h = c.args.his in
-    along_is c.args.p.now h.man h.number h.ray c.args.tuple c.place_of_man-place.result c.requires.mover c.requires.tuple c.place_of_man-place.ensures.place
+    along_is c.args.tuple c.place_of_man-place.result c.requires.mover c.requires.tuple c.place_of_man-place.ensures.place
 
 pub returns-clause-way : goal.returns-clause-way
 returns-clause-way c =
     let h = c.args.his in
-    let along = along_is c.args.p.now h.man h.number h.ray c.args.tuple c.place_of_man-place.result c.requires.mover c.requires.tuple c.place_of_man-place.ensures.place in
-    way_right c.args.p.now h.man h.number h.ray _ c.requires.mover along
+    let along = along_is c.args.tuple c.place_of_man-place.result c.requires.mover c.requires.tuple c.place_of_man-place.ensures.place in
+    way_right c.requires.mover along

@@ -44,8 +44,8 @@ made g t c = elim c.match-shape.branch [
       let e = w.in_ok-made-in-Test.ensures in
       let low = w.in_ok-low-in-Test.ensures in
       let high = w.in_ok-high-in-Test.ensures in
-      let sides = Grows-trans _ _ _ low.grows high.grows in
-      let low_there = Carries-grows (g.C.Carry.carrier c.args.carry.now) _ _ _ _ high.grows low.carried in
+      let sides = Grows-trans low.grows high.grows in
+      let low_there = Carries-grows (g.C.Carry.carrier c.args.carry.now) _ _ high.grows low.carried in
       Carries-test (g.C.Carry.carrier c.args.carry.now) _ _ _ _ _ w.in-Test.track w.in-Test.low w.in-Test.high _ _
       at.at at.fits sides e.grows low_there high.carried e.known e.map e.top)
 ]
@@ -60,4 +60,4 @@ returns-clause-remembered g t c =
       | in-Test+in_ok-low-in-Test+in_ok-high-in-Test+in_ok-made-in-Test w ↦ rw (w.to-is, w.memo-is) (
           RemembersCarried-grows w.in_ok-made-in-Test.ensures.grows w.in_ok-high-in-Test.ensures.remembered)
     ] in
-    RemembersCarried-learns _ _ _ _ _ _ c.in_ok-remember.ensures (made g t c) before
+    RemembersCarried-learns c.in_ok-remember.ensures (made g t c) before

@@ -11,18 +11,18 @@ pub loop-node-preserved : goal.loop-node-preserved
 loop-node-preserved g c =
     let e = c.in_ok-answer.ensures in
     let i = c.loop-node.invariant in
-    let stays = λ (x y : ℕ). Carries-grows (g.C.Carry.carrier c.args.carry.now) _ _ x y e.grows in
+    let stays = λ (x y : ℕ). Carries-grows (g.C.Carry.carrier c.args.carry.now) x y e.grows in
     record {
-      grows = Grows-trans _ _ _ i.grows e.grows;
+      grows = Grows-trans i.grows e.grows;
       remembered = e.remembered;
-      answered = rw c.in_ok-push.ensures.items (EachAnswers-push _ _ _ _ _ _ _ stays c.loop-node-test.true c.node-item.is i.answered e.carried);
+      answered = rw c.in_ok-push.ensures.items (EachAnswers-push _ _ _ _ _ stays c.loop-node-test.true c.node-item.is i.answered e.carried);
     }
 
 pub returns-in_err-answer-clause-grows : goal.returns-in_err-answer-clause-grows
-returns-in_err-answer-clause-grows g c = Grows-trans _ _ _ c.loop-node.invariant.grows c.in_err-answer.ensures.grows
+returns-in_err-answer-clause-grows g c = Grows-trans c.loop-node.invariant.grows c.in_err-answer.ensures.grows
 
 pub returns-in_err-push-clause-grows : goal.returns-in_err-push-clause-grows
-returns-in_err-push-clause-grows g c = Grows-trans _ _ _ c.loop-node.invariant.grows c.in_ok-answer.ensures.grows
+returns-in_err-push-clause-grows g c = Grows-trans c.loop-node.invariant.grows c.in_ok-answer.ensures.grows
 
 pub returns-clause-grows : goal.returns-clause-grows
 returns-clause-grows g c = c.loop-node.invariant.grows

@@ -26,7 +26,7 @@ returns-in-Err-Refused-clause-ends g c = λ words o.
 
 pub returns-in-Err-clause-ends : goal.returns-in-Err-clause-ends
 returns-in-Err-clause-ends g c = λ words o.
-    unsound_ends words _ _ refl (as_order c.args.order) o.ordered (text_order c.args.order) _ _ c.in-Ok.ensures.reads c.in-Err.why c.in-Err.ensures.reason
+    unsound_ends words _ _ refl (as_order c.args.order) o.ordered (text_order c.args.order) _ _ c.in-Ok.ensures.reads c.in-Err.ensures.reason
     (rw (c.as_slice-in-Err.ensures, c.unsound_line-line.ensures) at c.refuse-in-Err.ensures.written)
 
 pub keep-requires-clause-white : goal.keep-requires-clause-white

@@ -24,4 +24,4 @@ returns-clause-answers g c =
     subst From (level_none bench.position.now sets) (subst Over bench.masks_are (rw c.new.ensures at c.each.ensures.answers))
 
 pub returns-clause-names : goal.returns-clause-names
-returns-clause-names g c = IfOk-weaker c.each.result _ _ (λ names (so_far, fits, sound). so_far_names c.args.bench.now.position.now c.each.new.work.sets names so_far) c.each.ensures.fits
+returns-clause-names g c = IfOk-weaker c.each.result _ _ (λ names (so_far, fits, sound). so_far_names c.args.bench.now.position.now so_far) c.each.ensures.fits

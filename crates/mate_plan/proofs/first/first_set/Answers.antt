@@ -28,10 +28,10 @@ returns-clause-answers c =
     let At : ℕ → Type 0 =
     λ m. Answers (union (rules_of p) 0 m kind.First (pre_items (rules_of p) p.turn m (level_of c.args.sets.now masks c.args.start.now m) into))
     c.args.memo.now.budget as_set c.pre_set.result in
-    subst At (mask_one p c.mask.result c.mask.ensures) (subst Of is (rw c.turn.ensures at c.pre_set.ensures.answers))
+    subst At (mask_one c.mask.ensures) (subst Of is (rw c.turn.ensures at c.pre_set.ensures.answers))
 
 pub returns-clause-set : goal.returns-clause-set
 returns-clause-set c =
     let p = c.args.bench.now.position.now in
     let At : ℕ → Type 0 = λ m. IfOk c.pre_set.result (λ set. IfSome set (IsSetOn (mask_tracks p m))) in
-    subst At (mask_one p c.mask.result c.mask.ensures) c.pre_set.ensures.set
+    subst At (mask_one c.mask.ensures) c.pre_set.ensures.set

@@ -8,7 +8,7 @@ use Rattle.mate_plan.proofs.formulas.pre_options.Goals as goal
 
 pub target-requires : goal.target-requires
 target-requires c low =
-    (game_means c.args.bench.now.position.now (game_of c.args.bench.now.position.now c.requires.sound c.args.bench.now.few)).taken c.args.from.mask _
+    (game_means (game_of c.requires.sound c.args.bench.now.few)).taken c.args.from.mask _
     (c.requires.options c.loop-option.option-index _ c.loop-option-test.true) low
 
 pub loop-option-preserved : goal.loop-option-preserved

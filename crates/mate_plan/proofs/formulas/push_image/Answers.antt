@@ -4,5 +4,5 @@ use Rattle.mate_plan.proofs.formulas.push_image.Goals as goal
 
 pub target-requires : goal.target-requires
 target-requires c low =
-    (game_means c.args.bench.now.position.now (game_of c.args.bench.now.position.now c.requires.sound c.args.bench.now.few)).taken c.args.from.mask
+    (game_means (game_of c.requires.sound c.args.bench.now.few)).taken c.args.from.mask
     c.args.option c.requires.option low

@@ -21,7 +21,7 @@ narrow-requires-clause-bearings c =
     let are : c.as_slice.result.now ≡ bearings_of c.args.bench.now.position.now.men c.args.mask (other c.args.from.now.side) =
     c.as_slice.ensures.value ∙ c.in_ok-attacks.ensures.list ∙ ap (λ s. bearings_of c.args.bench.now.position.now.men c.args.mask s) c.other.ensures in
     bearings_all c.args.bench.now.position.now c.args.mask (other c.args.from.now.side) c.as_slice.result.now
-    (game_of c.args.bench.now.position.now c.requires.sound c.args.bench.now.few) c.requires.mask are
+    (game_of c.requires.sound c.args.bench.now.few) c.requires.mask are
 
 pub narrow-requires-clause-few : goal.narrow-requires-clause-few
 narrow-requires-clause-few c =

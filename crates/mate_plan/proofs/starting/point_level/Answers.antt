@@ -11,18 +11,18 @@ pub returns-in_err-made-clause-answers : goal.returns-in_err-made-clause-answers
 returns-in_err-made-clause-answers c =
     let p = err_from_is_err_and c.from_residual.result c.from_residual.ensures.1 in
     rw (p.1, p.2)
-    (point_error c.args.bench.now.position.now c.mask-mask.result (mask_one c.args.bench.now.position.now c.mask-mask.result c.mask-mask.ensures)
+    (point_error c.args.bench.now.position.now c.mask-mask.result (mask_one c.mask-mask.ensures)
     c.args.work.now.memo.budget c.in_err-made.field-0.0 c.in_err-made.ensures.answers)
 
 pub returns-clause-answers : goal.returns-clause-answers
 returns-clause-answers c =
-    point_ends c.args.bench.now.position.now c.mask-mask.result (mask_one c.args.bench.now.position.now c.mask-mask.result c.mask-mask.ensures)
+    point_ends c.args.bench.now.position.now c.mask-mask.result (mask_one c.mask-mask.ensures)
     c.args.work.now.memo.budget c.requires.sound c.args.bench.now.few (made_of c.in_ok-made.made) c.keep.new.self c.in_ok-name.name
     c.in_ok-level_at.field-0 c.in_ok-made.ensures.answers c.in_ok-name.ensures.ok c.in_ok-level_at.ensures
 
 pub returns-clause-names : goal.returns-clause-names
 returns-clause-names c =
-    point_names c.args.bench.now.position.now c.mask-mask.result (mask_one c.args.bench.now.position.now c.mask-mask.result c.mask-mask.ensures)
+    point_names c.args.bench.now.position.now c.mask-mask.result (mask_one c.mask-mask.ensures)
     c.args.work.now.memo.budget c.keep.new.self c.in_ok-name.name c.in_ok-level_at.field-0
     (on_from_kept (mask_tracks c.args.bench.now.position.now (mask_of c.args.bench.now.position.now)) c.keep.new.self c.in_ok-made.made.set
     c.in_ok-name.name c.in_ok-made.ensures.set c.in_ok-name.ensures.ok c.in_ok-name.ensures.within)

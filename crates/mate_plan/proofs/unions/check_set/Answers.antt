@@ -16,9 +16,9 @@ united-requires-clause-items c =
     c.args.source.name =
     ap (λ l. map tree_of l) c.deref.ensures.value ∙ c.in_ok-formulas.ensures
     ∙ ap (λ s. bear_trees c.args.bench.now.position.now s c.args.source.stage.mask c.args.source.name) c.other.ensures in
-    let game = game_of c.args.bench.now.position.now c.requires.sound c.args.bench.now.few in
+    let game = game_of c.requires.sound c.args.bench.now.few in
     items_on c.args.bench.now.position.now c.args.sets.now c.part.result (name c.args.source.stage.ply c.args.source.stage.mask kind.Check) c.part.ensures c.deref.result.now _ trees
-    (bears_on c.args.bench.now.position.now game c.args.sets.now (other c.args.source.stage.side) c.args.source.stage.mask c.args.source.name c.requires.mask c.requires.source)
+    (bears_on c.args.bench.now.position.now game c.args.sets.now (other c.args.source.stage.side) c.args.source.name c.requires.mask c.requires.source)
 
 pub united-requires-clause-few : goal.united-requires-clause-few
 united-requires-clause-few c =
@@ -34,7 +34,7 @@ returns-clause-answers c =
     c.args.source.name =
     ap (λ l. map tree_of l) c.deref.ensures.value ∙ c.in_ok-formulas.ensures
     ∙ ap (λ s. bear_trees c.args.bench.now.position.now s c.args.source.stage.mask c.args.source.name) c.other.ensures in
-    let game = game_of c.args.bench.now.position.now c.requires.sound c.args.bench.now.few in
+    let game = game_of c.requires.sound c.args.bench.now.few in
     union_answers c.args.bench.now.position.now c.args.sets.now c.part.result (name c.args.source.stage.ply c.args.source.stage.mask kind.Check)
     c.part.ensures c.deref.result.now _ _ c.args.memo.now.budget c.united.result trees
     (bears_thin c.args.bench.now.position.now game c.args.sets.now (other c.args.source.stage.side) c.args.source.stage.mask c.args.source.name

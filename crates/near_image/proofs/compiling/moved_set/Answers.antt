@@ -22,7 +22,7 @@ pub moved-requires-clause-there : goal.moved-requires-clause-there
 moved-requires-clause-there c =
     let tracks = rw (c.as_slice.ensures.value, c.in_ok-vars.ensures, c.as_slice-shifts.ensures.value) at c.in_ok-renamed.ensures.tracks in
     rw c.as_slice-shifts.ensures.value
-    (new-places (image_of c.args.image.now) c.requires.movable.shiftable c.in_ok-renamed.renamed.tracks tracks)
+    (new-places c.requires.movable.shiftable c.in_ok-renamed.renamed.tracks tracks)
 
 pub returns-clause-decides : goal.returns-clause-decides
 returns-clause-decides c =
@@ -33,7 +33,7 @@ returns-clause-decides c =
     let vars_are = rw (c.in_ok-vars.ensures, c.as_slice-shifts.ensures.value) at c.as_slice.ensures.value in
     let size : length vars ≡ length set.tracks = rw (vars_are, length-map) c.requires.arity in
     let among : DecidesAmong set vars renamed = λ e number is.
-    Decides-Among e number vars set renamed is c.requires.integers (apart-ascending set.tracks c.tracks.ensures.valid.ascending)
+    Decides-Among e number vars renamed is c.requires.integers (apart-ascending set.tracks c.tracks.ensures.valid.ascending)
     size c.in_ok-renamed.ensures.tracks c.in_ok-renamed.ensures.words in
     let at_moved : DecidesAmong set (moved_vars i) renamed = subst (λ xs. DecidesAmong set xs renamed) vars_are among in
     let moved = rw c.as_slice-shifts.ensures.value at c.moved.ensures.moved in

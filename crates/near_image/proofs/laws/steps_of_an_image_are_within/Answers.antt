@@ -7,4 +7,4 @@ returns c = λ i e budget each is few. steps-within (record {
   equations = c.equations_are_bounded.ensures;
   projections = c.projections_are_bounded.ensures;
   states = c.states_bound_residuals.ensures;
-}) i e budget each is few
+}) is few

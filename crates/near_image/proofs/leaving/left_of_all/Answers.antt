@@ -21,8 +21,7 @@ loop-f-preserved c =
     record {
       budget = c.in_ok-auto.ensures.budget ∙ c.loop-f.invariant.budget;
       tracks = left.tracks ∙ c.loop-f.invariant.tracks;
-      rest = left-more (tables c.args.scope.now.sets.now) c.args.memo.now.budget c.args.scope.now.each (trees c.args.formulas.now) c.loop-f.f-index
-          (tree_of c.f-item.result.now) c.args.set c.loop-f.auto' c.in_ok-auto.auto within is c.loop-f.invariant.rest left;
+      rest = left-more (trees c.args.formulas.now) c.loop-f.f-index c.args.set within is c.loop-f.invariant.rest left;
       accessible = λ was. left.accessible;
     }
 

@@ -13,7 +13,7 @@ pub loop-shift-preserved : goal.loop-shift-preserved
 loop-shift-preserved c = record {
   integers = c.in_ok-auto.ensures.integers;
   tracks = c.in_ok-auto.ensures.moved.tracks ∙ c.loop-shift.invariant.tracks;
-  rest = moved-more c.args.shifts.now c.loop-shift.shift-index nowhere c.args.set c.loop-shift.auto' c.in_ok-auto.auto c.loop-shift-test.true
+  rest = moved-more c.args.shifts.now c.loop-shift.shift-index nowhere c.args.set c.loop-shift-test.true
       c.loop-shift.invariant.rest c.in_ok-auto.ensures.moved;
   accessible = λ some. c.in_ok-auto.ensures.accessible;
 }

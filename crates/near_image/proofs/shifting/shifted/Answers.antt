@@ -16,7 +16,7 @@ pub returns-clause-moved : goal.returns-clause-moved
 returns-clause-moved c =
     let by = c.args.shift.by in
     let moved = rw (c.back.ensures.is, to_z-of_z w32 (negated by) (fits by c.requires.near), c.place_of-track.ensures.place, c.tracks.ensures.tracks) at c.in_ok-pairs.ensures.moved in
-    moved-same _ _ moved c.in_ok-merged.ensures.same
+    moved-same moved c.in_ok-merged.ensures.same
 
 pub returns-clause-integers : goal.returns-clause-integers
 returns-clause-integers c = integers-same c.in_ok-pairs.ensures.integers c.in_ok-merged.ensures.same

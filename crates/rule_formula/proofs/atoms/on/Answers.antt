@@ -2,10 +2,10 @@ use Rattle.rule_formula.proofs.ApartLemmas.{apart_counted, apart_drawn}
 use Rattle.rule_formula.proofs.atoms.on.Goals as goal
 
 pub line-requires-clause-drawn : goal.line-requires-clause-drawn
-line-requires-clause-drawn c = apart_drawn _ _ _ _ c.requires.first
+line-requires-clause-drawn c = apart_drawn _ _ c.requires.first
 
 pub ahead-requires : goal.ahead-requires
-ahead-requires c = apart_counted _ _ _ _ c.requires.first
+ahead-requires c = apart_counted _ _ c.requires.first
 
 pub ahead-requires-then-way : goal.ahead-requires-then-way
-ahead-requires-then-way c = apart_counted _ _ _ _ c.requires.last
+ahead-requires-then-way c = apart_counted _ _ c.requires.last

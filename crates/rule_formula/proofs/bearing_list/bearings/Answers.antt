@@ -9,5 +9,5 @@ pub returns-clause-exact : goal.returns-clause-exact
 returns-clause-exact c =
     let a = c.args in
     IfOk-weaker c.list.result _ _
-    (λ all h b. subst (λ xs. Contains xs b ↔ IsBearingOf a.stock.now.men a.mask a.side b) (sym h) (bearings_are a.stock.now a.mask a.side b c.requires.kings c.requires.mask))
+    (λ all h b. subst (λ xs. Contains xs b ↔ IsBearingOf a.stock.now.men a.mask a.side b) (sym h) (bearings_are a.side b c.requires.kings c.requires.mask))
     c.list.ensures

@@ -2,4 +2,4 @@ use Rattle.rule_formula.proofs.FitLemmas.{mask_one}
 use Rattle.rule_formula.proofs.mask_list.live_mask.Goals as goal
 
 pub returns : goal.returns
-returns c = mask_one c.args.p.now c.mask.result c.mask.ensures
+returns c = mask_one c.mask.ensures

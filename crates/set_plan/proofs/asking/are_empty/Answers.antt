@@ -21,7 +21,7 @@ returns-then-not-is_none_or_empty-clause-answers g c =
     let front = drop_front c.args.formulas.now c.loop-f.f-index c.f-item.result less c.f-item.is in
     let leads = rw front at c.loop-f.invariant.left in
     let made = rw (c.loop-f.invariant.sets, c.loop-f.invariant.budget) at c.in_ok-made.ensures.answers in
-    Ends-some c.args.part c.args.memo.now.budget c.loop-f.at (item_of c.args.sets.now (tree_of c.f-item.result)) _ _ (made_of c.in_ok-made.made) leads made c.if-not-is_none_or_empty.ensures.none
+    Ends-some c.args.part c.args.memo.now.budget c.loop-f.at (item_of c.args.sets.now (tree_of c.f-item.result)) _ _ leads made c.if-not-is_none_or_empty.ensures.none
 
 pub loop-f-preserved : goal.loop-f-preserved
 loop-f-preserved g c =

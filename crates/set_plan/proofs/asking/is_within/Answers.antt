@@ -24,7 +24,7 @@ returns-in_err-left g c =
 pub returns-in_default : goal.returns-in_default
 returns-in_default g c =
     let ends = rw c.in_default.is at c.in_ok-left.ensures.answers in
-    rw c.in_default.is (record { answers = within-nothing c.args.tracks.now c.args.part c.args.budget (lent c.args.other) _ ends })
+    rw c.in_default.is (record { answers = within-nothing c.args.tracks.now c.args.part c.args.budget (lent c.args.other) ends })
 
 pub returns-in-Whole : goal.returns-in-Whole
 returns-in-Whole g c =

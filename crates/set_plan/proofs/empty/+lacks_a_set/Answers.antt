@@ -10,12 +10,12 @@ use Rattle.set_plan.proofs.empty.+lacks_a_set.Goals as goal
 pub has_no_tuple-requires : goal.has_no_tuple-requires
 has_no_tuple-requires t c =
     let ready = rw c.in-Among.is at c.requires in
-    named-reached c.args.sets.now c.in-Among.set.0 _ c.in-Some.a.now ready c.in-Some.ensures
+    named-reached c.in-Some.a.now ready c.in-Some.ensures
 
 pub unreachable-requires : goal.unreachable-requires
 unreachable-requires t c =
     let ready = rw c.in-Among.is at c.requires in
-    set-there c.args.sets.now c.in-Among.set.0 _ ready c.in-None.ensures
+    set-there ready c.in-None.ensures
 
 pub returns-in-Some-clause-none : goal.returns-in-Some-clause-none
 returns-in-Some-clause-none t c =

@@ -9,13 +9,13 @@ use Rattle.set_plan.proofs.Makes.{Ends-make, not_made, step-of}
 use Rattle.set_plan.proofs.parts.make.Goals as goal
 
 pub lacks_a_set-requires : goal.lacks_a_set-requires
-lacks_a_set-requires g c = ready (tree_of c.args.f.now) c.args.sets.now c.requires.compilable
+lacks_a_set-requires g c = ready c.requires.compilable
 
 pub returns-in-Ok-clause-answers : goal.returns-in-Ok-clause-answers
 returns-in-Ok-clause-answers g c =
     let is = IsSetOf-decides (tree_of c.args.f.now) (tables c.args.sets.now) c.in-Ok.a c.in-Ok.ensures.decides in
     rw c.step_count-count.ensures
-    (Ends-make c.args.part c.args.at (item_of c.args.sets.now (tree_of c.args.f.now)) c.args.memo.now.budget (Table c.in-Ok.a) c.if-lacks_a_set.ensures.none is c.in-Ok.ensures.within)
+    (Ends-make c.args.part c.args.at (item_of c.args.sets.now (tree_of c.args.f.now)) c.args.memo.now.budget c.if-lacks_a_set.ensures.none is c.in-Ok.ensures.within)
 
 pub returns-in-Ok-clause-set : goal.returns-in-Ok-clause-set
 returns-in-Ok-clause-set g c = record {
@@ -27,7 +27,7 @@ returns-in-Ok-clause-set g c = record {
   few = λ some.
       let high = c.budget.ensures.valid.most in
       let states =
-      few_states (members (tables c.args.sets.now)) c.args.memo.now.budget (tree_of c.args.f.now) c.in-Ok.a 1 some c.in-Ok.ensures.decides
+      few_states (members (tables c.args.sets.now)) c.args.memo.now.budget 1 some c.in-Ok.ensures.decides
       c.in-Ok.ensures.reduced c.in-Ok.ensures.within in
       omega (arith, states, high, c.budget.ensures.is);
 }

@@ -7,14 +7,14 @@ use Rattle.set_plan.proofs.Makes.{Ends-make, not_made, step-of}
 use Rattle.set_plan.proofs.parts.make_on.Goals as goal
 
 pub lacks_a_set-requires : goal.lacks_a_set-requires
-lacks_a_set-requires g c = rw c.sets.ensures (ready (tree_of c.args.f.now) c.args.level.now.sets c.requires.item.compilable)
+lacks_a_set-requires g c = rw c.sets.ensures (ready c.requires.item.compilable)
 
 pub returns-in-Ok-clause-answers : goal.returns-in-Ok-clause-answers
 returns-in-Ok-clause-answers g c =
     let none = rw c.sets.ensures at c.if-lacks_a_set.ensures.none in
     let is = IsSetOf-decides (tree_of c.args.f.now) (tables c.args.level.now.sets) c.in-Ok.a c.in-Ok.ensures.decides in
     rw c.step_count-count.ensures
-    (Ends-make c.args.from.part c.args.from.at (item_of c.args.level.now.sets (tree_of c.args.f.now)) c.args.memo.now.budget (Table c.in-Ok.a) none is c.in-Ok.ensures.within)
+    (Ends-make c.args.from.part c.args.from.at (item_of c.args.level.now.sets (tree_of c.args.f.now)) c.args.memo.now.budget none is c.in-Ok.ensures.within)
 
 pub stopped-requires-clause-step : goal.stopped-requires-clause-step
 stopped-requires-clause-step g c =

@@ -13,7 +13,7 @@ returns-in-Ok-clause-answers g c =
     let other = Table c.in-Some-Some.b in
     rw (c.in-Some-Some.is-0, c.in-Some-Some.is-1)
     (Ends-bind (plan.join c.args.tracks.now c.args.part one (other, 1)) (λ made. Give made.0) c.args.budget (Table c.in-Ok.c, 2) (Table c.in-Ok.c)
-    (Ends-join c.args.tracks.now c.args.part c.args.budget one (other, 1) (Table c.in-Ok.c) some_second some_first c.in-Ok.ensures.ok c.in-Ok.ensures.within)
+    (Ends-join c.args.tracks.now c.args.part c.args.budget one (other, 1) some_second some_first c.in-Ok.ensures.ok c.in-Ok.ensures.within)
     (Ends-give c.args.budget (Table c.in-Ok.c)))
 
 pub returns-in-Err-Over-clause-answers : goal.returns-in-Err-Over-clause-answers
@@ -24,5 +24,5 @@ returns-in-Err-Over-clause-answers g c =
     let one = Table c.in-Some-Some.a in
     let other = Table c.in-Some-Some.b in
     rw (c.in-Some-Some.is-0, c.in-Some-Some.is-1)
-    (Stops-bind (plan.join c.args.tracks.now c.args.part one (other, 1)) (λ made. Give made.0) c.args.budget (record { part = c.args.part; at = 1 })
+    (Stops-bind (plan.join c.args.tracks.now c.args.part one (other, 1)) (λ made. Give made.0) c.args.budget {name = record { part = c.args.part; at = 1 }}
     (Stops-join c.args.tracks.now c.args.part c.args.budget one (other, 1) some_second some_first over))

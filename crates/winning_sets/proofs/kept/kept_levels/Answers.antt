@@ -67,7 +67,7 @@ returns-clause-answers c =
     let reach = c.args.reach.now in
     let last = c.loop-left.auto.left-end c.requires.some in
     let whole : c.loop-left.left ≡ length reach = omega (arith, c.loop-left-test.false) in
-    let ends = back_last p c.args.work.now.memo.budget c.args.work.now.sets reach c.loop-left.work.sets c.loop-left.kept.items c.loop-left.left c.loop-left.auto.left whole c.loop-left.invariant.0 in
+    let ends = back_last p c.args.work.now.memo.budget c.args.work.now.sets reach c.loop-left.auto.left whole c.loop-left.invariant.0 in
     subst
     (λ (kept : List Names). Ends (whole_back p c.args.work.now.sets reach) c.args.work.now.memo.budget
     (map (level_of c.loop-left.work.sets (masks_of p)) kept))

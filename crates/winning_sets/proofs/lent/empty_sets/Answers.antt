@@ -20,7 +20,7 @@ pub loop-mask-preserved : goal.loop-mask-preserved
 loop-mask-preserved c =
     let a = c.in_ok-empty_set.field-0 in
     let empty = subst (λ (tracks : List Var). IsEmptyOn tracks a) c.in_ok-tracks.ensures c.in_ok-empty_set.ensures in
-    let more = empties_more c.args.p.now.men c.args.masks.now c.loop-mask.sets.items c.loop-mask.mask-index 0 a c.loop-mask-test.true c.loop-mask.invariant empty in
+    let more = empties_more c.args.p.now.men c.args.masks.now c.loop-mask.sets.items c.loop-mask.mask-index 0 c.loop-mask-test.true c.loop-mask.invariant empty in
     subst (λ (sets : List Automaton). AreEmpties c.args.p.now.men (take (c.loop-mask.mask-index + 1) c.args.masks.now) sets) (sym c.in_ok-push.ensures.items) more
 
 pub returns : goal.returns

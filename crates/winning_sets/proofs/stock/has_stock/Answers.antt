@@ -6,7 +6,7 @@ pub returns-then-not-is_same_man : goal.returns-then-not-is_same_man
 returns-then-not-is_same_man c = (
   λ e. cc,
   λ h.
-      let same = stock_at c.args.stock.now c.args.p.now (c.loop-n.n + 1) c.man.result c.man-in-loop-n.result h c.man.ensures c.man-in-loop-n.ensures in
+      let same = stock_at c.args.stock.now (c.loop-n.n + 1) c.man.result c.man-in-loop-n.result h c.man.ensures c.man-in-loop-n.ensures in
       subst IsTrue c.if-not-is_same_man.true (c.is_same_man.ensures.1 same),
 )
 

@@ -21,7 +21,7 @@ invariant_of-self c = record {
 pub returns-clause-row : goal.returns-clause-row
 returns-clause-row c =
     let made = c.in_ok-node.ensures in
-    IsRow-paired _ _ _ _ _ _ _ _ _ _ _
+    IsRow-paired _ _ _ _ _
     (Reads-side _ _ _ c.args.self.now.left_side _ _ (first_state c.args.self.now.left.now) c.first_node.ensures.map)
     (Reads-side _ _ _ c.args.self.now.right_side _ _ (first_state c.args.self.now.right.now) c.first_node-2.ensures.map) (λ letter. refl)
     made.known made.map made.answers (subst (λ (l : List (ℕ × ℕ)). AllPairs (λ p q. p ≢ q) l) c.pairs.ensures c.len.ensures.unrepeated)

@@ -7,11 +7,11 @@ use Rattle.auto_bool.proofs.both.BothWalk.next_row.Goals as goal
 
 pub row_node-requires : goal.row_node-requires
 row_node-requires c =
-    (states_in _ _ _ _ _ _ _ _ c.args.self.now.left_side.valid c.args.self.now.right_side.valid c.args.self.now.sinks (c.as_slice.ensures ∙ c.pairs.ensures) c.requires.known c.requires.numbered).0
+    (states_in _ _ _ _ c.args.self.now.left_side.valid c.args.self.now.right_side.valid c.args.self.now.sinks (c.as_slice.ensures ∙ c.pairs.ensures) c.requires.known c.requires.numbered).0
 
 pub row_node-requires-2 : goal.row_node-requires-2
 row_node-requires-2 c =
-    (states_in _ _ _ _ _ _ _ _ c.args.self.now.left_side.valid c.args.self.now.right_side.valid c.args.self.now.sinks (c.as_slice.ensures ∙ c.pairs.ensures) c.requires.known c.requires.numbered).1
+    (states_in _ _ _ _ c.args.self.now.left_side.valid c.args.self.now.right_side.valid c.args.self.now.sinks (c.as_slice.ensures ∙ c.pairs.ensures) c.requires.known c.requires.numbered).1
 
 pub apply-requires-clause-read : goal.apply-requires-clause-read
 apply-requires-clause-read c = record {
@@ -28,7 +28,7 @@ invariant_of-self c = record {
 }
 
 pub returns-in_err-node-clause-kept : goal.returns-in_err-node-clause-kept
-returns-in_err-node-clause-kept c = Extends-pairs _ _ c.apply.ensures.pairs
+returns-in_err-node-clause-kept c = Extends-pairs c.apply.ensures.pairs
 
 pub returns-clause-row : goal.returns-clause-row
 returns-clause-row c =
@@ -38,11 +38,11 @@ returns-clause-row c =
       place = place_of_pair pair;
       is = place_in _ _ _ (c.as_slice.ensures ∙ c.pairs.ensures) c.requires.known;
       row =
-          IsRow-paired _ _ _ _ _ _ _ _ _ _ _
+          IsRow-paired _ _ _ _ _
           (Reads-side _ _ _ c.args.self.now.left_side _ _ (next_state c.args.self.now.left.now pair.0) c.row_node.ensures.map)
           (Reads-side _ _ _ c.args.self.now.right_side _ _ (next_state c.args.self.now.right.now pair.1) c.row_node-2.ensures.map) (λ letter. refl)
           made.known made.map made.answers (subst (λ (l : List (ℕ × ℕ)). AllPairs (λ p q. p ≢ q) l) c.pairs-2.ensures c.len.ensures.unrepeated);
     }
 
 pub returns-clause-kept : goal.returns-clause-kept
-returns-clause-kept c = Extends-pairs _ _ c.apply.ensures.pairs
+returns-clause-kept c = Extends-pairs c.apply.ensures.pairs

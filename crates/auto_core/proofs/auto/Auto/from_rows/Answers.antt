@@ -12,7 +12,7 @@ first_row c = let row = c.in_ok-first_node.ensures.row in rw (← count c, ← c
 
 next_rows : (c : goal.In_ok-first_node) → AreRowsFrom c.node_of_row.new.diagrams (2 ^ length c.args.tracks.items) c.args.next.items c.in_ok-row_nodes.row_nodes.items
 next_rows c =
-    let rows = AreRowsFrom-grows _ _ _ _ _ c.in_ok-first_node.ensures.grows c.in_ok-row_nodes.ensures.nodes in
+    let rows = AreRowsFrom-grows c.in_ok-first_node.ensures.grows c.in_ok-row_nodes.ensures.nodes in
     rw (← count c, ← c.as_slice.ensures.value) rows
 
 nodes_size : (c : goal.In_ok-first_node) → length c.in_ok-row_nodes.row_nodes.items ≡ length c.args.accept.items
@@ -26,20 +26,20 @@ first_row-end c = let row = c.in_ok-first_node.ensures.row in rw (← count-end 
 
 next_rows-end : (c : goal.After-drop-first-2) → AreRowsFrom c.node_of_row.new.diagrams (2 ^ length c.args.tracks.items) c.args.next.items c.in_ok-row_nodes.row_nodes.items
 next_rows-end c =
-    let rows = AreRowsFrom-grows _ _ _ _ _ c.in_ok-first_node.ensures.grows c.in_ok-row_nodes.ensures.nodes in
+    let rows = AreRowsFrom-grows c.in_ok-first_node.ensures.grows c.in_ok-row_nodes.ensures.nodes in
     rw (← count-end c, ← c.as_slice.ensures.value) rows
 
 nodes_size-end : (c : goal.After-drop-first-2) → length c.in_ok-row_nodes.row_nodes.items ≡ length c.args.accept.items
 nodes_size-end c = search rules
 
 pub from_diagrams-requires : goal.from_diagrams-requires
-from_diagrams-requires c = AreRows-tables _ _ _ _ _ _ _ c.requires (nodes_size c) (first_row c) (next_rows c)
+from_diagrams-requires c = AreRows-tables c.requires (nodes_size c) (first_row c) (next_rows c)
 
 pub returns-clause-first : goal.returns-clause-first
-returns-clause-first c = c.from_diagrams.ensures.first ∙ row_of-is _ _ _ _ c.requires.first_size (first_row-end c)
+returns-clause-first c = c.from_diagrams.ensures.first ∙ row_of-is c.requires.first_size (first_row-end c)
 
 pub returns-clause-next : goal.returns-clause-next
-returns-clause-next c = c.from_diagrams.ensures.next ∙ rows_of-is _ _ _ _ (pow_pos (length c.args.tracks.items)) (sizes c) (next_rows-end c)
+returns-clause-next c = c.from_diagrams.ensures.next ∙ rows_of-is (pow_pos (length c.args.tracks.items)) (sizes c) (next_rows-end c)
   where
     sizes : (c : goal.After-drop-first-2) → length c.args.next.items ≡ length c.in_ok-row_nodes.row_nodes.items * 2 ^ length c.args.tracks.items
     sizes c = c.requires.next_size ∙ rw (nodes_size-end c) refl

@@ -19,14 +19,14 @@ ordered-facts terms ordered lent lent' tracks weights is l m t w = record {
 pub negated-requires : goal.negated-requires
 negated-requires c =
     let are = ordered-facts _ _ _ _ _ _ c.in_ok-terms.ensures c.as_slice.ensures.value c.as_slice-2.ensures.value c.in_ok-tracks.ensures c.in_ok-weights.ensures in
-    subst (All IsSmall) (sym c.as_slice-3.ensures.value) (AreWeights-atom _ _ _ _ _ _ c.requires are refl).small
+    subst (All IsSmall) (sym c.as_slice-3.ensures.value) (AreWeights-atom _ _ c.requires are refl).small
 
 pub sum_automaton-requires : goal.sum_automaton-requires
 sum_automaton-requires c =
     let are = ordered-facts _ _ _ _ _ _ c.in_ok-terms.ensures c.as_slice.ensures.value c.as_slice-2.ensures.value c.in_ok-tracks.ensures c.in_ok-weights.ensures in
     let same = to_z-of_z w32 c.args.bound c.ranges.bound in
     record {
-      weights = rw (c.as_slice-4.ensures.value, c.as_slice-5.ensures.value) (AreWeights-atom _ _ _ _ _ _ c.requires are (c.in_ok-sign_weights.ensures ∙ ap (map neg_ℤ) c.as_slice-3.ensures.value));
+      weights = rw (c.as_slice-4.ensures.value, c.as_slice-5.ensures.value) (AreWeights-atom _ _ c.requires are (c.in_ok-sign_weights.ensures ∙ ap (map neg_ℤ) c.as_slice-3.ensures.value));
       low = rw same c.requires.2.0;
       high = rw same c.requires.2.1;
     }

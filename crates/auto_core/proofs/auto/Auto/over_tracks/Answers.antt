@@ -12,7 +12,7 @@ accept-is c = search rules
 
 pub from_diagrams-renamed-requires : goal.from_diagrams-renamed-requires
 from_diagrams-renamed-requires c =
-    AreRows-renamed _ _ _ _ _ _ _ c.nodes_over.ensures.over c.requires.ascending c.requires.few (accept-is c) c.requires.places
+    AreRows-renamed _ _ c.nodes_over.ensures.over c.requires.ascending c.requires.few (accept-is c) c.requires.places
     (AreRenamed-brought _ _ _ _ _ _ c.in_ok-diagrams.ensures.brought c.remove-first.ensures.value c.remove-first.ensures.items)
 
 accept-end : (c : After-diagrams-2) → c.from_diagrams-renamed.result.accept ≡ c.args.self.now.accept

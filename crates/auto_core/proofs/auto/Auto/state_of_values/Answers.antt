@@ -25,4 +25,4 @@ loop-read-preserved c =
 pub returns-clause-state : goal.returns-clause-state
 returns-clause-state c =
     let past = c.loop-read-test.false in
-    IsLeft-end _ _ _ _ (omega (arith, past)) c.loop-read.invariant.left
+    IsLeft-end (omega (arith, past)) c.loop-read.invariant.left

@@ -2,4 +2,4 @@ use Rattle.auto_core.proofs.RowLemmas.{IsAutomaton-dense}
 use Rattle.auto_core.proofs.auto.Auto.tracks.Goals as goal
 
 pub returns-clause-valid : goal.returns-clause-valid
-returns-clause-valid c = rw (← c.self.view_is) (IsAutomaton-dense _ _ _ _ _ c.self.invariant)
+returns-clause-valid c = rw (← c.self.view_is) (IsAutomaton-dense c.self.invariant)

@@ -8,12 +8,12 @@ use Rattle.auto_core.proofs.auto.Auto.value.Goals as goal
 pub from_rows-requires : goal.from_rows-requires
 from_rows-requires c =
     rw (c.in_ok-tracks.ensures.items, c.in_ok-first.ensures.items)
-    (AreTables-prefix _ _ _ _ _ _ c.state_after.ensures c.state_after-2.ensures c.in_ok-next.ensures c.in_ok-accept.ensures)
+    (AreTables-prefix _ c.state_after.ensures c.state_after-2.ensures c.in_ok-next.ensures c.in_ok-accept.ensures)
 
 pub returns-clause-words : goal.returns-clause-words
 returns-clause-words c =
     let made = c.in_ok-decided.ensures in
-    value_words-same _ _ _ _ _ _ (to_z-of_z w64 c.args.value c.ranges.value) c.ranges.value made.valid (made.tracks ∙ c.in_ok-tracks.ensures.items)
+    value_words-same _ _ (to_z-of_z w64 c.args.value c.ranges.value) c.ranges.value made.valid (made.tracks ∙ c.in_ok-tracks.ensures.items)
     (made.first ∙ c.in_ok-first.ensures.items) (rw made.next c.in_ok-next.ensures) (rw made.accept c.in_ok-accept.ensures) c.state_after.ensures
     c.state_after-2.ensures
 

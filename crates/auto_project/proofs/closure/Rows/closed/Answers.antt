@@ -8,7 +8,7 @@ pub loop-round-init : goal.loop-round-init
 loop-round-init c = record {
   grows = Grows-refl _;
   kept = SetsKept-refl _;
-  closing = IsClosing-first _ _ _ _ _ _ c.requires.rows (rw c.sets.ensures at c.len.ensures.ascend) c.requires.first;
+  closing = IsClosing-first c.requires.rows (rw c.sets.ensures at c.len.ensures.ascend) c.requires.first;
 }
 
 pub returns-then-eq-clause-closed : goal.returns-then-eq-clause-closed
@@ -22,13 +22,13 @@ loop-round-preserved c =
     let e = c.in_ok-united.ensures in
     let i = c.loop-round.invariant in
     record {
-      grows = Grows-trans _ _ _ i.grows e.grows;
-      kept = SetsKept-trans _ _ _ i.kept e.kept;
+      grows = Grows-trans i.grows e.grows;
+      kept = SetsKept-trans i.kept e.kept;
       closing = IsClosing-step _ _ _ _ _ _ _ _ _ _ e.grows e.kept i.closing e.led e.swept e.ascend c.requires.valid;
     }
 
 pub returns-clause-closed : goal.returns-clause-closed
-returns-clause-closed c = IsSetRow-last _ _ _ _ _ _ c.loop-round.round c.requires.valid (omega arith) c.loop-round.invariant.closing
+returns-clause-closed c = IsSetRow-last c.loop-round.round c.requires.valid (omega arith) c.loop-round.invariant.closing
 
 pub swept-requires-clause-rows : goal.swept-requires-clause-rows
 swept-requires-clause-rows c = c.loop-round.invariant.closing.are_rows
@@ -37,7 +37,7 @@ pub swept-requires-clause-led : goal.swept-requires-clause-led
 swept-requires-clause-led c = c.loop-round.invariant.closing.led
 
 pub returns-then-eq-clause-grows : goal.returns-then-eq-clause-grows
-returns-then-eq-clause-grows c = Grows-trans _ _ _ c.loop-round.invariant.grows c.in_ok-united.ensures.grows
+returns-then-eq-clause-grows c = Grows-trans c.loop-round.invariant.grows c.in_ok-united.ensures.grows
 
 pub returns-then-eq-clause-kept : goal.returns-then-eq-clause-kept
-returns-then-eq-clause-kept c = SetsKept-trans _ _ _ c.loop-round.invariant.kept c.in_ok-united.ensures.kept
+returns-then-eq-clause-kept c = SetsKept-trans c.loop-round.invariant.kept c.in_ok-united.ensures.kept

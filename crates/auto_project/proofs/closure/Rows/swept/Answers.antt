@@ -10,14 +10,14 @@ loop-state-init c = record {
   grows = rw c.into_parts-diagrams.ensures.shapes (Grows-refl _);
   kept = rw c.into_parts-diagrams.ensures.sets (SetsKept-refl _);
   so_far = rw (c.into_parts-diagrams.ensures.shapes, c.into_parts-diagrams.ensures.sets)
-      (IsSweeping-first _ _ _ _ _ _ _ _ c.requires.rows c.requires.led
+      (IsSweeping-first _ _ c.requires.rows c.requires.led
       (λ letter state h. subst (λ l. Contains l state) (sym c.as_slice-state-items.ensures.value)
       ((rw (c.diagrams.ensures, c.sets.ensures) at c.in_ok-states.ensures) letter state h))
       c.in_ok-nodes.ensures.items);
 }
 
 pub guarded_row-requires-clause-rows : goal.guarded_row-requires-clause-rows
-guarded_row-requires-clause-rows c = rw c.as_slice.ensures.value (rows-sets _ _ _ _ _ c.loop-state.invariant.so_far.are_rows)
+guarded_row-requires-clause-rows c = rw c.as_slice.ensures.value (rows-sets c.loop-state.invariant.so_far.are_rows)
 
 pub guarded_row-requires-clause-node : goal.guarded_row-requires-clause-node
 guarded_row-requires-clause-node c = c.loop-state.invariant.so_far.led.is
@@ -27,9 +27,9 @@ loop-state-preserved c =
     let e = c.in_ok-row.ensures in
     let i = c.loop-state.invariant in
     record {
-      grows = Grows-trans _ _ _ i.grows e.grows;
-      kept = SetsKept-trans _ _ _ i.kept e.kept;
-      so_far = rw c.in_ok-push.ensures.items (IsSweeping-step _ _ _ _ _ _ _ _ _ _ _ e.grows e.kept i.so_far _ (rw c.as_slice.ensures.value at e.guarded));
+      grows = Grows-trans i.grows e.grows;
+      kept = SetsKept-trans i.kept e.kept;
+      so_far = rw c.in_ok-push.ensures.items (IsSweeping-step _ _ _ _ _ _ _ _ _ _ _ e.grows e.kept i.so_far (rw c.as_slice.ensures.value at e.guarded));
     }
 
 pub united-requires-clause-some : goal.united-requires-clause-some
@@ -57,7 +57,7 @@ pub returns-clause-ascend : goal.returns-clause-ascend
 returns-clause-ascend c = rw c.sets-3.ensures at c.len.ensures.ascend
 
 pub returns-clause-grows : goal.returns-clause-grows
-returns-clause-grows c = Grows-trans _ _ _ c.loop-state.invariant.grows (rw c.uniter-merger.ensures.shapes at c.in_ok-next.ensures.grows)
+returns-clause-grows c = Grows-trans c.loop-state.invariant.grows (rw c.uniter-merger.ensures.shapes at c.in_ok-next.ensures.grows)
 
 pub returns-clause-kept : goal.returns-clause-kept
-returns-clause-kept c = SetsKept-trans _ _ _ c.loop-state.invariant.kept (rw c.uniter-merger.ensures.sets at c.in_ok-next.ensures.kept)
+returns-clause-kept c = SetsKept-trans c.loop-state.invariant.kept (rw c.uniter-merger.ensures.sets at c.in_ok-next.ensures.kept)

@@ -20,13 +20,13 @@ pub led-requires : goal.led-requires
 led-requires t c =
     let low_before = c.in-Test.ensures.fits.low_before in
     let children = rw c.diagrams.ensures at c.in-Test.ensures.children in
-    (omega (arith, low_before, c.decreases), (HasSets-side _ _ _ _ low_before c.requires.node (λ letter. (children letter).0), c.requires.remembered))
+    (omega (arith, low_before, c.decreases), (HasSets-side _ low_before c.requires.node (λ letter. (children letter).0), c.requires.remembered))
 
 pub led-requires-in-Test : goal.led-requires-in-Test
 led-requires-in-Test t c =
     let high_before = c.in-Test.ensures.fits.high_before in
     let children = rw c.diagrams.ensures at c.in-Test.ensures.children in
-    (omega (arith, high_before, c.decreases), (HasSets-side _ _ _ _ high_before c.requires.node (λ letter. (children letter).1), c.led.ensures.remembered))
+    (omega (arith, high_before, c.decreases), (HasSets-side _ high_before c.requires.node (λ letter. (children letter).1), c.led.ensures.remembered))
 
 pub returns-in_err-row-in-Test-clause-remembered : goal.returns-in_err-row-in-Test-clause-remembered
 returns-in_err-row-in-Test-clause-remembered t c = RemembersPlaced-grows c.node.ensures.grows (SetsKept-refl _) c.led-in-Test.ensures.remembered
@@ -35,11 +35,11 @@ made : (t : ℕ) (c : goal.After-insert t) → IsPlaced c.args.merger.now.shapes
 made t c = elim c.match-shape.branch [
   | in-Leaf+in_ok-row-in-Leaf w ↦ rw (w.self-is, w.row-is) (
       let e = w.in_ok-row-in-Leaf.ensures in
-      IsPlaced-leaf _ _ _ _ _ _ w.in-Leaf.number (rw c.diagrams.ensures at w.in-Leaf.ensures.at) c.requires.node e.known (rw w.sets.ensures at e.leads) e.top)
+      IsPlaced-leaf _ _ _ w.in-Leaf.number (rw c.diagrams.ensures at w.in-Leaf.ensures.at) c.requires.node e.known (rw w.sets.ensures at e.leads) e.top)
   | in-Test+in_ok-low-in-Test+in_ok-high-in-Test+in_ok-row-in-Test w ↦ rw (w.self-is, w.row-is) (
       let e = w.in_ok-row-in-Test.ensures in
       let high = w.in_ok-high-in-Test.ensures in
-      IsPlaced-test _ _ _ _ _ _ _ _ _ _ _ _ (rw c.diagrams.ensures at w.in-Test.ensures.at) c.requires.node
+      IsPlaced-test _ _ _ (rw c.diagrams.ensures at w.in-Test.ensures.at) c.requires.node
       (IsPlaced-grows high.grows high.kept w.in_ok-low-in-Test.ensures.placed) high.placed e.known e.map e.top)
 ]
 
@@ -48,10 +48,10 @@ returns-clause-placed t c = made t c
 
 pub returns-clause-added : goal.returns-clause-added
 returns-clause-added t c = elim c.match-shape.branch [
-  | in-Leaf+in_ok-row-in-Leaf w ↦ rw w.self-is (AddsSetsOf-leaf _ _ _ _ _ w.in-Leaf.number (rw c.diagrams.ensures at w.in-Leaf.ensures.at) (rw w.sets.ensures at w.in_ok-row-in-Leaf.ensures.added))
+  | in-Leaf+in_ok-row-in-Leaf w ↦ rw w.self-is (AddsSetsOf-leaf _ _ _ w.in-Leaf.number (rw c.diagrams.ensures at w.in-Leaf.ensures.at) (rw w.sets.ensures at w.in_ok-row-in-Leaf.ensures.added))
   | in-Test+in_ok-low-in-Test+in_ok-high-in-Test+in_ok-row-in-Test w ↦
       rw w.self-is
-      (AddsSetsOf-test _ _ _ _ _ _ w.in-Test.track _ _ (rw c.diagrams.ensures at w.in-Test.ensures.children) w.in_ok-high-in-Test.ensures.kept
+      (AddsSetsOf-test _ w.in-Test.track (rw c.diagrams.ensures at w.in-Test.ensures.children) w.in_ok-high-in-Test.ensures.kept
       w.in_ok-low-in-Test.ensures.added w.in_ok-high-in-Test.ensures.added)
 ]
 
@@ -65,4 +65,4 @@ returns-clause-remembered t c =
           rw w.self-is
           (RemembersPlaced-grows w.in_ok-row-in-Test.ensures.grows (SetsKept-refl _) w.in_ok-high-in-Test.ensures.remembered)
     ] in
-    RemembersPlaced-insert _ _ _ _ _ _ _ _ before c.insert.ensures (made t c)
+    RemembersPlaced-insert before c.insert.ensures (made t c)

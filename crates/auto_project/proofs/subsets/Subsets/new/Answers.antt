@@ -9,9 +9,9 @@ invariant_of-result c =
     let tracks = c.in_ok-tracks.ensures ∙ ap (without_var c.args.var) c.tracks.ensures.tracks in
     let e = c.in_ok-merger-2.ensures in
     record {
-      are_tracks = AreTracks-left c.args.a.now c.args.var _ c.tracks.ensures.valid tracks;
+      are_tracks = AreTracks-left c.args.var _ c.tracks.ensures.valid tracks;
       are_rows =
-          HasPlaceRows-made _ _ _ c.args.var _ _ _ tracks
+          HasPlaceRows-made c.args.var tracks
           (HasClosedRows-made c.as_slice.ensures.value c.in_ok-merger.ensures e.grows e.kept
           (rw c.sets.ensures at c.len.ensures.ascend) e.closed);
       remembered = RemembersPlaced-none _ _ _ _ _ c.in_ok-new.ensures.none;

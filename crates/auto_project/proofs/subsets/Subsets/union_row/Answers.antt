@@ -9,5 +9,5 @@ pub invariant_of-self : goal.invariant_of-self
 invariant_of-self c = record {
   are_tracks = c.args.self.now.are_tracks;
   are_rows = HasPlaceRows-kept _ _ _ _ _ _ _ _ c.united_rows.ensures.grows c.united_rows.ensures.kept c.args.self.now.are_rows;
-  remembered = RemembersPlaced-over _ _ _ _ _ _ _ c.united_rows.ensures.grows c.united_rows.ensures.kept c.args.self.now.remembered;
+  remembered = RemembersPlaced-over c.united_rows.ensures.grows c.united_rows.ensures.kept c.args.self.now.remembered;
 }

@@ -4,7 +4,7 @@ use Rattle.auto_reduce.proofs.order.Order.add_all.Goals as goal
 
 pub loop-state-preserved : goal.loop-state-preserved
 loop-state-preserved c = record {
-  adds = AddsAll-more _ _ _ c.args.states.now c.loop-state.state-index (get_or c.args.states.now c.loop-state.state-index 0) c.loop-state-test.true
+  adds = AddsAll-more c.args.states.now c.loop-state.state-index (get_or c.args.states.now c.loop-state.state-index 0) c.loop-state-test.true
       refl c.loop-state.invariant.adds c.in_ok-add.ensures.adds;
   different = c.add.ensures.different;
 }

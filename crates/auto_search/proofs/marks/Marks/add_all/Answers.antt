@@ -15,11 +15,11 @@ loop-slot-preserved c =
             serves = record {
               room = let r = known.serves.room in let k = w.add.ensures.room.failed_kept in omega (arith, r, k);
               remembers =
-                  Remembers-marked course.auto.now course.ray.now here.failed.items w.add.new.self.failed.items c.args.place state c.loop-slot.slot c.args.front.now known.serves.remembers
+                  Remembers-marked w.add.new.self.failed.items c.args.place state c.loop-slot.slot c.args.front.now known.serves.remembers
                   (c.requires.front.states c.loop-slot.slot state w.in-Some.is) (rw w.cell_at.ensures.cell at w.add.ensures.marked) w.in-Some.is c.requires.dead;
               listed = w.add.ensures.listed;
             };
-            room = SameRoom-trans _ _ _ known.room w.add.ensures.room;
+            room = SameRoom-trans known.room w.add.ensures.room;
           })
       | in_default w ↦ rw w.self-is known
     ]

@@ -8,7 +8,7 @@ returns-clause-row c =
       place = at.0;
       is = at.1;
       row =
-          IsRow-bits _ _ _ _ _ _ _ _ c.args.self.now.one_track
+          IsRow-bits _ _ c.args.self.now.one_track
           (λ letter. next-by_bit c.args.self.now.modulus letter _ _ at.0 (rw at.2 at c.after-low.ensures) (rw at.2 at c.after-high.ensures))
           c.in_ok-node.ensures.row;
     }

@@ -16,7 +16,7 @@ returns-clause-fits c =
     let r = c.args.self.now.replies.now in (
       c.requires.fits.0,
       c.requires.fits.1,
-      replies_grow s r.ply c.args.work.now.sets c.check_stale.new.work.sets r c.check_stale.ensures.grows c.requires.fits.2,
+      replies_grow c.check_stale.new.work.sets c.check_stale.ensures.grows c.requires.fits.2,
     )
 
 pub returns-clause-same : goal.returns-clause-same

@@ -28,7 +28,7 @@ made g t c = elim c.match-one_pair.branch [
   | paired-in-Some-one_pair+in_ok-add-in-Some-one_pair+in_ok-node-in-Some-one_pair w ↦ rw (w.to-is, w.pairs-is, w.node-is) (
       let leaf = w.in_ok-node-in-Some-one_pair.ensures in
       let add = w.in_ok-add-in-Some-one_pair.ensures in
-      IsPaired-leaf _ _ _ _ _ _ _ _ _ c.requires.read leaf.grows leaf.known w.in-Some-one_pair.ensures.one add.number leaf.map leaf.top c.one_pair.ensures.small)
+      IsPaired-leaf _ _ _ _ c.requires.read leaf.grows leaf.known w.in-Some-one_pair.ensures.one add.number leaf.map leaf.top c.one_pair.ensures.small)
   | paired-in-None+in_ok-node-in-None w ↦ rw (w.to-is, w.pairs-is, w.node-is) w.in_ok-node-in-None.ensures.paired
 ]
 
@@ -98,8 +98,8 @@ paired_sides-paired-requires-2 g t c κs within =
 pub paired_sides-returns-clause-paired : goal.paired_sides-returns-clause-paired
 paired_sides-returns-clause-paired g t c =
     let from_high = c.in_ok-node.ensures.grows in
-    let from_low = Grows-trans _ _ _ c.in_ok-high.ensures.grows from_high in
-    let grows = Grows-trans _ _ _ c.in_ok-low.ensures.grows from_low in
+    let from_low = Grows-trans c.in_ok-high.ensures.grows from_high in
+    let grows = Grows-trans c.in_ok-low.ensures.grows from_low in
     let low = c.in_ok-low.ensures.paired in
     let high = c.in_ok-high.ensures.paired in
     let low_known = low.known in
@@ -107,7 +107,7 @@ paired_sides-returns-clause-paired g t c =
     IsPaired-parts c.requires.read c.split-low.ensures.left c.split-low.ensures.right
     grows c.in_ok-node.ensures.known c.top-track.ensures
     (IsPaired-grows from_low c.in_ok-high.ensures.pairs low) (IsPaired-grows from_high (PairsKept-refl _) high)
-    (λ letter. c.in_ok-node.ensures.map letter ∙ sym (chosen-grows _ _ c.top-track.result _ _ letter (omega (arith, low_known, longer)) high.known from_high)) c.in_ok-node.ensures.top
+    (λ letter. c.in_ok-node.ensures.map letter ∙ sym (chosen-grows c.top-track.result _ _ letter (omega (arith, low_known, longer)) high.known from_high)) c.in_ok-node.ensures.top
 
 pub paired_sides-returns-clause-remembered : goal.paired_sides-returns-clause-remembered
 paired_sides-returns-clause-remembered g t c = RemembersPaired-grows c.in_ok-node.ensures.grows (PairsKept-refl _) c.in_ok-high.ensures.remembered
@@ -131,4 +131,4 @@ paired_sides-returns-clause-answers g t c =
     _ c.in_ok-low.ensures.grows c.in_ok-high.ensures.pairs c.in_ok-low.ensures.answers c.in_ok-high.ensures.answers
 
 pub paired_sides-returns-clause-pairs : goal.paired_sides-returns-clause-pairs
-paired_sides-returns-clause-pairs g t c = PairsKept-trans _ _ _ c.in_ok-low.ensures.pairs c.in_ok-high.ensures.pairs
+paired_sides-returns-clause-pairs g t c = PairsKept-trans c.in_ok-low.ensures.pairs c.in_ok-high.ensures.pairs

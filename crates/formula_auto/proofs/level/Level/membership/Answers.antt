@@ -26,7 +26,7 @@ returns-then-eq c =
     let same : set.tracks ≡ c.args.vars.now =
     sym c.tracks.ensures.tracks ∙ (slice_eq-Decides same_var c.tracks.result.now c.args.vars.now c.eq.result c.eq.ensures).0 c.if-eq.true in
     let decides =
-    Decides-itself (tables c.args.self.now.sets) c.args.set.0 set (ap as_set c.named-named.ensures) fits.1 c.tracks.ensures.valid.ascending in
+    Decides-itself (tables c.args.self.now.sets) c.args.set.0 (ap as_set c.named-named.ensures) fits.1 c.tracks.ensures.valid.ascending in
     record {
       auto = set;
       has = λ _. c.named-named.ensures;

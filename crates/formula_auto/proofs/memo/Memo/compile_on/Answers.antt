@@ -17,7 +17,7 @@ returns-clause-decides c = IfOk-weaker c.whole_on.result _ _ (λ a compiled. com
 
 pub returns-clause-integers : goal.returns-clause-integers
 returns-clause-integers c =
-    IfOk-weaker c.whole_on.result _ _ (λ a compiled. Decides-integers (tree_of c.args.f.now) (members (tables c.args.level.now.sets)) a compiled.made.decides) c.whole_on.ensures.compiled
+    IfOk-weaker c.whole_on.result _ _ (λ a compiled. Decides-integers compiled.made.decides) c.whole_on.ensures.compiled
 
 pub returns-clause-within : goal.returns-clause-within
 returns-clause-within c = IfOk-weaker c.whole_on.result _ _ (λ a compiled. compiled.made.within) c.whole_on.ensures.compiled
@@ -31,4 +31,4 @@ returns-clause-budget c =
 
 pub returns-clause-stopped : goal.returns-clause-stopped
 returns-clause-stopped c =
-    IfErr-weaker c.whole_on.result _ _ (λ why h. stopped-first (tree_of c.args.f.now) c.args.self.now c.whole_on.new.self why h.stopped) c.whole_on.ensures.err
+    IfErr-weaker c.whole_on.result _ _ (λ why h. stopped-first h.stopped) c.whole_on.ensures.err

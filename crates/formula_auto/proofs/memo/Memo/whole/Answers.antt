@@ -5,7 +5,7 @@ use Rattle.formula_auto.proofs.Rooms.{ready}
 use Rattle.formula_auto.proofs.memo.Memo.whole.Goals as goal
 
 pub compiled-requires-clause-ready : goal.compiled-requires-clause-ready
-compiled-requires-clause-ready c = ready (tree_of c.args.f.now) c.args.level.now.sets c.requires.compilable
+compiled-requires-clause-ready c = ready c.requires.compilable
 
 pub compiled-requires-clause-room : goal.compiled-requires-clause-room
 compiled-requires-clause-room c = omega (arith, c.requires.few_steps)

@@ -15,8 +15,8 @@ returns-in-Some-clause-chosen t c = c.requires.remembered.chosen _ _ _ (sym c.in
 made : (t : ℕ) (c : goal.In_ok-insert t) → IsChosen c.node.new.self c.args.track c.args.low c.args.high c.in_ok-node-2.node
 made t c =
     let from_on = c.in_ok-node-2.ensures.grows in
-    let from_off = Grows-trans _ _ _ c.in_ok-on.ensures.grows from_on in
-    let grows = Grows-trans _ _ _ c.in_ok-off.ensures.grows from_off in
+    let from_off = Grows-trans c.in_ok-on.ensures.grows from_on in
+    let grows = Grows-trans c.in_ok-off.ensures.grows from_off in
     let longer = grows.longer in
     let off = c.in_ok-off.ensures.chosen in
     let on = c.in_ok-on.ensures.chosen in
@@ -26,11 +26,11 @@ made t c =
     let high_known = c.requires.high_known in
     let own : c.min-own.result ≡ top_of_both c.args.self.now c.args.low c.args.high = search rules in
     let before : c.min-own.result < c.args.track = search rules in
-    IsChosen-sides _ _ c.min-own.result _ _ _ _ _ _ _ c.in_ok-off.off c.in_ok-on.on (omega arith) (omega arith) c.in_ok-node-2.ensures.known before
-    (own ∙ sym (top_of_both-grows _ _ _ _ grows c.requires.low_known c.requires.high_known))
+    IsChosen-sides c.min-own.result _ c.in_ok-off.off c.in_ok-on.on (omega arith) (omega arith) c.in_ok-node-2.ensures.known before
+    (own ∙ sym (top_of_both-grows _ _ grows c.requires.low_known c.requires.high_known))
     (IsSplit-grows c.requires.low_known grows c.split-low_off.ensures.sides) (IsSplit-grows c.requires.high_known grows c.split-high_off.ensures.sides)
     (IsChosen-grows from_off off) (IsChosen-grows from_on on)
-    (λ letter. c.in_ok-node-2.ensures.map letter ∙ sym (chosen-grows _ _ c.min-own.result _ _ letter (omega arith) on.known from_on)) c.in_ok-node-2.ensures.top
+    (λ letter. c.in_ok-node-2.ensures.map letter ∙ sym (chosen-grows c.min-own.result _ _ letter (omega arith) on.known from_on)) c.in_ok-node-2.ensures.top
 
 pub returns-clause-chosen : goal.returns-clause-chosen
 returns-clause-chosen t c = made t c
@@ -41,13 +41,13 @@ returns-clause-remembered t c =
     c.in_ok-insert.ensures.updates (made t c)
 
 pub returns-in_err-on-clause-grows : goal.returns-in_err-on-clause-grows
-returns-in_err-on-clause-grows t c = Grows-trans _ _ _ c.in_ok-off.ensures.grows c.in_err-on.ensures.grows
+returns-in_err-on-clause-grows t c = Grows-trans c.in_ok-off.ensures.grows c.in_err-on.ensures.grows
 
 pub returns-in_err-node-2-clause-grows : goal.returns-in_err-node-2-clause-grows
-returns-in_err-node-2-clause-grows t c = Grows-trans _ _ _ (Grows-trans _ _ _ c.in_ok-off.ensures.grows c.in_ok-on.ensures.grows) c.in_err-node-2.ensures.grows
+returns-in_err-node-2-clause-grows t c = Grows-trans (Grows-trans c.in_ok-off.ensures.grows c.in_ok-on.ensures.grows) c.in_err-node-2.ensures.grows
 
 pub returns-in_err-insert-clause-grows : goal.returns-in_err-insert-clause-grows
-returns-in_err-insert-clause-grows t c = Grows-trans _ _ _ (Grows-trans _ _ _ c.in_ok-off.ensures.grows c.in_ok-on.ensures.grows) c.in_ok-node-2.ensures.grows
+returns-in_err-insert-clause-grows t c = Grows-trans (Grows-trans c.in_ok-off.ensures.grows c.in_ok-on.ensures.grows) c.in_ok-node-2.ensures.grows
 
 pub returns-clause-grows : goal.returns-clause-grows
-returns-clause-grows t c = Grows-trans _ _ _ (Grows-trans _ _ _ c.in_ok-off.ensures.grows c.in_ok-on.ensures.grows) c.in_ok-node-2.ensures.grows
+returns-clause-grows t c = Grows-trans (Grows-trans c.in_ok-off.ensures.grows c.in_ok-on.ensures.grows) c.in_ok-node-2.ensures.grows

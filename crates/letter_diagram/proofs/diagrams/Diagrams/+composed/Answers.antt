@@ -29,7 +29,7 @@ composed-requires-in-Test t c =
       (
         omega arith,
         (
-          rows-grow _ _ _ grows c.requires.rows,
+          rows-grow _ grows c.requires.rows,
           (
             (λ letter. let v = (c.in-Test.ensures.children letter).1 in rw (grows.map c.in-Test.high letter known, ← v.1) (c.requires.leaves v.0)),
             c.in_ok-low-in-Test.ensures.remembered,
@@ -47,14 +47,14 @@ made t c = elim c.match-shape.branch [
       let high = w.in_ok-high-in-Test.ensures.composed in
       let g1 = w.in_ok-low-in-Test.ensures.grows in
       let g2 = w.in_ok-high-in-Test.ensures.grows in
-      let both = Grows-trans _ _ _ g1 g2 in
+      let both = Grows-trans g1 g2 in
       let longer = both.longer in
       let known = c.requires.known in
       let low_before = w.in-Test.ensures.fits.low_before in
       let high_before = w.in-Test.ensures.fits.high_before in
       let same =
-      λ (letter : ℕ). chosen-grows _ _ w.in-Test.track w.in-Test.low w.in-Test.high letter (omega (arith, low_before, known)) (omega (arith, high_before, known)) both in
-      IsComposed-test _ _ _ _ _ w.in-Test.track w.in-Test.low w.in-Test.high _ _ (omega (arith, longer, known))
+      λ (letter : ℕ). chosen-grows w.in-Test.track w.in-Test.low w.in-Test.high letter (omega (arith, low_before, known)) (omega (arith, high_before, known)) both in
+      IsComposed-test _ _ w.in-Test.track w.in-Test.low w.in-Test.high (omega (arith, longer, known))
       (λ letter. both.map c.args.a letter c.requires.known ∙ w.in-Test.ensures.at.map letter ∙ sym (same letter)) (IsComposed-grows g2 low) high e.grows e.known e.map)
 ]
 

@@ -11,7 +11,7 @@ pub returns-then-track-own-clause-merged : goal.returns-then-track-own-clause-me
 returns-then-track-own-clause-merged t c =
     let top = c.top-own.ensures.top in
     let above = c.if-track-own.true in
-    IsMerged-above _ c.top-own.ensures.diagram _ _ _ (omega (arith, top, above)) c.requires.source
+    IsMerged-above c.top-own.ensures.diagram _ (omega (arith, top, above)) c.requires.source
 
 pub returns-in-Some-clause-merged : goal.returns-in-Some-clause-merged
 returns-in-Some-clause-merged t c = c.requires.merged.merged _ _ (sym c.in-Some.ensures.value)
@@ -37,7 +37,7 @@ made t c =
     let here = c.if-own-track.true in
     let s = c.split-low.ensures.sides in
     let e = c.in_ok-node.ensures in
-    IsMerged-at _ _ c.top-own.ensures.diagram _ _ c.args.track _ _ _ _ e.grows e.sets c.requires.source (sym top ∙ here) (rw (← here) s) e.united
+    IsMerged-at c.top-own.ensures.diagram c.args.track e.grows e.sets c.requires.source (sym top ∙ here) (rw (← here) s) e.united
 
 pub returns-then-own-track-clause-merged : goal.returns-then-own-track-clause-merged
 returns-then-own-track-clause-merged t c = made t c
@@ -55,7 +55,7 @@ returns-then-own-track-clause-room t c =
 
 pub returns-then-own-track-clause-answers : goal.returns-then-own-track-clause-answers
 returns-then-own-track-clause-answers t c =
-    AreMerged-at _ c.top-own.ensures.diagram _ _ c.args.track _ _ _ (rw (← c.if-own-track.true) c.split-low.ensures.sides) c.in_ok-node.ensures.answers
+    AreMerged-at c.top-own.ensures.diagram c.args.track (rw (← c.if-own-track.true) c.split-low.ensures.sides) c.in_ok-node.ensures.answers
 
 pub merged-requires : goal.merged-requires
 merged-requires t c =
@@ -74,7 +74,7 @@ merged-requires-2 t c =
     let not_above = c.if-track-own.false in
     let track_low = c.requires.track_low in
     let sides = room_for-sides (omega (arith, not_above, track_low)) s s both in
-    let same = room_for-grows _ _ c.split-low.result.1 c.split-low.result.1 c.in_ok-low.ensures.grows s.high_known s.high_known in
+    let same = room_for-grows c.split-low.result.1 c.split-low.result.1 c.in_ok-low.ensures.grows s.high_known s.high_known in
     let room = c.requires.room in
     let used = c.in_ok-low.ensures.room in
     let e = c.in_ok-low.ensures in (
@@ -82,7 +82,7 @@ merged-requires-2 t c =
       (
         c.requires.track_low,
         (
-          HasSets-grows _ _ _ _ _ e.grows e.sets (HasSets-high c.top-own.ensures.diagram s c.requires.source),
+          HasSets-grows e.grows e.sets (HasSets-high c.top-own.ensures.diagram s c.requires.source),
           (omega (arith, sides, same, room, used), (e.remembered, e.united)),
         ),
       ),
@@ -91,20 +91,20 @@ merged-requires-2 t c =
 joined : (t : ℕ) (c : goal.In_ok-insert-2 t) → IsMerged c.node.new.self c.merged-2.new.sets c.args.track c.args.a c.in_ok-node-2.node
 joined t c =
     let from_high = c.in_ok-node-2.ensures.grows in
-    let from_low = Grows-trans _ _ _ c.in_ok-high.ensures.grows from_high in
-    let grows = Grows-trans _ _ _ c.in_ok-low.ensures.grows from_low in
-    let kept = SetsKept-trans _ _ _ c.in_ok-low.ensures.sets c.in_ok-high.ensures.sets in
+    let from_low = Grows-trans c.in_ok-high.ensures.grows from_high in
+    let grows = Grows-trans c.in_ok-low.ensures.grows from_low in
+    let kept = SetsKept-trans c.in_ok-low.ensures.sets c.in_ok-high.ensures.sets in
     let low = c.in_ok-low.ensures.merged in
     let high = c.in_ok-high.ensures.merged in
     let low_known = low.known in
     let high_longer = c.in_ok-high.ensures.grows.longer in
     let not_above = c.if-track-own.false in
     let not_here = c.if-own-track.false in
-    IsMerged-test _ _ _ _ _ c.top-own.result _ _ c.in_ok-low.low c.in_ok-high.high (HasSets-grows _ _ _ _ _ grows kept c.requires.source)
+    IsMerged-test _ c.top-own.result c.in_ok-low.low c.in_ok-high.high (HasSets-grows grows kept c.requires.source)
     c.in_ok-node-2.ensures.known (omega (arith, not_above, not_here))
     (IsSplit-grows c.requires.source.known grows c.split-low.ensures.sides)
-    (IsMerged-grows _ _ _ _ _ _ _ from_low c.in_ok-high.ensures.sets low) (IsMerged-grows _ _ _ _ _ _ _ from_high (SetsKept-refl _) high)
-    (λ letter. c.in_ok-node-2.ensures.map letter ∙ sym (chosen-grows _ _ c.top-own.result _ _ letter (omega arith) high.known from_high))
+    (IsMerged-grows from_low c.in_ok-high.ensures.sets low) (IsMerged-grows from_high (SetsKept-refl _) high)
+    (λ letter. c.in_ok-node-2.ensures.map letter ∙ sym (chosen-grows c.top-own.result _ _ letter (omega arith) high.known from_high))
     (grows.top c.args.a c.requires.source.known ∙ sym c.top-own.ensures.top)
     c.in_ok-node-2.ensures.top
 
@@ -128,7 +128,7 @@ returns-clause-room t c =
     let not_above = c.if-track-own.false in
     let track_low = c.requires.track_low in
     let sides = room_for-sides (omega (arith, not_above, track_low)) s s both in
-    let same = room_for-grows _ _ c.split-low.result.1 c.split-low.result.1 c.in_ok-low.ensures.grows s.high_known s.high_known in
+    let same = room_for-grows c.split-low.result.1 c.split-low.result.1 c.in_ok-low.ensures.grows s.high_known s.high_known in
     let low_used = c.in_ok-low.ensures.room in
     let high_used = c.in_ok-high.ensures.room in
     omega (arith, sides, same, low_used, high_used)
@@ -137,30 +137,30 @@ pub returns-clause-answers : goal.returns-clause-answers
 returns-clause-answers t c =
     let not_above = c.if-track-own.false in
     let not_here = c.if-own-track.false in
-    AreMerged-sides _ _ c.top-own.ensures.diagram _ _ _ c.args.track _ c.top-own.result _ _ (omega (arith, not_above, not_here))
+    AreMerged-sides c.top-own.ensures.diagram c.args.track c.top-own.result (omega (arith, not_above, not_here))
     c.in_ok-low.ensures.grows c.in_ok-low.ensures.sets c.in_ok-high.ensures.sets
     c.split-low.ensures.sides c.requires.source c.in_ok-low.ensures.answers c.in_ok-high.ensures.answers
 
 pub returns-in_err-high-clause-grows : goal.returns-in_err-high-clause-grows
-returns-in_err-high-clause-grows t c = Grows-trans _ _ _ c.in_ok-low.ensures.grows c.in_err-high.ensures.grows
+returns-in_err-high-clause-grows t c = Grows-trans c.in_ok-low.ensures.grows c.in_err-high.ensures.grows
 
 pub returns-in_err-high-clause-sets : goal.returns-in_err-high-clause-sets
-returns-in_err-high-clause-sets t c = SetsKept-trans _ _ _ c.in_ok-low.ensures.sets c.in_err-high.ensures.sets
+returns-in_err-high-clause-sets t c = SetsKept-trans c.in_ok-low.ensures.sets c.in_err-high.ensures.sets
 
 pub returns-in_err-node-2-clause-grows : goal.returns-in_err-node-2-clause-grows
-returns-in_err-node-2-clause-grows t c = Grows-trans _ _ _ (Grows-trans _ _ _ c.in_ok-low.ensures.grows c.in_ok-high.ensures.grows) c.in_err-node-2.ensures.grows
+returns-in_err-node-2-clause-grows t c = Grows-trans (Grows-trans c.in_ok-low.ensures.grows c.in_ok-high.ensures.grows) c.in_err-node-2.ensures.grows
 
 pub returns-in_err-node-2-clause-sets : goal.returns-in_err-node-2-clause-sets
-returns-in_err-node-2-clause-sets t c = SetsKept-trans _ _ _ c.in_ok-low.ensures.sets c.in_ok-high.ensures.sets
+returns-in_err-node-2-clause-sets t c = SetsKept-trans c.in_ok-low.ensures.sets c.in_ok-high.ensures.sets
 
 pub returns-in_err-insert-2-clause-grows : goal.returns-in_err-insert-2-clause-grows
-returns-in_err-insert-2-clause-grows t c = Grows-trans _ _ _ (Grows-trans _ _ _ c.in_ok-low.ensures.grows c.in_ok-high.ensures.grows) c.in_ok-node-2.ensures.grows
+returns-in_err-insert-2-clause-grows t c = Grows-trans (Grows-trans c.in_ok-low.ensures.grows c.in_ok-high.ensures.grows) c.in_ok-node-2.ensures.grows
 
 pub returns-in_err-insert-2-clause-sets : goal.returns-in_err-insert-2-clause-sets
-returns-in_err-insert-2-clause-sets t c = SetsKept-trans _ _ _ c.in_ok-low.ensures.sets c.in_ok-high.ensures.sets
+returns-in_err-insert-2-clause-sets t c = SetsKept-trans c.in_ok-low.ensures.sets c.in_ok-high.ensures.sets
 
 pub returns-clause-grows : goal.returns-clause-grows
-returns-clause-grows t c = Grows-trans _ _ _ (Grows-trans _ _ _ c.in_ok-low.ensures.grows c.in_ok-high.ensures.grows) c.in_ok-node-2.ensures.grows
+returns-clause-grows t c = Grows-trans (Grows-trans c.in_ok-low.ensures.grows c.in_ok-high.ensures.grows) c.in_ok-node-2.ensures.grows
 
 pub returns-clause-sets : goal.returns-clause-sets
-returns-clause-sets t c = SetsKept-trans _ _ _ c.in_ok-low.ensures.sets c.in_ok-high.ensures.sets
+returns-clause-sets t c = SetsKept-trans c.in_ok-low.ensures.sets c.in_ok-high.ensures.sets

@@ -74,14 +74,14 @@ united_sides-united-requires-2 t c =
     let grows = c.in_ok-low.ensures.grows in
     let kept = c.in_ok-low.ensures.sets in
     let sides = room_for-sides c.requires.track_low a b c.requires.track in
-    let same = room_for-grows _ _ c.split-a_low.result.1 c.split-b_low.result.1 grows a.high_known b.high_known in
+    let same = room_for-grows c.split-a_low.result.1 c.split-b_low.result.1 grows a.high_known b.high_known in
     let room = c.requires.room in
     let used = c.in_ok-low.ensures.room in (
       omega arith,
       (
-        HasSets-grows _ _ _ _ _ grows kept (HasSets-high is a c.requires.a_sets),
+        HasSets-grows grows kept (HasSets-high is a c.requires.a_sets),
         (
-          HasSets-grows _ _ _ _ _ grows kept (HasSets-high is b c.requires.b_sets),
+          HasSets-grows grows kept (HasSets-high is b c.requires.b_sets),
           (omega (arith, sides, room, same, used), c.in_ok-low.ensures.remembered),
         ),
       ),
@@ -92,20 +92,20 @@ united_sides-returns-clause-united t c =
     let a = c.split-a_low.ensures.sides in
     let b = c.split-b_low.ensures.sides in
     let from_high = c.in_ok-node.ensures.grows in
-    let from_low = Grows-trans _ _ _ c.in_ok-high.ensures.grows from_high in
-    let grows = Grows-trans _ _ _ c.in_ok-low.ensures.grows from_low in
-    let kept = SetsKept-trans _ _ _ c.in_ok-low.ensures.sets c.in_ok-high.ensures.sets in
+    let from_low = Grows-trans c.in_ok-high.ensures.grows from_high in
+    let grows = Grows-trans c.in_ok-low.ensures.grows from_low in
+    let kept = SetsKept-trans c.in_ok-low.ensures.sets c.in_ok-high.ensures.sets in
     let longer = grows.longer in
     let low = c.in_ok-low.ensures.united in
     let high = c.in_ok-high.ensures.united in
     let low_known = low.known in
     let high_longer = c.in_ok-high.ensures.grows.longer in
-    IsUnited-sides _ _ _ _ _ c.args.track _ _ _ _ c.in_ok-low.low c.in_ok-high.high (HasSets-grows _ _ _ _ _ grows kept c.requires.a_sets)
-    (HasSets-grows _ _ _ _ _ grows kept c.requires.b_sets) c.in_ok-node.ensures.known
+    IsUnited-sides _ c.args.track c.in_ok-low.low c.in_ok-high.high (HasSets-grows grows kept c.requires.a_sets)
+    (HasSets-grows grows kept c.requires.b_sets) c.in_ok-node.ensures.known
     (IsSplit-grows c.requires.a_sets.known grows a) (IsSplit-grows c.requires.b_sets.known grows b)
-    (c.requires.track ∙ sym (top_of_both-grows _ _ _ _ grows c.requires.a_sets.known c.requires.b_sets.known))
+    (c.requires.track ∙ sym (top_of_both-grows _ _ grows c.requires.a_sets.known c.requires.b_sets.known))
     (IsUnited-grows from_low c.in_ok-high.ensures.sets low) (IsUnited-grows from_high (SetsKept-refl _) high)
-    (λ letter. c.in_ok-node.ensures.map letter ∙ sym (chosen-grows _ _ c.args.track _ _ letter (omega arith) high.known from_high)) c.in_ok-node.ensures.top
+    (λ letter. c.in_ok-node.ensures.map letter ∙ sym (chosen-grows c.args.track _ _ letter (omega arith) high.known from_high)) c.in_ok-node.ensures.top
 
 pub united_sides-returns-clause-remembered : goal.united_sides-returns-clause-remembered
 united_sides-returns-clause-remembered t c = RemembersUnited-grows c.in_ok-node.ensures.grows (SetsKept-refl _) c.in_ok-high.ensures.remembered
@@ -115,38 +115,38 @@ united_sides-returns-clause-room t c =
     let a = c.split-a_low.ensures.sides in
     let b = c.split-b_low.ensures.sides in
     let sides = room_for-sides c.requires.track_low a b c.requires.track in
-    let same = room_for-grows _ _ c.split-a_low.result.1 c.split-b_low.result.1 c.in_ok-low.ensures.grows a.high_known b.high_known in
+    let same = room_for-grows c.split-a_low.result.1 c.split-b_low.result.1 c.in_ok-low.ensures.grows a.high_known b.high_known in
     let low_used = c.in_ok-low.ensures.room in
     let high_used = c.in_ok-high.ensures.room in
     omega (arith, sides, same, low_used, high_used)
 
 pub united_sides-returns-clause-answers : goal.united_sides-returns-clause-answers
 united_sides-returns-clause-answers t c =
-    AreUnions-sides _ _ c.split-a_low.ensures.diagram _ _ _ _ _ c.args.track _ _ _ _ c.in_ok-low.ensures.grows c.in_ok-low.ensures.sets c.in_ok-high.ensures.sets
+    AreUnions-sides c.split-a_low.ensures.diagram c.args.track c.in_ok-low.ensures.grows c.in_ok-low.ensures.sets c.in_ok-high.ensures.sets
     c.split-a_low.ensures.sides c.split-b_low.ensures.sides c.requires.a_sets c.requires.b_sets c.in_ok-low.ensures.answers c.in_ok-high.ensures.answers
 
 pub united-returns-then-eq-clause-united : goal.united-returns-then-eq-clause-united
 united-returns-then-eq-clause-united t c =
     let equal : c.args.a ≡ c.args.b = search rules in
-    IsUnited-same _ c.top.ensures.diagram _ _ _ equal c.requires.a_sets
+    IsUnited-same c.top.ensures.diagram _ equal c.requires.a_sets
 
 pub united_sides-returns-in_err-high-clause-grows : goal.united_sides-returns-in_err-high-clause-grows
-united_sides-returns-in_err-high-clause-grows t c = Grows-trans _ _ _ c.in_ok-low.ensures.grows c.in_err-high.ensures.grows
+united_sides-returns-in_err-high-clause-grows t c = Grows-trans c.in_ok-low.ensures.grows c.in_err-high.ensures.grows
 
 pub united_sides-returns-in_err-high-clause-sets : goal.united_sides-returns-in_err-high-clause-sets
-united_sides-returns-in_err-high-clause-sets t c = SetsKept-trans _ _ _ c.in_ok-low.ensures.sets c.in_err-high.ensures.sets
+united_sides-returns-in_err-high-clause-sets t c = SetsKept-trans c.in_ok-low.ensures.sets c.in_err-high.ensures.sets
 
 pub united_sides-returns-in_err-node-clause-grows : goal.united_sides-returns-in_err-node-clause-grows
-united_sides-returns-in_err-node-clause-grows t c = Grows-trans _ _ _ (Grows-trans _ _ _ c.in_ok-low.ensures.grows c.in_ok-high.ensures.grows) c.in_err-node.ensures.grows
+united_sides-returns-in_err-node-clause-grows t c = Grows-trans (Grows-trans c.in_ok-low.ensures.grows c.in_ok-high.ensures.grows) c.in_err-node.ensures.grows
 
 pub united_sides-returns-in_err-node-clause-sets : goal.united_sides-returns-in_err-node-clause-sets
-united_sides-returns-in_err-node-clause-sets t c = SetsKept-trans _ _ _ c.in_ok-low.ensures.sets c.in_ok-high.ensures.sets
+united_sides-returns-in_err-node-clause-sets t c = SetsKept-trans c.in_ok-low.ensures.sets c.in_ok-high.ensures.sets
 
 pub united_sides-returns-clause-grows : goal.united_sides-returns-clause-grows
-united_sides-returns-clause-grows t c = Grows-trans _ _ _ (Grows-trans _ _ _ c.in_ok-low.ensures.grows c.in_ok-high.ensures.grows) c.in_ok-node.ensures.grows
+united_sides-returns-clause-grows t c = Grows-trans (Grows-trans c.in_ok-low.ensures.grows c.in_ok-high.ensures.grows) c.in_ok-node.ensures.grows
 
 pub united_sides-returns-clause-sets : goal.united_sides-returns-clause-sets
-united_sides-returns-clause-sets t c = SetsKept-trans _ _ _ c.in_ok-low.ensures.sets c.in_ok-high.ensures.sets
+united_sides-returns-clause-sets t c = SetsKept-trans c.in_ok-low.ensures.sets c.in_ok-high.ensures.sets
 
 pub united-returns-clause-grows : goal.united-returns-clause-grows
 united-returns-clause-grows t c = elim c.if-track-eq-MOST_TRACKS.branch [

@@ -25,7 +25,7 @@ with_bit-requires-clause-before c =
 pub loop-node-smaller : goal.loop-node-smaller
 loop-node-smaller c =
     let fits = c.in-Test.ensures.fits in
-    smaller-test c.loop-node.met c.pop_last.new.self c.meet.new.met c.meet-in-Test.new.met _ _ _ _ _ _ c.in-Some.ensures.removal
+    smaller-test c.loop-node.met c.pop_last.new.self c.meet.new.met c.meet-in-Test.new.met _ _ c.in-Some.ensures.removal
     c.in-Some.ensures.all_below fits.low_before fits.high_before c.in_ok-meet-in-Test.ensures c.in_ok-meet-in-Test-2.ensures
 
 pub loop-node-preserved : goal.loop-node-preserved
@@ -37,4 +37,4 @@ loop-node-preserved c =
     c.in_ok-meet-in-Test.ensures second
 
 pub returns : goal.returns
-returns c = AreFirsts-passed _ _ _ _ c.loop-node.invariant (none-left c.loop-node.met.entries c.in_default.ensures.variant.1)
+returns c = AreFirsts-passed c.loop-node.invariant (none-left c.loop-node.met.entries c.in_default.ensures.variant.1)

@@ -12,7 +12,7 @@ use Rattle.mask_sets.proofs.table.MaskSets.contains.Goals as goal
 -- the set of the position's own mask
 here : (c : In-Some) → set_at c.args.self.now (mask_of c.args.p.now) ≡ Some c.in-Some.set.now
 here c =
-    let mask = mask_one c.args.p.now c.mask.result c.mask.ensures in
+    let mask = mask_one c.mask.ensures in
     ap (set_at c.args.self.now) (sym mask) ∙ sym c.get.ensures ∙ ap option_copied c.in-Some.is
 
 pub member-requires-clause-count : goal.member-requires-clause-count
@@ -34,7 +34,7 @@ returns-in-Some c =
 
 pub returns-in-None : goal.returns-in-None
 returns-in-None c =
-    let mask = mask_one c.args.p.now c.mask.result c.mask.ensures in
+    let mask = mask_one c.mask.ensures in
     let none : set_at c.args.self.now (mask_of c.args.p.now) ≡ None =
     ap (set_at c.args.self.now) (sym mask) ∙ sym c.get.ensures ∙ ap option_copied c.in-None.is in
     (λ never. cc, λ some. absurd (subst (λ (o : Option Automaton). IsSomeAnd o (λ a. IsAccepted a (tuple_of c.args.p.now))) none some))

@@ -8,7 +8,7 @@ use Rattle.mate_plan.proofs.by_mask.ByMaskSteps.step.Goals as goal
 pub name-requires-clause-mask : goal.name-requires-clause-mask
 name-requires-clause-mask g c =
     let (rest, (so_far, fits, sound)) = c.requires.fits in
-    mask_here c.args.self.now.bench.now.position.now c.args.work.now.sets c.args.so_far c.args.mask.now rest so_far
+    mask_here c.args.self.now.bench.now.position.now c.args.mask.now rest so_far
 
 pub returns-in_err-name-clause-answers : goal.returns-in_err-name-clause-answers
 returns-in_err-name-clause-answers g c =

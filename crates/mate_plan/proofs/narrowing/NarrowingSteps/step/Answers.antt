@@ -23,7 +23,7 @@ make_reached-requires-clause-item c =
     let on : IsReachedOn (mask_tracks c.args.self.now.bench.now.position.now c.args.self.now.stage.mask) c.in-Some.source = rw c.in-Some.is at c.requires.fits.1.2 in
     let item =
     safe_item_on c.args.self.now.bench.now.position.now
-    (game_of c.args.self.now.bench.now.position.now c.requires.fits.1.0 c.args.self.now.bench.now.few) c.put.new.self
+    (game_of c.requires.fits.1.0 c.args.self.now.bench.now.few) c.put.new.self
     c.args.self.now.stage.mask c.args.bearing.now
     (All-head (λ b. IsBearer c.args.self.now.bench.now.position.now.men c.args.self.now.stage.mask b.man b.ray b.king) c.args.bearing.now
     c.requires.fits.0 c.requires.fits.1.1)
@@ -42,7 +42,7 @@ returns-clause-answers c =
     let is : as_set c.args.so_far.set ≡ tables c.put.new.self c.in_ok-id.id.0 = ap as_set c.in-Some.is ∙ sym (ap as_set c.in_ok-id.ensures.ok) in
     let same =
     safe_item_same c.args.self.now.bench.now.position.now
-    (game_of c.args.self.now.bench.now.position.now c.requires.fits.1.0 c.args.self.now.bench.now.few) c.put.new.self
+    (game_of c.requires.fits.1.0 c.args.self.now.bench.now.few) c.put.new.self
     c.args.self.now.stage.mask c.args.bearing.now
     (All-head (λ b. IsBearer c.args.self.now.bench.now.position.now.men c.args.self.now.stage.mask b.man b.ray b.king) c.args.bearing.now
     c.requires.fits.0 c.requires.fits.1.1)
@@ -59,7 +59,7 @@ returns-clause-fits c = λ rest (sound, all, set, room).
     let on : IsReachedOn (mask_tracks c.args.self.now.bench.now.position.now c.args.self.now.stage.mask) c.in-Some.source = rw c.in-Some.is at c.requires.fits.1.2 in
     let item =
     safe_item_on c.args.self.now.bench.now.position.now
-    (game_of c.args.self.now.bench.now.position.now c.requires.fits.1.0 c.args.self.now.bench.now.few) c.put.new.self
+    (game_of c.requires.fits.1.0 c.args.self.now.bench.now.few) c.put.new.self
     c.args.self.now.stage.mask c.args.bearing.now
     (All-head (λ b. IsBearer c.args.self.now.bench.now.position.now.men c.args.self.now.stage.mask b.man b.ray b.king) c.args.bearing.now
     c.requires.fits.0 c.requires.fits.1.1)
@@ -79,7 +79,7 @@ returns-in_err-made-clause-answers c =
     let is : as_set c.args.so_far.set ≡ tables c.put.new.self c.in_ok-id.id.0 = ap as_set c.in-Some.is ∙ sym (ap as_set c.in_ok-id.ensures.ok) in
     let same =
     safe_item_same c.args.self.now.bench.now.position.now
-    (game_of c.args.self.now.bench.now.position.now c.requires.fits.1.0 c.args.self.now.bench.now.few) c.put.new.self
+    (game_of c.requires.fits.1.0 c.args.self.now.bench.now.few) c.put.new.self
     c.args.self.now.stage.mask c.args.bearing.now
     (All-head (λ b. IsBearer c.args.self.now.bench.now.position.now.men c.args.self.now.stage.mask b.man b.ray b.king) c.args.bearing.now
     c.requires.fits.0 c.requires.fits.1.1)

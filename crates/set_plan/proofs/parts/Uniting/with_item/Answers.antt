@@ -14,7 +14,7 @@ returns-in_err-made-clause-answers g c =
     let error = rw (c.budget-budget.ensures.is ∙ c.in_ok-next.ensures.budget) at c.in_err-made.ensures.answers in
     let p = err_from_is_err_and c.from_residual-in_err-made.result c.from_residual-in_err-made.ensures.1 in
     rw (p.1, p.2)
-    (Error-later (plan.make it.part so_far.1 (item_of c.args.level.now.sets (tree_of c.args.f.now))) (plan.join it.tracks.now it.part so_far.0)
+    (Error-later {m = plan.make it.part so_far.1 (item_of c.args.level.now.sets (tree_of c.args.f.now))} (plan.join it.tracks.now it.part so_far.0)
     c.args.memo.now.budget (made_of c.in_ok-next.next) c.in_ok-next.ensures.answers c.in_err-made.field-0.0 error)
 
 pub returns-clause-answers : goal.returns-clause-answers

@@ -17,7 +17,7 @@ contains-requires c =
     let at : kept_at s c.args.ply (mask_of c.args.p.now) ≡ Some a =
     sym (kept_at-table s c.args.ply (mask_of c.args.p.now) c.masks.result.now c.kept_sets.result.now c.new.result c.masks.ensures.masks c.kept_sets.ensures.sets c.new.ensures) ∙ is in
     let formed = valid_formed s c.masks.ensures.valid c.args.ply (mask_of c.args.p.now) a at in
-    record { integers = formed.integers; count = tuple_count s.position.men c.args.p.now c.requires ∙ sym (ap length formed.tracks) }
+    record { integers = formed.integers; count = tuple_count c.requires ∙ sym (ap length formed.tracks) }
 
 pub returns : goal.returns
 returns c =

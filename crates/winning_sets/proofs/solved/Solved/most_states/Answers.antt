@@ -24,4 +24,4 @@ returns c =
     most_is c.args.self.now plies.valid c.loop-ply.most
     (λ i less. c.loop-ply.invariant.within i (omega (arith, less, plies.plies, c.loop-ply-test.false)))
     c.loop-ply.invariant.least in
-    record { most = most; few = most_few c.args.self.now plies.valid c.loop-ply.most most }
+    record { most = most; few = most_few plies.valid most }

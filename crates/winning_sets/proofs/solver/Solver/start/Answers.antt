@@ -71,7 +71,7 @@ invariant_of-self-2 c =
     let grows = grows-trans (take i.count i.work.sets) i.work.sets new (grows-take i.count i.work.sets) made.grows in
     let empties_are = subst (λ (ms : List ℕ). AreEmpties p.men ms empties) (c.as_slice.ensures.value ∙ c.in_ok-all.ensures.list) c.in_ok-empties.ensures in
     let first =
-    first_finished p i.work.memo.budget i.masks.items i.empties.items (take i.count i.work.sets) new masks empties ids is grows
+    first_finished new masks empties ids is grows
     c.in_ok-level.ensures.names c.in_ok-all.ensures.list empties_are c.in_ok-level.ensures.answers in
     let levels_are : c.push_level.new.levels.items ≡ ids ∷ [] = c.in_ok-push_level.ensures.ok ∙ ap (λ l. l ++ ids ∷ []) none in
     all_finished p i.work.memo.budget c.point_level.new.work.memo.budget masks empties new c.count-self-inside.result (ids ∷ [])
