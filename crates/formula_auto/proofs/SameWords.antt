@@ -8,10 +8,7 @@ use Rattle.track_word.specs.Tracks.{with_vars, without_var, part_of, restrict}
 use Rattle.auto_core.specs.Spread.{SameResidual, AlikeInBoth, LiftsInto, AlikeLifted, HasMoreClasses, BothSpreadExceeds, ExSpreadExceeds}
 use Rattle.auto_core.proofs.Restricted.{restrict-below}
 use Rattle.auto_bool.proofs.Spreads.{not_nil-map}
-use Rattle.auto_reduce.proofs.Leads as leads
-
-pub IsWord-append : (k : ℕ) (v letters : List ℕ) → IsWord k v → All (λ l. l < 2 ^ k) letters → IsWord k (v ++ letters)
-IsWord-append = leads.IsWord-append
+pub use Rattle.auto_reduce.proofs.Leads.{IsWord-append}
 
 pub IsWord-part : (all some : List Var) {v : List ℕ} → IsWord (length all) v → IsWord (length some) (part_of all some v)
 IsWord-part all some {v} is = record {
@@ -25,10 +22,10 @@ abbrev pub SameWords : ℕ → (List ℕ → Type 0) → (List ℕ → Type 0) �
 SameWords k F G = (word : List ℕ) → IsWord k word → F word ↔ G word
 
 pub SameResidual-same : {k : ℕ} (F : List ℕ → Type 0) {G : List ℕ → Type 0} {v w : List ℕ} → SameWords k F G → IsWord k v → IsWord k w → SameResidual k G v w → SameResidual k F v w
-SameResidual-same {k} F {G = G} {v} {w} same is_v is_w h = record {
+SameResidual-same F {G = G} {v} {w} same is_v is_w h = record {
   same = λ letters are.
-      let at_v = same (v ++ letters) (IsWord-append k v letters is_v are) in
-      let at_w = same (w ++ letters) (IsWord-append k w letters is_w are) in
+      let at_v = same (v ++ letters) (IsWord-append letters is_v are) in
+      let at_w = same (w ++ letters) (IsWord-append letters is_w are) in
       (λ p. at_w.1 ((h.same letters are).0 (at_v.0 p)), λ p. at_v.1 ((h.same letters are).1 (at_w.0 p)));
 }
 

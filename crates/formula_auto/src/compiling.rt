@@ -279,8 +279,7 @@ impl Memo {
         })
     }
 
-    /// The automaton of And of two sets: lent by the level, or made and remembered there, unless it is that of one of
-    /// them. No memo has it, since it names sets.
+    /// The automaton of And of two sets: lent by the level, or made and remembered there. No memo has it, since it names sets.
     #[cycle(compiled)]
     fn paired(
         &mut self,
@@ -304,17 +303,12 @@ impl Memo {
             });
         }
         let made = self.from_parts(alloc, f, level, course)?;
-        let done = made.done;
-        match made.part {
-            Part::Fresh(auto) => {
-                let place = level.remember(alloc, f, auto)?;
-                Ok(Remembered {
-                    part: Part::Paired(place),
-                    done,
-                })
-            }
-            part => Ok(Remembered { part, done }),
-        }
+        let auto = self.given(level, made.part)?;
+        let place = level.remember(alloc, f, auto)?;
+        Ok(Remembered {
+            part: Part::Paired(place),
+            done: made.done,
+        })
     }
 
     /// The automaton of a formula from those of its parts.

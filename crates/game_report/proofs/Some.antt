@@ -121,8 +121,8 @@ at_lines before read (cut front) g game turn none =
 at_lines before read long g game turn none =
     unless (read == most_lines) long (λ report. report ≡ ends (LongAt (before + read + 1)) [] long) (ends (LongAt (before + read + 1)) [] long, refl)
 
-pub at_turn : (before read : ℕ) (lines : Lines) {g : Game} → IsGame g → g.position.turn ≡ other g.solution.winner → Goes (AtTurn before read lines) g
-at_turn before read lines game turn =
+pub at_turn : (before read : ℕ) (lines : Lines) (g : Game) → IsGame g → g.position.turn ≡ other g.solution.winner → Goes (AtTurn before read lines) g
+at_turn before read lines g game turn =
     at_loser (AtLines before read lines) (λ next on his none. at_lines before read lines next on his none) lines game turn
 
 pub some_report : (before : ℕ) (lines : Lines) (g : Game) → IsGame g → (report : Report) × IsReport before lines (seen g) report
@@ -132,4 +132,4 @@ some_report before lines g game = by (side_or_other g.position.turn g.solution.w
     by (inl turn) =
         let on = at_winner (AtLines before 0 lines) (λ next on his none. at_lines before 0 lines next on his none) lines game turn in
         (on.0, inl (turn, on.1))
-    by (inr turn) = let on = at_turn before 0 lines game turn in (on.0, inr (turn, on.1))
+    by (inr turn) = let on = at_turn before 0 lines g game turn in (on.0, inr (turn, on.1))

@@ -50,8 +50,8 @@ module _ (e : ℕ → SetOf) (number : ℕ) (vars : List Var) (set : Automaton) 
         same = λ letters all.
             let few = subst (λ k. All (λ l. l < 2 ^ k) (read letters)) arity (letters-part over vars letters all) in
             let both = alike.same (read letters) few in
-            let at_v = says-read (IsWord-append (length over) v letters is_v all) in
-            let at_w = says-read (IsWord-append (length over) w letters is_w all) in
+            let at_v = says-read (IsWord-append letters is_v all) in
+            let at_w = says-read (IsWord-append letters is_w all) in
             let split_v = part-append over vars v letters in
             let split_w = part-append over vars w letters in (
               λ h. at_w.1 (subst (Accepts set) (sym split_w) (both.0 (subst (Accepts set) split_v (at_v.0 h)))),

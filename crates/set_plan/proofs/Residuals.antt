@@ -119,7 +119,7 @@ module _ (e : Sets) (x : Var) (g : Tree) where
       let (other, lifts, alike) = into at.first first in
       let after = all-last Below at.first at.last below in
       let there : IsLift some gs (w ++ letters) (other ++ at.last) = record {
-        is_word = IsWord-append (length gs) other at.last lifts.is_word after;
+        is_word = IsWord-append at.last lifts.is_word after;
         times = lifts.times;
         repeats = map-append cut other at.last ∙ ap (λ (l : List ℕ). l ++ map cut at.last) lifts.repeats ∙ ap (λ (l : List ℕ). repeated lifts.times w ++ l) at.last_is
             ∙ sym (repeated-append lifts.times w letters is_w.nonempty);
@@ -127,10 +127,10 @@ module _ (e : Sets) (x : Var) (g : Tree) where
       (other ++ at.last, there, (alike.same at.last after).0 (subst (Says g e) at.whole says))
 
   pub alike-Ex : {v w : List ℕ} → IsWord (length some) v → IsWord (length some) w → AlikeLifted some gs (Says g e) v w → SameResidual (length some) (Says (Ex x g) e) v w
-  alike-Ex {v} {w} is_v is_w alike = record {
+  alike-Ex is_v is_w alike = record {
     same = λ letters below.
-        let at_v = Says-Ex e x g (IsWord-append (length some) v letters is_v below) in
-        let at_w = Says-Ex e x g (IsWord-append (length some) w letters is_w below) in (
+        let at_v = Says-Ex e x g (IsWord-append letters is_v below) in
+        let at_w = Says-Ex e x g (IsWord-append letters is_w below) in (
           λ h. at_w.1 (lift_there letters is_v is_w alike.forth (at_v.0 h)),
           λ h. at_v.1 (lift_there letters is_w is_v alike.back (at_w.0 h)),
         );

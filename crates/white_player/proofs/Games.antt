@@ -345,9 +345,9 @@ goes_lost {g} (mv ∷ typed) games game turn (inr (q, legal, goes)) k after is =
     let all = winner_lost typed games reply his goes (λ next later kept turns on i at there. goes_lost typed later kept turns on i at there) k after is in
     record { same = all.same; made = (let count = all.made in omega (arith, count, none)); lost = all.lost }
 
-pub all_lost : {g : Game} (typed : List Move) (games : List Game) → IsGame g → Plays g typed games → EachLost g games
-all_lost typed games game (inl (turn, goes)) k after is = goes_lost typed games game turn goes k after is
-all_lost typed games game (inr (turn, goes)) k after is =
+pub all_lost : (g : Game) (typed : List Move) (games : List Game) → IsGame g → Plays g typed games → EachLost g games
+all_lost g typed games game (inl (turn, goes)) k after is = goes_lost typed games game turn goes k after is
+all_lost g typed games game (inr (turn, goes)) k after is =
     winner_lost typed games game turn goes (λ next later kept turns on i at there. goes_lost typed later kept turns on i at there) k after is
 
 -- the first game
@@ -380,7 +380,7 @@ lost_picked after c game turn pick legal is =
 pub whole_game : (s : Solution) (f : Frame) (typed : List Move) (games : List Game) → IsValid s → Value s.winner s.moves s.position → Plays (start_of s f) typed games
     → (k : ℕ) (after : Game) → slice_get games k ≡ Some after → (suc k ≤ s.moves) × Lost s.winner (s.moves - suc k) after.position
 whole_game s f typed games valid value plays k after is =
-    let all = all_lost typed games (first_game s f valid value) plays k after is in
+    let all = all_lost (start_of s f) typed games (first_game s f valid value) plays k after is in
     let moves : after.solution.moves ≡ s.moves = ap (λ t. t.moves) all.same in
     let made_is : made_in after ≡ 0 + suc k = all.made in
     let count = all.lost.count in

@@ -6,7 +6,6 @@ use Rattle.lin_formula.specs.Tree.{steps}
 use Rattle.lin_formula.specs.TreeOf.{tree_of}
 use Rattle.lin_formula.specs.SetOf.{tables, members}
 use Rattle.formula_auto.specs.Decides.{Decides}
-use Rattle.formula_auto.specs.PartOf.{IsPart}
 use Rattle.formula_auto.proofs.WithMemo.{remembered_not, interrupted_not, interrupted_at_not, remembered_ex, interrupted_ex, interrupted_at_ex, remembered_both, interrupted_left, interrupted_right, interrupted_at_both, interrupted_memory, interrupted_last, remembered_entered, interrupted_inside, may_enter, unknown_still}
 use Rattle.formula_auto.proofs.Connections.{size-connect, ready-connect}
 use Rattle.formula_auto.proofs.PartLemmas.{same_few, part-fresh, part-leaf, part-whole, part-found, part-after, lent, lent-reached, lent-few, few_kept, lent-later}
@@ -221,22 +220,26 @@ paired-returns-in-Some-clause-ok t c = part-paired (tree_of c.args.f.now) c.requ
 pub paired-from_parts-requires : goal.paired-from_parts-requires
 paired-from_parts-requires t c = (search rules, (pair_outside (tree_of c.args.f.now) c.requires.pair c.args.course.recall, (c.requires.same_budget, (c.requires.ready, c.requires.room))))
 
+pub paired-given-requires : goal.paired-given-requires
+paired-given-requires t c = (c.in_ok-made.ensures.ok.auto, c.in_ok-made.ensures.ok.has)
+
 pub paired-remember-requires : goal.paired-remember-requires
-paired-remember-requires t c =
-    let has : IsPart c.from_parts.new.self c.from_parts.new.level c.in_ok-made.made.part c.in-Fresh.auto = rw c.in-Fresh.is refl in
-    may_remember (tree_of c.args.f.now) c.requires.pair c.in_ok-made.ensures.ok c.requires.same_budget c.from_parts.ensures.grows has
+paired-remember-requires t c = may_remember (tree_of c.args.f.now) c.requires.pair c.in_ok-made.ensures.ok c.requires.same_budget c.from_parts.ensures.grows c.in_ok-auto.ensures
 
 pub paired-returns-in_err-made-clause-err : goal.paired-returns-in_err-made-clause-err
 paired-returns-in_err-made-clause-err t c =
     let p = err_from_is_err_and c.from_residual.result c.from_residual.ensures.1 in
     rw (p.1, p.2) c.in_err-made.ensures.err
 
+pub paired-returns-in_err-auto-clause-err : goal.paired-returns-in_err-auto-clause-err
+paired-returns-in_err-auto-clause-err t c =
+    let p = err_from_is_err_and c.from_residual-in_err-auto.result c.from_residual-in_err-auto.ensures.1 in
+    rw p.1 (interrupted_last c.in_ok-made.ensures.ok.remembered p.2)
+
 pub paired-returns-in_err-place-clause-err : goal.paired-returns-in_err-place-clause-err
 paired-returns-in_err-place-clause-err t c =
     let p = err_from_is_err_and c.from_residual-in_err-place.result c.from_residual-in_err-place.ensures.1 in
     rw p.1 (interrupted_last c.in_ok-made.ensures.ok.remembered p.2)
 
-pub paired-returns-in-Fresh-clause-ok : goal.paired-returns-in-Fresh-clause-ok
-paired-returns-in-Fresh-clause-ok t c =
-    let has : IsPart c.from_parts.new.self c.from_parts.new.level c.in_ok-made.made.part c.in-Fresh.auto = rw c.in-Fresh.is refl in
-    part-remembered (tree_of c.args.f.now) c.requires.pair c.in_ok-made.ensures.ok has c.in_ok-place.ensures.there
+pub paired-returns-clause-ok : goal.paired-returns-clause-ok
+paired-returns-clause-ok t c = part-remembered (tree_of c.args.f.now) c.requires.pair c.in_ok-made.ensures.ok c.in_ok-auto.ensures c.in_ok-place.ensures.there
