@@ -82,7 +82,11 @@ module _ (a z : Square) (r : Ray) (ox oy ux uy : ℤ) (is_ox : ox ≡ z.x -ℤ a
       record {
         begun = omega arith;
         one = λ no. refl;
-        leads = times_from a z {dx = r.dx} {dy = r.dy} {ox = ox} {oy = oy} {t = 1} is_ox is_oy (record { positive = omega arith; right = same.0 ∙ is_ux ∙ sym (once r.dx); up = same.1 ∙ is_uy ∙ sym (once r.dy) });
+        leads = times_from a z {dx = r.dx} {dy = r.dy} {ox = ox} {oy = oy} {t = 1} is_ox is_oy (record {
+          positive = omega arith;
+          right = same.0 ∙ is_ux ∙ sym (once r.dx);
+          up = same.1 ∙ is_uy ∙ sym (once r.dy);
+        });
       }
 
   pub at_leap : (t : ℕ) → r.far ≡ false → IsAt r t a z → (ox ≡ ux) × (oy ≡ uy)

@@ -1,5 +1,5 @@
 -- What a formula asks of the table of sets, and what compiling it answers.
-use Rattle.std.specs.Prelude.{◌≡◌, ℕ, ◌+◌, ◌≤◌, List, length, All, Result, Ok, Err, Some, None, slice_get}
+use Rattle.std.specs.Prelude.{◌≡◌, ℕ, ◌+◌, ◌≤◌, List, length, All, Some, None, slice_get}
 use Rattle.limits.specs.declared.numbers.TheConstants.{MOST_TRACKS}
 use Rattle.auto_core.specs.Automaton.{Automaton}
 use Rattle.auto_core.specs.Reduced.{AllReached, IsReduced}
@@ -56,7 +56,3 @@ abbrev pub IsCompileError : Tree → (ℕ → SetOf) → ℕ → ℕ → Compile
 IsCompileError f e before budget (compile_error.Over step) =
     FirstOver (steps f) (members e) budget (before + 1) (Some step)
 IsCompileError f e before budget compile_error.Memory = Unit {0}
-
-abbrev pub Compiles : Tree → (ℕ → SetOf) → ℕ → ℕ → Result Automaton CompileError → Type 0
-Compiles f e before budget (Ok a) = IsCompiled f e before budget a
-Compiles f e before budget (Err why) = IsCompileError f e before budget why
