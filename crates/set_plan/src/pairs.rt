@@ -5,7 +5,7 @@ ghost use Rattle.set_plan.specs.Program.{IsSetOf, LastExceeds};
 ghost use Rattle.set_plan.specs.Sets.{IsSetOn, IsReachedOn, IsReductionOf};
 ghost use Rattle.set_plan.specs.Unite.{difference as difference_of, either as either_of};
 
-use auto_bool::{Operand, difference, join, join_operand, join_within};
+use auto_bool::{difference, join, join_within};
 use auto_core::Auto;
 use auto_merge::merge;
 use auto_reduce::reduce;
@@ -33,30 +33,6 @@ pub fn either(
     let _ = budget.states(); // for its invariant
     let c = join(alloc, a, b, budget)?;
     Ok(reduce(alloc, &c)?)
-}
-
-/// As `either_reached`, of sets that are given away: where one of them has all tuples, or the other has none, it is
-/// handed on as it is.
-pub fn united(
-    alloc: Global,
-    tracks: &[Var],
-    a: Auto,
-    b: Auto,
-    budget: Budget,
-) -> Result<Auto, Grown>
-    requires first { IsReachedOn tracks.now a }
-    requires second { IsReachedOn tracks.now b }
-    ensures ok { IfOk result (λ c. IsSetOf (either_of tracks.now (Table a) (Table b)) (Table c)) }
-    ensures set { IfOk result (IsReachedOn tracks.now) }
-    ensures within { OnOk result (¬ LastExceeds (either_of tracks.now (Table a) (Table b)) budget) }
-    ensures over { result ≡ Err Grown.Over → LastExceeds (either_of tracks.now (Table a) (Table b)) budget }
-{
-    let _ = a.tracks(); // for its invariant
-    match join_operand(&a, &b, budget) {
-        Some(Operand::Left) => Ok(a),
-        Some(Operand::Right) => Ok(b),
-        None => either_reached(alloc, tracks, &a, &b, budget),
-    }
 }
 
 /// As `either`, of two sets that need not be reduced. Nor is what they make, whose states are merged in one pass. Only where the pairs
