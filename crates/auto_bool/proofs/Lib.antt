@@ -4,4 +4,5 @@ pub mod AbsorbedPairs
 pub mod PairLemmas
 pub mod Spreads
 pub mod OperandLemmas
+pub mod SingleStates
 pub mod Complements

@@ -1,5 +1,5 @@
 -- Products of which one of the two automata accepts all words or none, or that are of an automaton with itself.
-use Rattle.std.proofs.Common.{◌≡◌, ◌↔◌, ℕ, ◌<◌, ◌≤◌, ◌*◌, Bool, true, false, true≢false, List, length, arith, sym, ap, ◌∙◌, subst, inl, inr}
+use Rattle.std.proofs.Common.{◌≡◌, ◌↔◌, ℕ, ◌<◌, ◌≤◌, ◌*◌, Bool, false, true≢false, List, length, arith, sym, ap, ◌∙◌, subst, inl, inr}
 use Rattle.std.proofs.Math.Nat.{mul-le-mul_left}
 use Rattle.track_word.specs.Word.{IsWord}
 use Rattle.track_word.specs.Tracks.{with_vars, part_of}
@@ -10,7 +10,7 @@ use Rattle.auto_bool.specs.declared.connective.Connective.TheVariants.{And, Or, 
 use Rattle.auto_bool.specs.declared.operand.Operand.{Operand}
 use Rattle.auto_bool.specs.declared.operand.Operand.TheVariants.{Left, Right}
 use Rattle.auto_bool.specs.Words.{AcceptsBy, StepExceeds}
-use Rattle.auto_bool.specs.Operands.{IsConstant, Yields, IsAtHand, IsOperand, IsProductWithin}
+use Rattle.auto_bool.specs.Operands.{IsConstant, Yields, IsAtHand, IsOperand, IsProductWithin, IsNothingLeft}
 use Rattle.auto_bool.proofs.TrackLemmas.{with_vars-left, with_vars-right, AreAmong-itself, part_of-whole}
 use Rattle.auto_bool.proofs.Spreads.{few_twice}
 
@@ -22,7 +22,7 @@ flag_of-constant {a} valid constant word =
     let first : state_of a word ≡ 0 = omega (arith, within, single) in
     ap (is_final a) first ∙ constant.flagged
 
-accepts-none : {a : Automaton} → IsAutomaton a → IsConstant a false → (word : List ℕ) → Accepts a word → ⊥
+pub accepts-none : {a : Automaton} → IsAutomaton a → IsConstant a false → (word : List ℕ) → Accepts a word → ⊥
 accepts-none valid none word h = true≢false (sym h ∙ flag_of-constant valid none word)
 
 -- a word over the automaton's tracks is its own part on them
@@ -98,5 +98,13 @@ module _ (a : Automaton) (valid : IsAutomaton a) (budget : ℕ) (room : length a
       λ h. elim h [ inl left ↦ (accepts-whole valid is).1 left | inr right ↦ (accepts-whole valid is).1 right ],
     );
     few = room;
+    within = few_twice valid budget room;
+  }
+
+  pub neither-itself : IsNothingLeft a budget
+  neither-itself n none = record {
+    tracks = none.tracks ∙ sym twice;
+    words = λ word is. (λ h. absurd (none.words word is h), λ h. absurd (h.1 h.0));
+    few = let single = none.single in let some = valid.some_state in omega (arith, single, some, room);
     within = few_twice valid budget room;
   }

@@ -1,7 +1,9 @@
 -- Products that are one of the two automata.
-use Rattle.std.specs.Prelude.{◌≡◌, ◌⊎◌, ◌≤◌, ◌*◌, ℕ, Bool, true, false, length}
+use Rattle.std.specs.Prelude.{◌≡◌, ◌⊎◌, ◌≤◌, ◌*◌, ℕ, Bool, true, false, List, length}
+use Rattle.track_word.specs.Word.{IsWord}
 use Rattle.track_word.specs.Tracks.{with_vars}
-use Rattle.auto_core.specs.Automaton.{Automaton, is_final}
+use Rattle.auto_core.specs.Automaton.{Automaton, Accepts, is_final}
+use Rattle.auto_core.specs.Reduced.{AllReached}
 use Rattle.auto_bool.specs.declared.connective.Connective.{Connective}
 use Rattle.auto_bool.specs.declared.connective.Connective.TheVariants.{And, Or, AndNot}
 use Rattle.auto_bool.specs.declared.operand.Operand.{Operand}
@@ -34,12 +36,23 @@ pub record IsAtHand (a b : Automaton) (connective : Connective) (budget : ℕ) (
   pub among : AreAmong (operand_of operand a b).tracks (operand_of operand b a).tracks
   pub room : length a.accept * length b.accept ≤ budget
 
+-- over the tracks of the first automaton the second accepts no word, by a single state, to which words lead
+pub record IsNoneOf (a n : Automaton) : Type 0 where
+  pub tracks : n.tracks ≡ a.tracks
+  pub single : length n.accept ≡ 1
+  pub reached : AllReached n
+  pub words : (word : List ℕ) → IsWord (length n.tracks) word → ¬ Accepts n word
+
 -- the automaton is the product of the two, and neither it nor the step on the two exceeds the budget
 pub record IsProductWithin (a b : Automaton) (connective : Connective) (budget : ℕ) (m : Automaton) : Type 0 where
   pub tracks : m.tracks ≡ with_vars a.tracks b.tracks
   pub words : AcceptsBy connective a b m
   pub few : length m.accept ≤ budget
   pub within : ¬ StepExceeds a b budget
+
+-- each automaton that accepts no word is the product of the automaton without itself
+abbrev pub IsNothingLeft : Automaton → ℕ → Type 0
+IsNothingLeft a budget = (n : Automaton) → IsNoneOf a n → IsProductWithin a a AndNot budget n
 
 -- the operand is such an automaton
 abbrev pub IsOperand : Automaton → Automaton → Connective → ℕ → Operand → Type 0

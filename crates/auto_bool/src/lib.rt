@@ -7,11 +7,14 @@
 mod both;
 mod complement;
 mod connective;
+mod nothing;
 mod operand;
 mod product;
 mod side;
 mod sink;
 
 pub use complement::not;
-pub use operand::{Operand, difference_operand, fits_with_itself, join_operand, meet_operand};
+pub use connective::Connective;
+pub use nothing::none_of;
+pub use operand::{Operand, fits_with_itself, operand_by};
 pub use product::{difference, difference_within, join, join_within, meet, meet_within};

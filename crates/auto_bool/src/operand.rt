@@ -1,7 +1,7 @@
 //! Products that are one of the two automata, so that none has to be made.
 ghost use Rattle.std.specs.Prelude.{◌≡◌, ◌≤◌, ◌↔◌, length, IsTrue, IsSome, IfSome};
 ghost use Rattle.auto_bool.specs.Sides.{AreAmong};
-ghost use Rattle.auto_bool.specs.Operands.{IsConstant, Yields, IsAtHand, IsOperand, IsProductWithin};
+ghost use Rattle.auto_bool.specs.Operands.{operand_of, IsConstant, Yields, IsAtHand, IsOperand, IsProductWithin, IsNothingLeft};
 
 use crate::connective::Connective;
 use crate::product::pairs_fit;
@@ -16,33 +16,23 @@ pub enum Operand {
     Right,
 }
 
-/// Which of the two automata `meet_within` would make again, if either: the other one accepts all words, or it accepts
-/// none itself, by a single state. It has to have the tracks of both, and the budget room for all pairs of states.
+impl Operand {
+    /// The one of two values that is meant.
+    pub fn of<T: Drop>(self, left: T, right: T) -> T
+        ensures { result ≡ operand_of self left right }
+    {
+        match self {
+            Operand::Left => left,
+            Operand::Right => right,
+        }
+    }
+}
+
+/// Which of the two automata their bounded product by this connective would make again, if either: one of them accepts
+/// all words or none, by a single state, so that the product has the words of the other, or none, or all. What is
+/// answered has the tracks of both, and the budget has room for all pairs of states.
 /// Costs no more than comparing the tracks.
-pub fn meet_operand(a: &Auto, b: &Auto, budget: Budget) -> Option<Operand>
-    ensures is { IfSome result (IsOperand a.now b.now Connective.And budget) }
-    ensures found { (operand : Operand) → IsAtHand a.now b.now Connective.And budget operand → IsSome result }
-{
-    operand_by(a, b, Connective::And, budget)
-}
-
-/// As `meet_operand` of `join_within`: the other one accepts no word, or it accepts all itself.
-pub fn join_operand(a: &Auto, b: &Auto, budget: Budget) -> Option<Operand>
-    ensures is { IfSome result (IsOperand a.now b.now Connective.Or budget) }
-    ensures found { (operand : Operand) → IsAtHand a.now b.now Connective.Or budget operand → IsSome result }
-{
-    operand_by(a, b, Connective::Or, budget)
-}
-
-/// As `meet_operand` of `difference_within`: `a`, where either of the two accepts no word. It is never `b`.
-pub fn difference_operand(a: &Auto, b: &Auto, budget: Budget) -> Option<Operand>
-    ensures is { IfSome result (IsOperand a.now b.now Connective.AndNot budget) }
-    ensures found { (operand : Operand) → IsAtHand a.now b.now Connective.AndNot budget operand → IsSome result }
-{
-    operand_by(a, b, Connective::AndNot, budget)
-}
-
-fn operand_by(a: &Auto, b: &Auto, connective: Connective, budget: Budget) -> Option<Operand>
+pub fn operand_by(a: &Auto, b: &Auto, connective: Connective, budget: Budget) -> Option<Operand>
     ensures is { IfSome result (IsOperand a.now b.now connective budget) }
     ensures found { (operand : Operand) → IsAtHand a.now b.now connective budget operand → IsSome result }
 {
@@ -98,12 +88,14 @@ fn are_among(all: &[Var], some: &[Var]) -> bool
     true
 }
 
-/// Whether the budget has room for `meet_within` and `join_within` of the automaton with itself, either of which is that
-/// automaton. A word leads to a pair of one state twice, so there are no more such pairs than states.
+/// Whether the budget has room for the bounded products of the automaton with itself. And and Or of it with itself are
+/// the automaton, and it without itself is the automaton that accepts no word. A word leads to a pair of one state
+/// twice, so there are no more such pairs than states.
 pub fn fits_with_itself(a: &Auto, budget: Budget) -> bool
     ensures room { IsTrue result ↔ (length a.now.accept ≤ budget) }
     ensures both { IsTrue result → IsProductWithin a.now a.now Connective.And budget a.now }
     ensures either { IsTrue result → IsProductWithin a.now a.now Connective.Or budget a.now }
+    ensures neither { IsTrue result → IsNothingLeft a.now budget }
 {
     a.states() <= budget.states()
 }

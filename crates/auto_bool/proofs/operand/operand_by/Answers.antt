@@ -1,4 +1,3 @@
-use Rattle.std.proofs.Common.{rules}
 use Rattle.auto_bool.specs.declared.operand.Operand.TheVariants.{Left, Right}
 use Rattle.auto_bool.proofs.OperandLemmas.{IsOperand-at_hand}
 use Rattle.auto_bool.proofs.operand.operand_by.Goals as goal
