@@ -13,7 +13,7 @@ use Rattle.formula_auto.specs.Compiled.{IsMade, IsCompileError}
 use Rattle.formula_auto.specs.StepError.{step_error}
 use Rattle.auto_bool.specs.Words.{StepExceeds}
 use Rattle.auto_project.specs.Lifted.{ForgettingExceeds}
-use Rattle.formula_auto.specs.declared.connective.Connective.{Connective}
+use Rattle.auto_bool.specs.declared.connective.Connective.{Connective}
 use Rattle.formula_auto.specs.declared.errors.CompileError.{CompileError}
 use Rattle.formula_auto.specs.declared.errors.CompileError.TheVariants as compile_error
 use Rattle.formula_auto.proofs.FirstOvers.{FirstOver-append, FirstOver-over}

@@ -7,8 +7,8 @@ use Rattle.lin_formula.specs.Tree as tree
 use Rattle.lin_formula.specs.Tree.{Tree, steps, free_vars}
 use Rattle.formula_auto.specs.Connected.{connect}
 use Rattle.formula_auto.specs.Ready.{IsReady}
-use Rattle.formula_auto.specs.declared.connective.Connective.{Connective}
-use Rattle.formula_auto.specs.declared.connective.Connective.TheVariants.{And, Or, AndNot}
+use Rattle.auto_bool.specs.declared.connective.Connective.{Connective}
+use Rattle.auto_bool.specs.declared.connective.Connective.TheVariants.{And, Or, AndNot}
 use Rattle.formula_auto.proofs.PlainLemmas.{both_fit}
 
 pub steps-connect : (connective : Connective) (f g : Tree) → steps (connect connective f g) ≡ steps f ++ steps g ++ connect connective f g ∷ []

@@ -7,8 +7,8 @@ use Rattle.lin_formula.specs.Tree.{Tree, Not, Ex, free_vars}
 use Rattle.lin_formula.specs.Holds.{Sets}
 use Rattle.formula_auto.specs.Connected.{connect}
 use Rattle.formula_auto.specs.Decides.{Decides}
-use Rattle.formula_auto.specs.declared.connective.Connective.{Connective}
-use Rattle.formula_auto.specs.declared.connective.Connective.TheVariants.{And, Or, AndNot}
+use Rattle.auto_bool.specs.declared.connective.Connective.{Connective}
+use Rattle.auto_bool.specs.declared.connective.Connective.TheVariants.{And, Or, AndNot}
 use Rattle.auto_core.specs.Spread.{SameResidual, AlikeInBoth, BothSpreadExceeds, ExSpreadExceeds}
 use Rattle.formula_auto.specs.Step.{Says, Exceeds}
 use Rattle.formula_auto.proofs.SameWords.{SameWords, more_classes, BothSpread-same, ExSpread-same}

@@ -1,53 +1,43 @@
 -- Steps whose automaton is that of one of their parts.
-use Rattle.std.proofs.Common.{◌≡◌, ℕ, ◌+◌, ◌≤◌, List, length, Option, None, Some, false, sym, ◌∙◌, subst}
-use Rattle.std.specs.Prelude.{IfSome}
+use Rattle.std.proofs.Common.{◌≡◌, ℕ, ◌+◌, ◌≤◌, ◌⊎◌, length, Some, false, refl, sym, ◌∙◌, subst}
 use Rattle.std.specs.List.{slice_get}
 use Rattle.auto_core.specs.Automaton.{Automaton}
 use Rattle.auto_core.specs.Reduced.{AllReached}
-use Rattle.auto_bool.specs.declared.connective.Connective.TheVariants as product
+use Rattle.track_word.specs.Tracks.{with_vars}
 use Rattle.auto_bool.specs.declared.operand.Operand.{Operand}
 use Rattle.auto_bool.specs.declared.operand.Operand.TheVariants.{Left, Right}
-use Rattle.auto_bool.specs.Operands.{operand_of, IsProductWithin}
+use Rattle.auto_bool.specs.Words.{AcceptsBy}
+use Rattle.auto_bool.specs.Operands.{operand_of, IsAtHand, IsOperand, IsNoneOf, IsProductWithin, IsNothingLeft}
 use Rattle.lin_formula.specs.SetOf.{SetOf, members}
 use Rattle.lin_formula.specs.TreeOf.{tree_of}
 use Rattle.formula_auto.specs.Connected.{connected}
-use Rattle.formula_auto.specs.Nodes.{IsStepWithin}
+use Rattle.formula_auto.specs.Nodes.{IsStepWithin, DecidesBoth}
 use Rattle.formula_auto.specs.LevelState.{LevelState, LevelGrows}
 use Rattle.formula_auto.specs.MemoState.{MemoState}
 use Rattle.formula_auto.specs.Recalled.{is_recalled, MayBeOneStep}
-use Rattle.formula_auto.specs.PartOf.{IsPart, IsSamePlace, IsOperandOf, IsRememberedPart}
-use Rattle.formula_auto.specs.declared.connective.Connective.{Connective}
-use Rattle.formula_auto.specs.declared.connective.Connective.TheVariants.{And, Or, AndNot}
-use Rattle.formula_auto.specs.declared.connective.Pair.{Pair}
+use Rattle.formula_auto.specs.PartOf.{IsPart, IsSamePlace, IsRememberedPart}
+use Rattle.formula_auto.specs.Shortcuts.{Serves, with_itself, IsShortcutOf, IsSeen}
+use Rattle.auto_bool.specs.declared.connective.Connective.{Connective}
+use Rattle.auto_bool.specs.declared.connective.Connective.TheVariants.{And, Or, AndNot}
+use Rattle.formula_auto.specs.declared.pair.Pair.{Pair}
 use Rattle.formula_auto.specs.declared.course.Course.{Course}
 use Rattle.formula_auto.specs.declared.part.Part.{Part}
 use Rattle.formula_auto.specs.declared.part.Part.TheVariants.{Fresh, Kept, Paired, Named}
 use Rattle.formula_auto.specs.declared.part.Remembered.{Remembered}
+use Rattle.formula_auto.specs.declared.shortcut.Shortcut.{Shortcut}
+use Rattle.formula_auto.specs.declared.shortcut.Shortcut.TheVariants as shortcut
 use Rattle.formula_auto.proofs.Parts.{Decides-And, Decides-Or, Decides-AndNot}
 use Rattle.formula_auto.proofs.PartLemmas.{one_automaton, part-after, same_few}
 use Rattle.formula_auto.proofs.WithMemo.{remembered_both}
 
 -- a product serves as the step
-pub step-And : {a b m : Automaton} {budget : ℕ} → IsProductWithin a b product.And budget m → IsStepWithin And a b budget m
-step-And {a} {b} {m} made = record {
-  decides = λ f g e left right. Decides-And (members e) f g a b m left right made.tracks made.words;
-  few = made.few;
-  within = made.within;
-}
+decides-by : (connective : Connective) {a b m : Automaton} → m.tracks ≡ with_vars a.tracks b.tracks → AcceptsBy connective a b m → DecidesBoth connective a b m
+decides-by And {a} {b} {m} tracks words = λ f g e left right. Decides-And (members e) f g a b m left right tracks words
+decides-by Or {a} {b} {m} tracks words = λ f g e left right. Decides-Or (members e) f g a b m left right tracks words
+decides-by AndNot {a} {b} {m} tracks words = λ f g e left right. Decides-AndNot (members e) f g a b m left right tracks words
 
-pub step-Or : {a b m : Automaton} {budget : ℕ} → IsProductWithin a b product.Or budget m → IsStepWithin Or a b budget m
-step-Or {a} {b} {m} made = record {
-  decides = λ f g e left right. Decides-Or (members e) f g a b m left right made.tracks made.words;
-  few = made.few;
-  within = made.within;
-}
-
-pub step-AndNot : {a b m : Automaton} {budget : ℕ} → IsProductWithin a b product.AndNot budget m → IsStepWithin AndNot a b budget m
-step-AndNot {a} {b} {m} made = record {
-  decides = λ f g e left right. Decides-AndNot (members e) f g a b m left right made.tracks made.words;
-  few = made.few;
-  within = made.within;
-}
+step-product : (connective : Connective) {a b m : Automaton} {budget : ℕ} → IsProductWithin a b connective budget m → IsStepWithin connective a b budget m
+step-product connective made = record { decides = decides-by connective made.tracks made.words; few = made.few; within = made.within }
 
 -- at one place stands one automaton
 part-same_place : (m : MemoState) (l : LevelState) (left right : Part) (b : Automaton) → IsSamePlace left right → IsPart m l right b → IsPart m l left b
@@ -68,45 +58,74 @@ part-same_place m l (Named set) (Kept other) b same has = absurd same
 part-same_place m l (Named set) (Paired other) b same has = absurd same
 part-same_place m l (Named set) (Named other) b same has = subst (λ n. slice_get l.sets n ≡ Some b) (sym same) has
 
-module _ (connective : Connective) (m : MemoState) (l : LevelState) (left right : Part) (a : Automaton) (has_left : IsPart m l left a) where
-  pub operand-itself : IsSamePlace left right → IsStepWithin connective a a m.budget a → IsOperandOf connective m l left right Left
-  operand-itself same step = λ p q is_p is_q.
-      let first = one_automaton m l left a p has_left is_p in
-      let second = one_automaton m l left a q has_left (part-same_place m l left right q same is_q) in
-      subst (λ x. IsStepWithin connective p x m.budget p) second (subst (λ x. IsStepWithin connective x a m.budget x) first step)
+-- so that what serves an automaton and itself serves both parts there
+serves-itself : (connective : Connective) (a : Automaton) (budget : ℕ) → IsProductWithin a a And budget a → IsProductWithin a a Or budget a
+    → IsNothingLeft a budget → Serves connective a a budget (with_itself connective)
+serves-itself And a budget both either neither = step-product And both
+serves-itself Or a budget both either neither = step-product Or either
+serves-itself AndNot a budget both either neither = λ n none. step-product AndNot (neither n none)
 
-  pub operand-seen : (b : Automaton) → IsPart m l right b → (o : Option Operand) → IfSome o (λ operand. IsStepWithin connective a b m.budget (operand_of operand a b))
-      → IfSome o (IsOperandOf connective m l left right)
-  operand-seen b has_right None step = step
-  operand-seen b has_right (Some operand) step = λ p q is_p is_q.
+module _ (connective : Connective) (m : MemoState) (l : LevelState) (left right : Part) (a b : Automaton) (has_left : IsPart m l left a) (has_right : IsPart m l right b) where
+  shortcut-serves : (shortcut : Shortcut) → Serves connective a b m.budget shortcut → IsShortcutOf connective m l left right shortcut
+  shortcut-serves shortcut serves = λ p q is_p is_q.
       let first = one_automaton m l left a p has_left is_p in
       let second = one_automaton m l right b q has_right is_q in
-      subst (λ y. IsStepWithin connective p y m.budget (operand_of operand p y)) second
-      (subst (λ x. IsStepWithin connective x b m.budget (operand_of operand x b)) first step)
+      subst (λ y. Serves connective p y m.budget shortcut) second (subst (λ x. Serves connective x b m.budget shortcut) first serves)
 
-part-operand : (operand : Operand) (m : MemoState) (l : LevelState) (left right : Part) (a b : Automaton) → IsPart m l left a → IsPart m l right b
+  pub shortcut-itself : IsSamePlace left right → IsProductWithin a a And m.budget a → IsProductWithin a a Or m.budget a
+      → IsNothingLeft a m.budget → IsShortcutOf connective m l left right (with_itself connective)
+  shortcut-itself same both either neither =
+      let one = one_automaton m l left a b has_left (part-same_place m l left right b same has_right) in
+      shortcut-serves (with_itself connective) (subst (λ x. Serves connective a x m.budget (with_itself connective)) one (serves-itself connective a m.budget both either neither))
+
+  pub shortcut-operand : (operand : Operand) → IsOperand a b connective m.budget operand → IsShortcutOf connective m l left right (shortcut.Operand operand)
+  shortcut-operand operand is = shortcut-serves (shortcut.Operand operand) (step-product connective is)
+
+  -- where it is seen, one of the two ways finds it
+  pub seen-way : IsSeen connective m l left right
+      → (IsSamePlace left right × (length a.accept ≤ m.budget)) ⊎ ((operand : Operand) × IsAtHand a b connective m.budget operand)
+  seen-way is =
+      let first = one_automaton m l left is.first a is.has_first has_left in
+      let second = one_automaton m l right is.second b is.has_second has_right in
+      subst (λ y. (IsSamePlace left right × (length a.accept ≤ m.budget)) ⊎ ((operand : Operand) × IsAtHand a y connective m.budget operand)) second
+      (subst (λ x. (IsSamePlace left right × (length x.accept ≤ m.budget)) ⊎ ((operand : Operand) × IsAtHand x is.second connective m.budget operand)) first is.seen)
+
+has-operand : (operand : Operand) (m : MemoState) (l : LevelState) (left right : Part) (a b : Automaton) → IsPart m l left a → IsPart m l right b
     → IsPart m l (operand_of operand left right) (operand_of operand a b)
-part-operand Left m l left right a b has_left has_right = has_left
-part-operand Right m l left right a b has_left has_right = has_right
+has-operand Left m l left right a b has_left has_right = has_left
+has-operand Right m l left right a b has_left has_right = has_right
 
 reached-operand : (operand : Operand) (a b : Automaton) → AllReached a → AllReached b → AllReached (operand_of operand a b)
 reached-operand Left a b left right = left
 reached-operand Right a b left right = right
 
--- the part of the operand serves as what the step makes
+-- a part whose automaton serves is what the step makes
 module _ (pair : Pair) {e : ℕ → SetOf} {course : Course} {m0 m1 m2 : MemoState} {l k : LevelState} {left right : Remembered}
     (outside : is_recalled course.recall (connected pair) ≡ false) (one : MayBeOneStep course.recall pair.connective (tree_of pair.right.now))
     (first : IsRememberedPart (tree_of pair.left.now) e course m0 m1 l left)
     (second : IsRememberedPart (tree_of pair.right.now) e (record course { before = left.done }) m1 m2 k right) where
-  pub part-chosen : (operand : Operand) → LevelGrows l k → IsOperandOf pair.connective m2 k left.part right.part operand
+  part-made : (c : Automaton) (part : Part) → IsPart m2 k part c → AllReached c → IsStepWithin pair.connective first.auto second.auto m2.budget c
+      → IsRememberedPart (connected pair) e course m0 m2 k (record { part = part; done = right.done + 1 })
+  part-made c part has reached made = record {
+    auto = c;
+    has = has;
+    reached = reached;
+    few = λ some. same_few c (second.remembered.after.budget ∙ first.remembered.after.budget) made.few;
+    remembered = remembered_both pair outside one first.remembered second.remembered made.decides made.within;
+  }
+
+  pub part-operand : (operand : Operand) → LevelGrows l k → IsShortcutOf pair.connective m2 k left.part right.part (shortcut.Operand operand)
       → IsRememberedPart (connected pair) e course m0 m2 k (record { part = operand_of operand left.part right.part; done = right.done + 1 })
-  part-chosen operand grows step =
+  part-operand operand grows serves =
       let still = part-after left.part first.auto first.has second.remembered.after grows in
-      let made = step first.auto second.auto still second.has in
-      record {
-        auto = operand_of operand first.auto second.auto;
-        has = part-operand operand m2 k left.part right.part first.auto second.auto still second.has;
-        reached = reached-operand operand first.auto second.auto first.reached second.reached;
-        few = λ some. same_few (operand_of operand first.auto second.auto) (second.remembered.after.budget ∙ first.remembered.after.budget) made.few;
-        remembered = remembered_both pair outside one first.remembered second.remembered made.decides made.within;
-      }
+      part-made (operand_of operand first.auto second.auto) (operand_of operand left.part right.part)
+      (has-operand operand m2 k left.part right.part first.auto second.auto still second.has)
+      (reached-operand operand first.auto second.auto first.reached second.reached)
+      (serves first.auto second.auto still second.has)
+
+  pub part-nothing : {a n : Automaton} → LevelGrows l k → IsPart m2 k left.part a → IsNoneOf a n → IsShortcutOf pair.connective m2 k left.part right.part shortcut.Nothing
+      → IsRememberedPart (connected pair) e course m0 m2 k (record { part = Fresh n; done = right.done + 1 })
+  part-nothing {a} {n} grows has none serves =
+      let still = part-after left.part first.auto first.has second.remembered.after grows in
+      let same = one_automaton m2 k left.part a first.auto has still in
+      part-made n (Fresh n) refl none.reached (serves first.auto second.auto still second.has n (subst (λ x. IsNoneOf x n) same none))

@@ -6,8 +6,8 @@ use Rattle.formula_auto.specs.Recalled.{is_recalled, recalled_within, recalled_p
 use Rattle.formula_auto.specs.MemoState.{MemoState, known, counted, with_entry, Passes, IsMemoAfter}
 use Rattle.formula_auto.specs.Remembered.{IsStopped}
 use Rattle.formula_auto.specs.Connected.{connect}
-use Rattle.formula_auto.specs.declared.connective.Connective.{Connective}
-use Rattle.formula_auto.specs.declared.connective.Connective.TheVariants as connective
+use Rattle.auto_bool.specs.declared.connective.Connective.{Connective}
+use Rattle.auto_bool.specs.declared.connective.Connective.TheVariants as connective
 use Rattle.formula_auto.specs.declared.course.Course.{Course}
 use Rattle.formula_auto.specs.declared.course.Recall.{Recall}
 use Rattle.formula_auto.specs.declared.course.Recall.TheVariants as recall

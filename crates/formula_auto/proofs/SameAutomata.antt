@@ -10,7 +10,7 @@ use Rattle.formula_auto.specs.Decides.{Decides}
 use Rattle.auto_bool.specs.Words.{StepExceeds}
 use Rattle.auto_project.specs.Lifted.{ForgettingExceeds}
 use Rattle.formula_auto.specs.Nodes.{AcceptSame, DecidesEx, DecidesBoth}
-use Rattle.formula_auto.specs.declared.connective.Connective.{Connective}
+use Rattle.auto_bool.specs.declared.connective.Connective.{Connective}
 use Rattle.formula_auto.proofs.SameWords.{SameWords, BothSpread-same, ExSpread-same}
 use Rattle.formula_auto.proofs.Parts.{Decides-same}
 

@@ -1,6 +1,5 @@
 -- A spread depends on the sets of words alone.
 use Rattle.std.proofs.Common.{◌↔◌, ℕ, ◌^◌, ◌<◌, List, ◌++◌, length, arith}
-use Rattle.std.specs.List.{All}
 use Rattle.std.proofs.lemmas.List.Elements.{All-map, All-weaker}
 use Rattle.track_word.specs.declared.tracks.Var.{Var}
 use Rattle.track_word.specs.Word.{IsWord}

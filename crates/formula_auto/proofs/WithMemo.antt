@@ -21,7 +21,7 @@ use Rattle.formula_auto.specs.Recalled.{is_recalled, start, MayBeOneStep}
 use Rattle.formula_auto.specs.Step.{FirstOver}
 use Rattle.formula_auto.specs.MemoState.{MemoState, IsEntry, known, counted, IsMemoAfter, IsMemoStopped}
 use Rattle.formula_auto.specs.Remembered.{IsRemembered, IsStopped, IsInterrupted}
-use Rattle.formula_auto.specs.declared.connective.Pair.{Pair}
+use Rattle.formula_auto.specs.declared.pair.Pair.{Pair}
 use Rattle.formula_auto.specs.declared.course.Course.{Course}
 use Rattle.formula_auto.specs.declared.course.Recall.{Recall}
 use Rattle.formula_auto.specs.declared.course.Recall.TheVariants.{Plain, Nothing}
@@ -133,6 +133,9 @@ module _ (pair : Pair) {e : ℕ → SetOf} {course : Course} {m0 m1 : MemoState}
         stopped = stopped_at_two (of_pair course.recall pair outside one) left.after right.after
             (λ step is. let at = number_of (end + 1) why step is in omega (arith, at, left.counts, right.counts));
       }
+
+      pub interrupted_after_both : {why : CompileError} → why ≡ Memory → IsInterrupted (connected pair) e course m0 m2 why
+      interrupted_after_both is = subst (IsInterrupted (connected pair) e course m0 m2) (sym is) (interrupted_at_both grown.Memory (λ over. absurd (cc)))
 
 module _ {e : ℕ → SetOf} {course : Course} {f : Tree} {m : MemoState} where
   -- without a step nothing is entered and nothing taken

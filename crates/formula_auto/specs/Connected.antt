@@ -2,9 +2,9 @@
 use Rattle.lin_formula.specs.Tree as tree
 use Rattle.lin_formula.specs.Tree.{Tree}
 use Rattle.lin_formula.specs.TreeOf.{tree_of}
-use Rattle.formula_auto.specs.declared.connective.Connective.{Connective}
-use Rattle.formula_auto.specs.declared.connective.Connective.TheVariants.{And, Or, AndNot}
-use Rattle.formula_auto.specs.declared.connective.Pair.{Pair}
+use Rattle.auto_bool.specs.declared.connective.Connective.{Connective}
+use Rattle.auto_bool.specs.declared.connective.Connective.TheVariants.{And, Or, AndNot}
+use Rattle.formula_auto.specs.declared.pair.Pair.{Pair}
 
 -- And or Or of them, or And of the first and Not of the second
 abbrev pub connect : Connective → Tree → Tree → Tree

@@ -23,6 +23,7 @@ pub mod Recalled
 pub mod MemoState
 pub mod Remembered
 pub mod PartOf
+pub mod Shortcuts
 pub mod EntryOf
 pub mod LevelState
 pub mod Codes

@@ -8,7 +8,7 @@ use Rattle.lin_formula.specs.Tree.{Tree, Among, Not, Ex}
 use Rattle.lin_formula.specs.SetOf.{SetOf, Table, members}
 use Rattle.formula_auto.specs.Decides.{Decides}
 use Rattle.formula_auto.specs.Connected.{connect}
-use Rattle.formula_auto.specs.declared.connective.Connective.{Connective}
+use Rattle.auto_bool.specs.declared.connective.Connective.{Connective}
 
 -- decides whether these variables are in the automaton's set, under any name
 abbrev pub DecidesAmong : Automaton → List Var → Automaton → Type 0

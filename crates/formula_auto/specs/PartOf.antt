@@ -9,11 +9,7 @@ use Rattle.lin_formula.specs.SetOf.{SetOf, members, tables}
 use Rattle.formula_auto.specs.Decides.{Decides}
 use Rattle.formula_auto.specs.MemoState.{MemoState}
 use Rattle.formula_auto.specs.LevelState.{LevelState}
-use Rattle.formula_auto.specs.Nodes.{IsStepWithin}
-use Rattle.auto_bool.specs.declared.operand.Operand.{Operand}
-use Rattle.auto_bool.specs.Operands.{operand_of}
 use Rattle.formula_auto.specs.Remembered.{IsRemembered, IsInterrupted}
-use Rattle.formula_auto.specs.declared.connective.Connective.{Connective}
 use Rattle.formula_auto.specs.declared.course.Course.{Course}
 use Rattle.formula_auto.specs.declared.errors.CompileError.{CompileError}
 use Rattle.formula_auto.specs.declared.part.Part.{Part}
@@ -33,12 +29,6 @@ IsSamePlace (Kept place) (Kept other) = place ≡ other
 IsSamePlace (Paired place) (Paired other) = place ≡ other
 IsSamePlace (Named set) (Named other) = set.0 ≡ other.0
 IsSamePlace _ _ = ⊥
-
--- the operand's automaton is what the connective makes of those of two parts, within the memo's budget
-abbrev pub IsOperandOf : Connective → MemoState → LevelState → Part → Part → Operand → Type 0
-IsOperandOf connective m l left right operand =
-    (a b : Automaton) → IsPart m l left a → IsPart m l right b
-    → IsStepWithin connective a b m.budget (operand_of operand a b)
 
 -- the part has an automaton that decides whether these variables are in the set of a number, to each state of which
 -- words lead

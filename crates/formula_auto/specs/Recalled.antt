@@ -5,8 +5,8 @@ use Rattle.formula_auto.specs.PlainParts.{is_plain, plain_within}
 use Rattle.formula_auto.specs.declared.course.Recall.{Recall}
 use Rattle.formula_auto.specs.declared.course.Recall.TheVariants.{Plain, Nothing}
 use Rattle.formula_auto.specs.declared.course.Course.{Course}
-use Rattle.formula_auto.specs.declared.connective.Connective.{Connective}
-use Rattle.formula_auto.specs.declared.connective.Connective.TheVariants.{And, Or, AndNot}
+use Rattle.auto_bool.specs.declared.connective.Connective.{Connective}
+use Rattle.auto_bool.specs.declared.connective.Connective.TheVariants.{And, Or, AndNot}
 
 -- the formula itself is
 abbrev pub is_recalled : Recall → Tree → Bool

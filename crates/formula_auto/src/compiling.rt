@@ -21,15 +21,17 @@ ghost use Rattle.formula_auto.specs.LevelState as level_state;
 ghost use Rattle.formula_auto.specs.MemoState.{IsMemoAfter, IsMemoStopped, IsKnown};
 ghost use Rattle.formula_auto.specs.PartOf.{IsPart, IsRememberedOn, IsInterruptedOn};
 
-use crate::connective::{Connective, Pair};
 use crate::course::{Course, Recall};
 use crate::errors::CompileError;
 use crate::level::Level;
 use crate::memo::Memo;
-use crate::part::{Part, Remembered, chosen};
+use crate::pair::Pair;
+use crate::part::{Part, Remembered};
 use crate::plain::{has_step, is_pair, is_plain, steps_of};
+use crate::shortcut::Shortcut;
 use crate::steps::{comparison, complement, joined, projection, value_of};
 use crate::table::SetTable;
+use auto_bool::{Connective, none_of};
 use auto_core::Auto;
 use limits::Budget;
 use lin_formula::Formula;
@@ -399,16 +401,22 @@ impl Memo {
         };
         let right = self.compiled(alloc, pair.right, level, after_left)?;
         let step = right.done + 1;
-        if let Some(operand) = self.shortcut(level, pair.connective, &left.part, &right.part) {
-            return Ok(Remembered {
-                part: chosen(operand, left.part, right.part),
+        match self.shortcut(level, pair.connective, &left.part, &right.part) {
+            Some(Shortcut::Operand(operand)) => Ok(Remembered {
+                part: operand.of(left.part, right.part),
                 done: step,
-            });
-        }
-        let (a, b) = self.automata(level, &left.part, &right.part);
-        match joined(alloc, pair.connective, a, b, self.budget()) {
-            Ok(auto) => Ok(Remembered::fresh(auto, step)),
-            Err(why) => Err(CompileError::at(step, why)),
+            }),
+            Some(Shortcut::Nothing) => {
+                let nothing = none_of(alloc, self.automaton(level, &left.part))?;
+                Ok(Remembered::fresh(nothing, step))
+            }
+            None => {
+                let (a, b) = self.automata(level, &left.part, &right.part);
+                match joined(alloc, pair.connective, a, b, self.budget()) {
+                    Ok(auto) => Ok(Remembered::fresh(auto, step)),
+                    Err(why) => Err(CompileError::at(step, why)),
+                }
+            }
         }
     }
 }

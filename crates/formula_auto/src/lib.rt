@@ -4,14 +4,15 @@
 #![tactic(auto)]
 
 mod compiling;
-mod connective;
 mod course;
 mod entry;
 mod errors;
 mod level;
 mod memo;
+mod pair;
 mod part;
 mod plain;
+mod shortcut;
 mod steps;
 mod table;
 

@@ -1,20 +1,21 @@
 //! Automata of plain formulas, kept from one compilation to the next.
-ghost use Rattle.std.specs.Prelude.{◌≡◌, [], ◌∷◌, length, MatchOption, IfOk, IfSome, OnOk, OnErr};
+ghost use Rattle.std.specs.Prelude.{◌≡◌, [], ◌∷◌, length, MatchOption, IfOk, IfSome, IsSome, OnOk, OnErr};
 ghost use Rattle.auto_core.specs.Automaton.{Automaton};
 ghost use Rattle.auto_core.specs.Reduced.{IsReduced};
 ghost use Rattle.lin_formula.specs.TreeOf.{tree_of};
 ghost use Rattle.formula_auto.specs.MemoState.{IsMemo, IsMemoAfter, IsEntry, IsEntryAt, IsKnown, counted};
 ghost use Rattle.formula_auto.specs.LevelState.{LevelState};
-ghost use Rattle.formula_auto.specs.PartOf.{IsPart, IsOperandOf};
+ghost use Rattle.formula_auto.specs.PartOf.{IsPart};
+ghost use Rattle.formula_auto.specs.Shortcuts.{IsShortcutOf, IsSeen};
 ghost use Rattle.formula_auto.specs.Nodes.{AcceptSame, IsNoLarger};
 
-use crate::connective::Connective;
 use crate::entry::{Entry, place_of};
 use crate::level::Level;
 use crate::part::{Part, same_place};
-use crate::steps::{keeps_itself, reduced, shortcut};
+use crate::shortcut::Shortcut;
+use crate::steps::reduced;
 use crate::table::SetTable;
-use auto_bool::Operand;
+use auto_bool::{Connective, fits_with_itself, operand_by};
 use auto_core::Auto;
 use limits::Budget;
 use lin_formula::{Formula, copy};
@@ -127,25 +128,26 @@ impl Memo {
         (self.automaton(level, left), self.automaton(level, right))
     }
 
-    /// Which of two parts has what the connective makes of both, if that is seen at once: one of them accepts all words
-    /// or none, or both are at one place.
+    /// What the connective makes of two parts, if that is seen at once and the budget has room: both are at one place, or
+    /// one of them accepts all words or none.
     pub(crate) fn shortcut(
         &self,
         level: &Level,
         connective: Connective,
         left: &Part,
         right: &Part,
-    ) -> Option<Operand>
+    ) -> Option<Shortcut>
         requires left { (a : Automaton) × IsPart self.now level.now left.now a }
         requires right { (a : Automaton) × IsPart self.now level.now right.now a }
-        ensures { IfSome result (IsOperandOf connective self.now level.now left.now right.now) }
+        ensures is { IfSome result (IsShortcutOf connective self.now level.now left.now right.now) }
+        ensures found { IsSeen connective self.now level.now left.now right.now → IsSome result }
     {
         let (a, b) = self.automata(level, left, right);
         let most = self.budget();
-        if same_place(left, right) && keeps_itself(connective, a, most) {
-            return Some(Operand::Left);
+        if same_place(left, right) && fits_with_itself(a, most) {
+            return Some(Shortcut::with_itself(connective));
         }
-        shortcut(connective, a, b, most)
+        Some(Shortcut::Operand(operand_by(a, b, connective, most)?))
     }
 
     /// The automaton of a part as it is, to keep.

@@ -1,9 +1,7 @@
 //! What compiling a part of a formula gives.
-ghost use Rattle.std.specs.Prelude.{◌≡◌, IsTrue};
-ghost use Rattle.auto_bool.specs.Operands.{operand_of};
+ghost use Rattle.std.specs.Prelude.{◌≡◌, ◌↔◌, IsTrue};
 ghost use Rattle.formula_auto.specs.PartOf.{IsSamePlace};
 
-use auto_bool::Operand;
 use auto_core::Auto;
 use lin_formula::SetId;
 
@@ -22,23 +20,13 @@ pub enum Part {
 
 /// Whether two parts have one automaton, at one place.
 pub fn same_place(left: &Part, right: &Part) -> bool
-    ensures { IsTrue result → IsSamePlace left.now right.now }
+    ensures { IsTrue result ↔ IsSamePlace left.now right.now }
 {
     match (left, right) {
         (Part::Kept(place), Part::Kept(other)) => *place == *other,
         (Part::Paired(place), Part::Paired(other)) => *place == *other,
         (Part::Named(set), Part::Named(other)) => set.0 == other.0,
         _ => false,
-    }
-}
-
-/// The part of an operand.
-pub fn chosen(operand: Operand, left: Part, right: Part) -> Part
-    ensures { result ≡ operand_of operand left right }
-{
-    match operand {
-        Operand::Left => left,
-        Operand::Right => right,
     }
 }
 

@@ -1,7 +1,7 @@
 //! One node of a formula each: an automaton of it, from automata of its parts, which need not be reduced. Atoms are
 //! reduced. What a step makes is merged in one pass, unless it is one of the parts. Only a step that is not within the
 //! budget on the automata as they are is taken on the reduced ones.
-ghost use Rattle.std.specs.Prelude.{◌≡◌, ◌≤◌, ℕ, length, IfOk, IfSome, OnOk, IsTrue, Err};
+ghost use Rattle.std.specs.Prelude.{◌≡◌, ◌≤◌, ℕ, length, IfOk, OnOk, Err};
 ghost use Rattle.track_word.specs.Tracks.{with_vars};
 ghost use Rattle.track_word.specs.Atom.{IsAtom};
 ghost use Rattle.auto_core.specs.Integers.{DecidesIntegers};
@@ -11,16 +11,11 @@ ghost use Rattle.lin_formula.specs.SetOf.{SetOf, members};
 ghost use Rattle.formula_auto.specs.Decides.{Decides};
 ghost use Rattle.formula_auto.specs.Compiled.{IsAccessible};
 ghost use Rattle.auto_bool.specs.Words.{StepExceeds};
-ghost use Rattle.auto_bool.specs.Operands.{operand_of};
 ghost use Rattle.auto_project.specs.Lifted.{ForgettingExceeds};
-ghost use Rattle.formula_auto.specs.Nodes.{AcceptSame, IsNoLarger, IsStepWithin};
+ghost use Rattle.formula_auto.specs.Nodes.{AcceptSame, IsNoLarger};
 ghost use Rattle.formula_auto.specs.Nodes.{DecidesAmong, DecidesNot, DecidesEx, DecidesBoth};
 
-use crate::connective::Connective;
-use auto_bool::{
-    Operand, difference_operand, difference_within, fits_with_itself, join_operand, join_within,
-    meet_operand, meet_within, not,
-};
+use auto_bool::{Connective, difference_within, join_within, meet_within, not};
 use auto_compact::renamed;
 use auto_core::Auto;
 use auto_merge::merge;
@@ -68,28 +63,6 @@ pub fn membership(alloc: Global, set: &Auto, vars: &[Var]) -> Result<Auto, Alloc
         return Ok(a);
     }
     reduced(alloc, &a)
-}
-
-/// Which of two automata is what the connective makes of them, if that is seen at once and the budget has room: one of
-/// them accepts all words or none.
-pub fn shortcut(connective: Connective, a: &Auto, b: &Auto, budget: Budget) -> Option<Operand>
-    ensures { IfSome result (λ operand. IsStepWithin connective a.now b.now budget (operand_of operand a.now b.now)) }
-{
-    match connective {
-        Connective::And => meet_operand(a, b, budget),
-        Connective::Or => join_operand(a, b, budget),
-        Connective::AndNot => difference_operand(a, b, budget),
-    }
-}
-
-/// Whether the automaton is what the connective makes of it and itself, and the budget has room.
-pub fn keeps_itself(connective: Connective, a: &Auto, budget: Budget) -> bool
-    ensures { IsTrue result → IsStepWithin connective a.now a.now budget a.now }
-{
-    match connective {
-        Connective::And | Connective::Or => fits_with_itself(a, budget),
-        Connective::AndNot => false,
-    }
 }
 
 /// Two formulas put together.

@@ -1,4 +1,3 @@
-use Rattle.lin_formula.specs.SetOf.{members}
 use Rattle.formula_auto.proofs.Accessible.{AllReached-turned, no_larger-turned}
 use Rattle.formula_auto.proofs.BothOk.{both_ok}
 use Rattle.formula_auto.proofs.Parts.{Decides-Not}

@@ -6,11 +6,11 @@ use Rattle.lin_formula.specs.Tree.{steps}
 use Rattle.lin_formula.specs.TreeOf.{tree_of}
 use Rattle.lin_formula.specs.SetOf.{tables, members}
 use Rattle.formula_auto.specs.Decides.{Decides}
-use Rattle.formula_auto.proofs.WithMemo.{remembered_not, interrupted_not, interrupted_at_not, remembered_ex, interrupted_ex, interrupted_at_ex, remembered_both, interrupted_left, interrupted_right, interrupted_at_both, interrupted_memory, interrupted_last, remembered_entered, interrupted_inside, may_enter, unknown_still}
+use Rattle.formula_auto.proofs.WithMemo.{remembered_not, interrupted_not, interrupted_at_not, remembered_ex, interrupted_ex, interrupted_at_ex, remembered_both, interrupted_left, interrupted_right, interrupted_at_both, interrupted_after_both, interrupted_memory, interrupted_last, remembered_entered, interrupted_inside, may_enter, unknown_still}
 use Rattle.formula_auto.proofs.Connections.{size-connect, ready-connect}
 use Rattle.formula_auto.proofs.PartLemmas.{same_few, part-fresh, part-leaf, part-whole, part-found, part-after, lent, lent-reached, lent-few, few_kept, lent-later}
 use Rattle.formula_auto.proofs.MemoLemmas.{recalled-plain}
-use Rattle.formula_auto.proofs.Operands.{part-chosen}
+use Rattle.formula_auto.proofs.Operands.{part-operand, part-nothing}
 use Rattle.formula_auto.proofs.Pairs.{pair_outside, pair_size, part-paired, may_remember, part-remembered}
 use Rattle.formula_auto.proofs.memo.Memo.+compiled.Goals as goal
 
@@ -176,10 +176,31 @@ both-shortcut-requires-clause-left t c =
 pub both-shortcut-requires-clause-right : goal.both-shortcut-requires-clause-right
 both-shortcut-requires-clause-right t c = (c.in_ok-right.ensures.ok.auto, c.in_ok-right.ensures.ok.has)
 
-pub both-returns-in-Some-clause-ok : goal.both-returns-in-Some-clause-ok
-both-returns-in-Some-clause-ok t c =
-    rw c.chosen.ensures (part-chosen c.args.pair c.requires.not_recalled c.requires.one_step c.in_ok-left.ensures.ok (rw c.compiled.ensures.grows.sets at c.in_ok-right.ensures.ok)
-    c.in-Some.operand c.compiled-2.ensures.grows c.in-Some.ensures)
+pub both-automaton-requires : goal.both-automaton-requires
+both-automaton-requires t c =
+    let left = c.in_ok-left.ensures.ok in
+    (left.auto, part-after c.in_ok-left.left.part left.auto left.has c.in_ok-right.ensures.ok.remembered.after c.compiled-2.ensures.grows)
+
+pub both-returns-in_err-nothing-in-Some-Nothing-clause-err : goal.both-returns-in_err-nothing-in-Some-Nothing-clause-err
+both-returns-in_err-nothing-in-Some-Nothing-clause-err t c =
+    let p = err_from_is_err_and c.from_residual-in_err-nothing-in-Some-Nothing.result c.from_residual-in_err-nothing-in-Some-Nothing.ensures.1 in
+    let right = rw c.compiled.ensures.grows.sets at c.in_ok-right.ensures.ok in
+    rw p.1 (interrupted_after_both c.args.pair c.requires.not_recalled c.requires.one_step c.in_ok-left.ensures.ok.remembered right.remembered p.2)
+
+pub both-returns-in-Some-Operand-clause-ok : goal.both-returns-in-Some-Operand-clause-ok
+both-returns-in-Some-Operand-clause-ok t c =
+    let right = rw c.compiled.ensures.grows.sets at c.in_ok-right.ensures.ok in
+    let serves = rw c.in-Some-Operand.field-0-is at c.in-Some-Operand.ensures.is in
+    rw c.of.ensures
+    (part-operand c.args.pair c.requires.not_recalled c.requires.one_step c.in_ok-left.ensures.ok right c.in-Some-Operand.operand c.compiled-2.ensures.grows serves)
+
+pub both-returns-in-Some-Nothing-clause-ok : goal.both-returns-in-Some-Nothing-clause-ok
+both-returns-in-Some-Nothing-clause-ok t c =
+    let right = rw c.compiled.ensures.grows.sets at c.in_ok-right.ensures.ok in
+    let serves = rw c.in-Some-Nothing.field-0-is at c.in-Some-Nothing.ensures.is in
+    rw c.fresh.ensures
+    (part-nothing c.args.pair c.requires.not_recalled c.requires.one_step c.in_ok-left.ensures.ok right c.compiled-2.ensures.grows c.automaton.ensures
+    c.in_ok-nothing-in-Some-Nothing.ensures serves)
 
 pub both-automata-requires-clause-left : goal.both-automata-requires-clause-left
 both-automata-requires-clause-left t c =
@@ -201,7 +222,7 @@ both-returns-in-Ok-clause-ok t c =
     let left = lent-later c.in_ok-left.ensures.ok c.in_ok-right.ensures.ok.remembered.after c.compiled-2.ensures.grows c.automata.ensures.left in
     let right = lent (rw c.compiled.ensures.grows.sets at c.in_ok-right.ensures.ok) c.automata.ensures.right in
     let within = rw c.budget.ensures.is at c.in-Ok.ensures.within in
-    part-fresh c.fresh.ensures c.in-Ok.ensures.accessible.reached
+    part-fresh c.fresh-in-Ok.ensures c.in-Ok.ensures.accessible.reached
     (λ some. same_few c.in-Ok.auto (c.budget.ensures.is ∙ (right.after.budget ∙ left.after.budget)) c.in-Ok.ensures.accessible.few)
     (remembered_both c.args.pair c.requires.not_recalled c.requires.one_step left right c.in-Ok.ensures.decides within)
 

@@ -1,6 +1,4 @@
 use Rattle.std.proofs.lemmas.Result.{IfOk-weaker, IfErr-weaker}
-use Rattle.lin_formula.specs.TreeOf.{tree_of}
-use Rattle.lin_formula.specs.SetOf.{tables, members}
 use Rattle.formula_auto.proofs.BothOk.{either_way}
 use Rattle.formula_auto.proofs.Stable.{Decides-integers}
 use Rattle.formula_auto.proofs.WithMemo.{stopped-first}

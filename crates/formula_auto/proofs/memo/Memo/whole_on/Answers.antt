@@ -1,4 +1,3 @@
-use Rattle.lin_formula.specs.TreeOf.{tree_of}
 use Rattle.formula_auto.proofs.Rooms.{ready}
 use Rattle.formula_auto.proofs.PartLemmas.{compiled_on}
 use Rattle.formula_auto.proofs.memo.Memo.whole_on.Goals as goal

@@ -1,15 +1,8 @@
-//! What two formulas are put together by.
+//! Two formulas and what puts them together.
 ghost use Rattle.std.specs.Prelude.{◌≡◌};
 
+use auto_bool::Connective;
 use lin_formula::Formula;
-
-#[derive(Clone, Copy)]
-pub enum Connective {
-    And,
-    Or,
-    /// And of the first and Not of the second.
-    AndNot,
-}
 
 /// Two formulas to be put together.
 #[derive(Clone, Copy)]

@@ -1,0 +1,43 @@
+-- Steps of which it is seen at once what they make.
+use Rattle.std.specs.Prelude.{◌≤◌, ◌⊎◌, ℕ, length}
+use Rattle.auto_core.specs.Automaton.{Automaton}
+use Rattle.auto_bool.specs.declared.connective.Connective.{Connective}
+use Rattle.auto_bool.specs.declared.connective.Connective.TheVariants.{And, Or, AndNot}
+use Rattle.auto_bool.specs.declared.operand.Operand.{Operand}
+use Rattle.auto_bool.specs.declared.operand.Operand.TheVariants.{Left}
+use Rattle.auto_bool.specs.Operands.{operand_of, IsAtHand, IsNoneOf}
+use Rattle.formula_auto.specs.MemoState.{MemoState}
+use Rattle.formula_auto.specs.LevelState.{LevelState}
+use Rattle.formula_auto.specs.Nodes.{IsStepWithin}
+use Rattle.formula_auto.specs.PartOf.{IsPart, IsSamePlace}
+use Rattle.formula_auto.specs.declared.part.Part.{Part}
+use Rattle.formula_auto.specs.declared.shortcut.Shortcut.{Shortcut}
+use Rattle.formula_auto.specs.declared.shortcut.Shortcut.TheVariants as shortcut
+
+-- what it stands for is what the connective makes of two automata, within the budget: one of them, or any that accepts
+-- no word
+abbrev pub Serves : Connective → Automaton → Automaton → ℕ → Shortcut → Type 0
+Serves connective a b budget (shortcut.Operand operand) = IsStepWithin connective a b budget (operand_of operand a b)
+Serves connective a b budget shortcut.Nothing = (n : Automaton) → IsNoneOf a n → IsStepWithin connective a b budget n
+
+-- that of an automaton and itself
+abbrev pub with_itself : Connective → Shortcut
+with_itself And = shortcut.Operand Left
+with_itself Or = shortcut.Operand Left
+with_itself AndNot = shortcut.Nothing
+
+-- it is what the connective makes of the automata of two parts, within the memo's budget
+abbrev pub IsShortcutOf : Connective → MemoState → LevelState → Part → Part → Shortcut → Type 0
+IsShortcutOf connective m l left right shortcut =
+    (a b : Automaton) → IsPart m l left a → IsPart m l right b → Serves connective a b m.budget shortcut
+
+-- two parts are at one place, where the memo's budget has room for the states; or their product is one of them, as it is
+-- of an automaton that accepts all words or none, by a single state
+pub record IsSeen (connective : Connective) (m : MemoState) (l : LevelState) (left right : Part) : Type 0 where
+  pub first : Automaton
+  pub second : Automaton
+  pub has_first : IsPart m l left first
+  pub has_second : IsPart m l right second
+  pub seen :
+      (IsSamePlace left right × (length first.accept ≤ m.budget))
+      ⊎ ((operand : Operand) × IsAtHand first second connective m.budget operand)
