@@ -20,7 +20,7 @@ use Rattle.formula_auto.specs.Decides.{Decides}
 use Rattle.formula_auto.specs.Nodes.{AcceptSame}
 use Rattle.formula_auto.specs.Step.{FirstOver}
 use Rattle.formula_auto.specs.Compiled.{IsAccessible}
-use Rattle.formula_auto.specs.declared.connective.Connective.TheVariants.{AndNot}
+use Rattle.auto_bool.specs.declared.connective.Connective.TheVariants.{AndNot}
 use Rattle.formula_auto.proofs.Exceedings.{Exceeds-connect}
 use Rattle.formula_auto.proofs.Parts.{Decides-AndNot}
 use Rattle.formula_auto.proofs.SameAutomata.{still_decides}

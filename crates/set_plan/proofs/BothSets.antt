@@ -9,7 +9,10 @@ use Rattle.track_word.specs.Tracks.{IsAscending, with_var, with_vars}
 use Rattle.auto_core.specs.Automaton.{Automaton, Accepts}
 use Rattle.auto_core.specs.Reduced.{AllReached, IsReduced}
 use Rattle.auto_core.specs.Spread.{BothSpreadExceeds}
-use Rattle.auto_bool.specs.Words.{AcceptsBoth, AcceptsEither, AcceptsFirstOnly}
+use Rattle.auto_bool.specs.Words.{AcceptsBy}
+use Rattle.auto_bool.specs.Operands.{operand_of, IsOperand}
+use Rattle.auto_bool.specs.declared.operand.Operand.{Operand}
+use Rattle.auto_bool.specs.declared.operand.Operand.TheVariants.{Left, Right}
 use Rattle.lin_formula.specs.Tree.{Tree, Among, free_vars, steps}
 use Rattle.lin_formula.specs.SetOf.{SetOf, Table, members}
 use Rattle.lin_formula.specs.Free.{IsOneOf}
@@ -17,8 +20,8 @@ use Rattle.lin_formula.proofs.FreeVars.{if_cases}
 use Rattle.formula_auto.specs.Connected.{connect}
 use Rattle.formula_auto.specs.Step.{FirstOver}
 use Rattle.formula_auto.specs.Decides.{Decides}
-use Rattle.formula_auto.specs.declared.connective.Connective.{Connective}
-use Rattle.formula_auto.specs.declared.connective.Connective.TheVariants.{And, Or, AndNot}
+use Rattle.auto_bool.specs.declared.connective.Connective.{Connective}
+use Rattle.auto_bool.specs.declared.connective.Connective.TheVariants.{And, Or, AndNot}
 use Rattle.formula_auto.proofs.Exceedings.{Exceeds-connect}
 use Rattle.formula_auto.proofs.Parts.{Decides-And, Decides-AndNot, Decides-Or, Decides-same}
 use Rattle.formula_auto.proofs.Projections.{above}
@@ -58,12 +61,6 @@ names connective tracks = connect connective (Among 0 tracks) (Among 1 tracks)
 -- what the connective makes of two sets over these tracks
 abbrev pub both : Connective → List Var → SetOf → SetOf → Item
 both connective tracks s t = record { formula = names connective tracks; sets = two s t }
-
--- the words that the connective takes
-abbrev Words : Connective → Automaton → Automaton → Automaton → Type 0
-Words And a b c = AcceptsBoth a b c
-Words Or a b c = AcceptsEither a b c
-Words AndNot a b c = AcceptsFirstOnly a b c
 
 some_step : (connective : Connective) (tracks : List Var) → 0 < length (steps (names connective tracks))
 some_step And tracks = omega arith
@@ -106,13 +103,13 @@ module _ (tracks : List Var) (a b : Automaton) (left : DecidesOn tracks a) (righ
   none-over Or budget within = inr (within, refl)
   none-over AndNot budget within = inr (within, refl)
 
-  both-decides : (connective : Connective) (c : Automaton) → c.tracks ≡ with_vars a.tracks b.tracks → Words connective a b c
+  both-decides : (connective : Connective) (c : Automaton) → c.tracks ≡ with_vars a.tracks b.tracks → AcceptsBy connective a b c
       → Decides c (names connective tracks) (members (two (Table a) (Table b)))
   both-decides And c tracks_c words_c = Decides-And (members (two (Table a) (Table b))) (Among 0 tracks) (Among 1 tracks) a b c first second tracks_c words_c
   both-decides Or c tracks_c words_c = Decides-Or (members (two (Table a) (Table b))) (Among 0 tracks) (Among 1 tracks) a b c first second tracks_c words_c
   both-decides AndNot c tracks_c words_c = Decides-AndNot (members (two (Table a) (Table b))) (Among 0 tracks) (Among 1 tracks) a b c first second tracks_c words_c
 
-  module _ (connective : Connective) (c r : Automaton) (tracks_c : c.tracks ≡ with_vars a.tracks b.tracks) (words_c : Words connective a b c)
+  module _ (connective : Connective) (c r : Automaton) (tracks_c : c.tracks ≡ with_vars a.tracks b.tracks) (words_c : AcceptsBy connective a b c)
       (tracks_r : r.tracks ≡ c.tracks) (words_r : (word : List ℕ) → IsWord (length c.tracks) word → Accepts r word ↔ Accepts c word) where
     decided : Decides r (names connective tracks) (members (two (Table a) (Table b)))
     decided = Decides-same (both-decides connective c tracks_c words_c) tracks_r words_r
@@ -135,3 +132,17 @@ module _ (tracks : List Var) (a b : Automaton) (left : DecidesOn tracks a) (righ
 
     pub both-reached : AllReached r → length r.accept ≤ 200000 → IsReachedOn tracks r
     both-reached reached few = record { reached = reached; decides = decides-on; few = few }
+
+  -- a side that serves as the product
+  pub operand-is : (connective : Connective) (budget : ℕ) (operand : Operand) → IsOperand a b connective budget operand
+      → IsSetOf (both connective tracks (Table a) (Table b)) (Table (operand_of operand a b))
+  operand-is connective budget operand is = both-is connective (operand_of operand a b) (operand_of operand a b) is.tracks is.words refl (λ word w. ((λ h. h), (λ h. h)))
+
+  pub operand-within : (connective : Connective) (budget : ℕ) (operand : Operand) → IsOperand a b connective budget operand
+      → LastExceeds (both connective tracks (Table a) (Table b)) budget → ⊥
+  operand-within connective budget operand is over = is.within ((both-exceeds connective budget).1 over)
+
+-- each side is a set, so that the one that is meant is
+pub operand-set : (P : Automaton → Type 0) (operand : Operand) {a b : Automaton} → P a → P b → P (operand_of operand a b)
+operand-set P Left left right = left
+operand-set P Right left right = right

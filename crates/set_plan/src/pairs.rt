@@ -5,7 +5,7 @@ ghost use Rattle.set_plan.specs.Program.{IsSetOf, LastExceeds};
 ghost use Rattle.set_plan.specs.Sets.{IsSetOn, IsReachedOn, IsReductionOf};
 ghost use Rattle.set_plan.specs.Unite.{difference as difference_of, either as either_of};
 
-use auto_bool::{difference, join, join_within};
+use auto_bool::{Connective, difference, join, join_within, operand_by};
 use auto_core::Auto;
 use auto_merge::merge;
 use auto_reduce::reduce;
@@ -15,13 +15,7 @@ use std::alloc::{AllocError, Global};
 use track_word::Var;
 
 /// The set of the tuples of one set or the other.
-pub fn either(
-    alloc: Global,
-    tracks: &[Var],
-    a: &Auto,
-    b: &Auto,
-    budget: Budget,
-) -> Result<Auto, Grown>
+fn either(alloc: Global, tracks: &[Var], a: &Auto, b: &Auto, budget: Budget) -> Result<Auto, Grown>
     requires first { IsSetOn tracks.now a.now }
     requires second { IsSetOn tracks.now b.now }
     ensures ok { IfOk result (λ c. IsSetOf (either_of tracks.now (Table a.now) (Table b.now)) (Table c)) }
@@ -37,7 +31,7 @@ pub fn either(
 
 /// As `either`, of two sets that need not be reduced. Nor is what they make, whose states are merged in one pass. Only where the pairs
 /// of states are more than the budget are both reduced, since then alone the budget may still suffice.
-pub fn either_reached(
+fn either_reached(
     alloc: Global,
     tracks: &[Var],
     a: &Auto,
@@ -57,6 +51,50 @@ pub fn either_reached(
         Ok(c) => Ok(merge(alloc, &c)?),
         Err(Grown::Over) => either_of_reduced(alloc, tracks, a, b, budget),
         Err(Grown::Memory) => Err(Grown::Memory),
+    }
+}
+
+/// `either` of two sets that are given away. Where it is seen at once that it is one of them, that one is handed on.
+pub fn united(
+    alloc: Global,
+    tracks: &[Var],
+    a: Auto,
+    b: Auto,
+    budget: Budget,
+) -> Result<Auto, Grown>
+    requires first { IsSetOn tracks.now a }
+    requires second { IsSetOn tracks.now b }
+    ensures ok { IfOk result (λ c. IsSetOf (either_of tracks.now (Table a) (Table b)) (Table c)) }
+    ensures set { IfOk result (IsSetOn tracks.now) }
+    ensures within { OnOk result (¬ LastExceeds (either_of tracks.now (Table a) (Table b)) budget) }
+    ensures over { result ≡ Err Grown.Over → LastExceeds (either_of tracks.now (Table a) (Table b)) budget }
+{
+    let _ = a.tracks(); // for its invariant
+    match operand_by(&a, &b, Connective::Or, budget) {
+        Some(operand) => Ok(operand.of(a, b)),
+        None => either(alloc, tracks, &a, &b, budget),
+    }
+}
+
+/// As `united`, of two sets that need not be reduced. Nor is what they make.
+pub fn united_reached(
+    alloc: Global,
+    tracks: &[Var],
+    a: Auto,
+    b: Auto,
+    budget: Budget,
+) -> Result<Auto, Grown>
+    requires first { IsReachedOn tracks.now a }
+    requires second { IsReachedOn tracks.now b }
+    ensures ok { IfOk result (λ c. IsSetOf (either_of tracks.now (Table a) (Table b)) (Table c)) }
+    ensures set { IfOk result (IsReachedOn tracks.now) }
+    ensures within { OnOk result (¬ LastExceeds (either_of tracks.now (Table a) (Table b)) budget) }
+    ensures over { result ≡ Err Grown.Over → LastExceeds (either_of tracks.now (Table a) (Table b)) budget }
+{
+    let _ = a.tracks(); // for its invariant
+    match operand_by(&a, &b, Connective::Or, budget) {
+        Some(operand) => Ok(operand.of(a, b)),
+        None => either_reached(alloc, tracks, &a, &b, budget),
     }
 }
 

@@ -13,7 +13,7 @@ ghost use Rattle.set_plan.specs.Unite as plan;
 
 use crate::empty::{is_none_or_empty, lacks_a_set};
 use crate::made::Made;
-use crate::pairs::{either, either_reached, reduced_set};
+use crate::pairs::{reduced_set, united, united_reached};
 use crate::steps::step_count;
 use crate::stop::{PlanError, StepName};
 use auto_core::Auto;
@@ -140,7 +140,7 @@ impl<P: Copy> Uniting<'_, P> {
             return Ok(Made { set, at });
         }
         match (so_far, set) {
-            (Some(a), Some(b)) => match either_reached(self.alloc, self.tracks, &a, &b, budget) {
+            (Some(a), Some(b)) => match united_reached(self.alloc, self.tracks, a, b, budget) {
                 Ok(c) => Ok(Made {
                     set: Some(c),
                     at: at + 1,
@@ -271,7 +271,7 @@ pub fn together<P: Copy>(
         return Ok(second);
     }
     match (first, second) {
-        (Some(a), Some(b)) => match either(alloc, tracks, &a, &b, budget) {
+        (Some(a), Some(b)) => match united(alloc, tracks, a, b, budget) {
             Ok(c) => Ok(Some(c)),
             Err(Grown::Over) => Err(PlanError::Over(StepName { part, at: 1 })),
             Err(Grown::Memory) => Err(PlanError::Memory),

@@ -1,7 +1,7 @@
 use Rattle.std.proofs.Common.{◌≡◌, Err}
 use Rattle.std.proofs.lemmas.Result.{err_from_is_err_and}
 use Rattle.auto_walk.specs.declared.grown.Grown.TheVariants as grown
-use Rattle.formula_auto.specs.declared.connective.Connective.TheVariants as connective
+use Rattle.auto_bool.specs.declared.connective.Connective.TheVariants as connective
 use Rattle.set_plan.proofs.BothSets.{both-exceeds, both-is, both-set, few-tracks}
 use Rattle.set_plan.proofs.pairs.either.Goals as goal
 

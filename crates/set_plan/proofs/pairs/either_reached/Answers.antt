@@ -1,5 +1,5 @@
 use Rattle.std.proofs.Common.{arith}
-use Rattle.formula_auto.specs.declared.connective.Connective.TheVariants as connective
+use Rattle.auto_bool.specs.declared.connective.Connective.TheVariants as connective
 use Rattle.set_plan.proofs.BothSets.{both-exceeds, both-is, both-reached, few-tracks}
 use Rattle.set_plan.proofs.pairs.either_reached.Goals as goal
 

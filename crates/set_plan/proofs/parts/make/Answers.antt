@@ -1,5 +1,5 @@
 use Rattle.std.proofs.Common.{arith}
-use Rattle.lin_formula.specs.SetOf.{Table, members, tables}
+use Rattle.lin_formula.specs.SetOf.{members, tables}
 use Rattle.lin_formula.specs.TreeOf.{tree_of}
 use Rattle.formula_auto.proofs.Rooms.{ready}
 use Rattle.set_plan.specs.Sets.{item_of}

@@ -1,4 +1,4 @@
-use Rattle.lin_formula.specs.SetOf.{Table, tables}
+use Rattle.lin_formula.specs.SetOf.{tables}
 use Rattle.lin_formula.specs.TreeOf.{tree_of}
 use Rattle.formula_auto.proofs.Rooms.{ready}
 use Rattle.set_plan.specs.Sets.{item_of}

@@ -20,7 +20,7 @@ pub returns-in-Err-Over-clause-answers : goal.returns-in-Err-Over-clause-answers
 returns-in-Err-Over-clause-answers g c =
     let some_second = rw c.in-Some-Some.is-1 at c.if-is_none_or_empty.ensures.none in
     let some_first = rw c.in-Some-Some.is-0 at c.if-is_none_or_empty-2.ensures.none in
-    let over = c.either.ensures.over (cc (c.in-Err-Over.is, c.in-Err-Over.field-0-is)) in
+    let over = c.united.ensures.over (cc (c.in-Err-Over.is, c.in-Err-Over.field-0-is)) in
     let one = Table c.in-Some-Some.a in
     let other = Table c.in-Some-Some.b in
     rw (c.in-Some-Some.is-0, c.in-Some-Some.is-1)
