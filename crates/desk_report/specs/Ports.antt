@@ -14,7 +14,8 @@ sink_seen k files sink = of_sink files (k.written sink) (k.faults sink)
 
 -- of a source and a sink
 abbrev pub streams_seen : {S K : Type 0} → SourceModel S → SinkModel K → Files → S × K → Seen
-streams_seen s k files ports = of_streams files (s.left ports.0) (k.written ports.1) (s.faults ports.0) (k.faults ports.1)
+streams_seen s k files ports =
+    of_streams files (s.left ports.0) (k.written ports.1) (s.faults ports.0) (k.faults ports.1)
 
 -- of a sink and a shelf
 abbrev pub shelf_seen : {K H : Type 0} → SinkModel K → ShelfModel H → K × H → Seen

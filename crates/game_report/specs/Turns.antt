@@ -55,8 +55,8 @@ Comes (Err why) Says g after old new =
 
 -- what comes of a part of the game of a session, by what is said of it, where no lines come behind
 abbrev pub ComesOf :
-    ((Match → Report → Type 0) → Lines → Match → Report → Type 0) → Result (Option Ending) Failed → (before after : Game)
-    → (old new : Option (List ℕ)) → Type 0
+    ((Match → Report → Type 0) → Lines → Match → Report → Type 0) → Result (Option Ending) Failed
+    → (before after : Game) → (old new : Option (List ℕ)) → Type 0
 ComesOf At result before after old new =
     Comes result (λ On report. At On ended (seen before) report) (seen before) (seen after) old new
 
