@@ -29,7 +29,7 @@ use track_word::Var;
 const FAR: u128 = 0x1_0000_0000_0000_0000;
 
 /// Whether a closed formula holds.
-#[derive(Clone, Copy, PartialEq, Eq, Debug)]
+#[derive(Clone, Copy, PartialEq, Eq)]
 pub enum Truth {
     False,
     True,

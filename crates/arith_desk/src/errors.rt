@@ -6,7 +6,7 @@ ghost use Rattle.arith_desk.specs.declared.errors.Stop.TheVariants as stops;
 use std::alloc::AllocError;
 
 /// Why a line is no formula.
-#[derive(Clone, Copy, PartialEq, Eq, Debug)]
+#[derive(Clone, Copy, PartialEq, Eq)]
 pub enum ArithError {
     /// The field of this number, counted from 1, is the first that cannot stand where it stands. Where fields are missing,
     /// it is the one past the last.
@@ -24,7 +24,7 @@ impl From<AllocError> for ArithError {
 }
 
 /// Why reading stopped.
-#[derive(Clone, Copy, PartialEq, Eq, Debug)]
+#[derive(Clone, Copy, PartialEq, Eq)]
 pub enum Stop {
     /// A field cannot stand where it stands. So many are left from it on, itself counted; none are where fields are
     /// missing.

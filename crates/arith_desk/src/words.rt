@@ -8,14 +8,14 @@ use line_fields::read_number;
 use track_word::{Rel, Var};
 
 /// What two formulas are joined by.
-#[derive(Clone, Copy, PartialEq, Eq, Debug)]
+#[derive(Clone, Copy, PartialEq, Eq)]
 pub enum Connective {
     And,
     Or,
 }
 
 /// For how many integers a body holds.
-#[derive(Clone, Copy, PartialEq, Eq, Debug)]
+#[derive(Clone, Copy, PartialEq, Eq)]
 pub enum Quantifier {
     /// At least one.
     Ex,
@@ -24,7 +24,7 @@ pub enum Quantifier {
 }
 
 /// What a formula begins with.
-#[derive(Clone, Copy, PartialEq, Eq, Debug)]
+#[derive(Clone, Copy, PartialEq, Eq)]
 pub enum Word {
     Not,
     Join(Connective),

@@ -3,7 +3,7 @@ ghost use Rattle.std.specs.Prelude.{◌≡◌};
 ghost use Rattle.auto_bool.specs.Both.{combined};
 ghost use Rattle.auto_bool.specs.Absorbed.{left_deciding, right_deciding};
 
-#[derive(Debug, Clone, Copy)]
+#[derive(Clone, Copy)]
 pub enum Connective {
     And,
     Or,

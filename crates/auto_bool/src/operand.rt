@@ -10,7 +10,7 @@ use limits::Budget;
 use track_word::{Var, place_of};
 
 /// One of the two automata of a product.
-#[derive(Clone, Copy, PartialEq, Eq, Debug)]
+#[derive(Clone, Copy, PartialEq, Eq)]
 pub enum Operand {
     Left,
     Right,

@@ -16,7 +16,7 @@ type Places = SmallVec<usize, 2>;
 type States = SmallVec<u32, 2>;
 
 /// What a place leads to.
-#[derive(Debug, Clone, Copy)]
+#[derive(Clone, Copy)]
 enum Way {
     /// One state.
     State(u32),

@@ -18,14 +18,14 @@ use crate::rays::ray;
 use game_rules::{Kind, Ray, Side, Square};
 
 /// A check: a man at `from` bears on the king.
-#[derive(Clone, Copy, Debug, PartialEq, Eq)]
+#[derive(Clone, Copy, PartialEq, Eq)]
 pub(crate) struct Check {
     pub(crate) from: Square,
     pub(crate) king: Square,
 }
 
 /// A live man's number, and the square where he stands.
-#[derive(Clone, Copy, Debug, PartialEq, Eq)]
+#[derive(Clone, Copy, PartialEq, Eq)]
 pub(crate) struct Standing {
     pub(crate) number: usize,
     pub(crate) square: Square,

@@ -9,7 +9,7 @@ ghost use Rattle.chess_game.specs.Offsets.{IsPart, IsTimes};
 use game_rules::{Kind, Side, Square};
 
 /// How far one square is from another, to the right and up.
-#[derive(Clone, Copy, Debug, PartialEq, Eq)]
+#[derive(Clone, Copy, PartialEq, Eq)]
 pub(crate) struct Offset {
     pub(crate) x: i128,
     pub(crate) y: i128,

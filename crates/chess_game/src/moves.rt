@@ -12,7 +12,7 @@ use crate::piece::Piece;
 use game_rules::{Kind, Side, Square};
 
 /// Why a move is refused: the first reason that holds (FIDE Laws, Articles 3.1 to 3.10).
-#[derive(Clone, Copy, Debug, PartialEq, Eq)]
+#[derive(Clone, Copy, PartialEq, Eq)]
 pub enum Illegal {
     /// The number is 0, or past the last man.
     NoSuchMan,
@@ -29,7 +29,7 @@ pub enum Illegal {
 }
 
 /// The man of this number goes to (x, y).
-#[derive(Clone, Copy, Debug, PartialEq, Eq)]
+#[derive(Clone, Copy, PartialEq, Eq)]
 pub struct Move {
     pub man: u8,
     pub x: i64,

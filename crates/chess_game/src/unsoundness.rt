@@ -10,7 +10,7 @@ use crate::board::Board;
 use game_rules::{Kind, Side, Square};
 
 /// Why a position is not sound, in the order in which reasons are told, White's before Black's.
-#[derive(Clone, Copy, Debug, PartialEq, Eq)]
+#[derive(Clone, Copy, PartialEq, Eq)]
 pub enum Unsound {
     /// No man of the side is a king.
     NoKing(Side),

@@ -14,7 +14,7 @@ use crate::piece::Piece;
 use game_rules::{Ray, Square};
 
 /// A rectangle of squares, its edges included. It holds no square where an edge `low` is past its `high`.
-#[derive(Clone, Copy, Debug, PartialEq, Eq)]
+#[derive(Clone, Copy, PartialEq, Eq)]
 pub struct Frame {
     pub x_low: i64,
     pub x_high: i64,
@@ -38,7 +38,7 @@ impl Frame {
 
 /// How far a man may go along a ray: the distances from `near` to `far`, of which there are none where `near` is 1
 /// and `far` is 0, and the number of the man whom he meets there.
-#[derive(Clone, Copy, Debug, PartialEq, Eq)]
+#[derive(Clone, Copy, PartialEq, Eq)]
 pub struct Way {
     pub near: u128,
     pub far: u128,

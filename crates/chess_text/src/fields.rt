@@ -6,7 +6,7 @@ ghost use Rattle.chess_text.specs.Fields.{IsField, IsPairRefusal, HasTwoFields, 
 use line_fields::{read_number, split_at_blank};
 
 /// Why two fields are no pair of numbers.
-#[derive(Clone, Copy, Debug, PartialEq, Eq)]
+#[derive(Clone, Copy, PartialEq, Eq)]
 pub enum PairWhy {
     /// There are not two fields with one blank between them.
     Shape,

@@ -10,7 +10,7 @@ use crate::fields::{PairWhy, read_pair};
 use chess_game::{Kind, Man, Place, Side};
 
 /// Why a line may not stand where it stands in a position text.
-#[derive(Clone, Copy, Debug, PartialEq, Eq)]
+#[derive(Clone, Copy, PartialEq, Eq)]
 pub enum TextWhy {
     /// The first line is not the header.
     Header,

@@ -10,7 +10,7 @@ use limits::MOST_MEN;
 use std::marker::Model;
 
 /// A line that may not stand where it stands, counted from 1, and why.
-#[derive(Clone, Copy, Debug, PartialEq, Eq)]
+#[derive(Clone, Copy, PartialEq, Eq)]
 pub struct TextError {
     pub line: u32,
     pub why: TextWhy,

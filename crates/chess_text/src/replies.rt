@@ -10,14 +10,14 @@ use crate::line_buffer::LineBuffer;
 use chess_game::Move;
 
 /// A line that was typed.
-#[derive(Clone, Copy, Debug, PartialEq, Eq)]
+#[derive(Clone, Copy, PartialEq, Eq)]
 pub enum Typed {
     Move(Move),
     Quit,
 }
 
 /// Why a line is no reply.
-#[derive(Clone, Copy, Debug, PartialEq, Eq)]
+#[derive(Clone, Copy, PartialEq, Eq)]
 pub enum MoveWhy {
     /// It is neither `quit` nor a man's number and two fields.
     Shape,

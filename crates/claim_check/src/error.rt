@@ -9,7 +9,7 @@ use std::alloc::AllocError;
 use winning_sets::StepName;
 
 /// Why a claim is not accepted.
-#[derive(Clone, Copy, Debug, PartialEq, Eq)]
+#[derive(Clone, Copy, PartialEq, Eq)]
 pub enum CheckError {
     /// The first rule that the claim does not keep.
     NotKept(RuleAt),

@@ -20,7 +20,7 @@ use strategy_file::{ByteWhy, Claim, FileError, read_file};
 use winning_sets::{Solved, StepName};
 
 /// Why the file of a name gives no claim.
-#[derive(Clone, Copy, Debug, PartialEq, Eq)]
+#[derive(Clone, Copy, PartialEq, Eq)]
 pub enum NoClaim {
     /// The shelf has failed.
     Fault,

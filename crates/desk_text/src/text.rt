@@ -11,7 +11,7 @@ use chess_text::{PositionReader, TextWhy};
 use desk_base::{Line, LineError, LineReader, Source};
 
 /// Why a line is refused.
-#[derive(Clone, Copy, Debug, PartialEq, Eq)]
+#[derive(Clone, Copy, PartialEq, Eq)]
 pub enum LineWhy {
     /// It may not stand where it stands.
     Grammar(TextWhy),
@@ -44,7 +44,7 @@ impl LineWhy {
 }
 
 /// Why no position came: the source has failed, or the line of this number, counted from 1, is refused.
-#[derive(Clone, Copy, Debug, PartialEq, Eq)]
+#[derive(Clone, Copy, PartialEq, Eq)]
 pub enum TextEnd {
     Fault,
     Refused(u32, LineWhy),

@@ -23,7 +23,7 @@ pub const KEEP_NAME: usize = 2;
 pub const FILE_NAME: usize = 1;
 
 /// What is to be done.
-#[derive(Clone, Copy, Debug, PartialEq, Eq)]
+#[derive(Clone, Copy, PartialEq, Eq)]
 pub enum Order {
     /// Say whether White mates within so many moves of his own. The budget bounds the states of the automata that decide it.
     Decide { moves: u8, budget: Budget },
@@ -75,7 +75,7 @@ pub enum TextOrder<'a> {
 }
 
 /// Why words are no order. Words are looked at from the left.
-#[derive(Clone, Copy, Debug, PartialEq, Eq)]
+#[derive(Clone, Copy, PartialEq, Eq)]
 pub enum UsageWhy {
     /// There are no words.
     NoCommand,
@@ -122,7 +122,7 @@ pub fn order_of(words: &Vec<String>) -> Result<Order, UsageWhy>
 }
 
 /// What a first word can be.
-#[derive(Clone, Copy, Debug, PartialEq, Eq)]
+#[derive(Clone, Copy, PartialEq, Eq)]
 enum Command {
     Decide,
     Least,

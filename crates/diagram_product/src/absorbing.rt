@@ -4,7 +4,7 @@ ghost use Rattle.diagram_product.specs.Absorbed.{absorbs, stand_in, absorbed};
 
 /// The value of either map, if any, at which the other map's value is not asked for. All pairs with one of these two values
 /// are one pair.
-#[derive(Debug, Clone, Copy)]
+#[derive(Clone, Copy)]
 pub struct Absorbing {
     pub left: Option<u32>,
     pub right: Option<u32>,

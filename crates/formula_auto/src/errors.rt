@@ -7,7 +7,7 @@ use auto_walk::Grown;
 use std::alloc::AllocError;
 
 /// Why a formula has no automaton.
-#[derive(Clone, Copy, PartialEq, Eq, Debug)]
+#[derive(Clone, Copy, PartialEq, Eq)]
 pub enum CompileError {
     /// The step of this number, counted from 1 in post-order, is the first whose spread exceeds the budget.
     Over { step: u32 },

@@ -5,7 +5,7 @@ ghost use Rattle.formula_auto.specs.Shortcuts.{with_itself};
 use auto_bool::{Connective, Operand};
 
 /// What the connective makes of two parts, where that is seen at once.
-#[derive(Clone, Copy, PartialEq, Eq, Debug)]
+#[derive(Clone, Copy, PartialEq, Eq)]
 pub enum Shortcut {
     /// One of the two.
     Operand(Operand),

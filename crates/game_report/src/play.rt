@@ -10,7 +10,7 @@ use desk_base::{Line, LineError, LineReader, Sink, Source};
 use white_player::Session;
 
 /// How a game ends.
-#[derive(Clone, Copy, Debug, PartialEq, Eq)]
+#[derive(Clone, Copy, PartialEq, Eq)]
 pub enum Ending {
     /// The loser is mated.
     Mated,
@@ -29,7 +29,7 @@ pub enum Ending {
 }
 
 /// Why a game does not come to its end.
-#[derive(Clone, Copy, Debug, PartialEq, Eq)]
+#[derive(Clone, Copy, PartialEq, Eq)]
 pub enum GameError {
     /// The source has failed where a line was due.
     Read,

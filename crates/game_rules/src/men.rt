@@ -3,7 +3,7 @@ ghost use Rattle.std.specs.Prelude.{◌≡◌};
 ghost use Rattle.game_rules.specs.Game.{other};
 
 /// One of the two players.
-#[derive(Clone, Copy, Debug, PartialEq, Eq)]
+#[derive(Clone, Copy, PartialEq, Eq)]
 pub enum Side {
     White,
     Black,
@@ -22,7 +22,7 @@ impl Side {
 }
 
 /// What a man is (FIDE Laws, Article 2.2).
-#[derive(Clone, Copy, Debug, PartialEq, Eq)]
+#[derive(Clone, Copy, PartialEq, Eq)]
 pub enum Kind {
     King,
     Queen,
@@ -33,7 +33,7 @@ pub enum Kind {
 }
 
 /// Where a man is. White's pawns go toward greater `y`.
-#[derive(Clone, Copy, Debug, PartialEq, Eq)]
+#[derive(Clone, Copy, PartialEq, Eq)]
 pub enum Place {
     /// Captured.
     Gone,
@@ -41,7 +41,7 @@ pub enum Place {
 }
 
 /// One man of a position.
-#[derive(Clone, Copy, Debug, PartialEq, Eq)]
+#[derive(Clone, Copy, PartialEq, Eq)]
 pub struct Man {
     pub side: Side,
     pub kind: Kind,
@@ -49,14 +49,14 @@ pub struct Man {
 }
 
 /// A square of the board, which has no edge: its numbers may pass those of a [`Place`].
-#[derive(Clone, Copy, Debug, PartialEq, Eq)]
+#[derive(Clone, Copy, PartialEq, Eq)]
 pub struct Square {
     pub x: i128,
     pub y: i128,
 }
 
 /// One way that a man goes: a step, and whether he may repeat it over empty squares.
-#[derive(Clone, Copy, Debug, PartialEq, Eq)]
+#[derive(Clone, Copy, PartialEq, Eq)]
 pub struct Ray {
     pub dx: i8,
     pub dy: i8,

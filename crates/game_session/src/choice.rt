@@ -12,7 +12,7 @@ use auto_search::value_along;
 use chess_game::{Frame, Move, Place, Position, Ray};
 
 /// A move, the number of the ray that it goes along, and how far it goes, in steps of the ray.
-#[derive(Clone, Copy, Debug, PartialEq, Eq)]
+#[derive(Clone, Copy, PartialEq, Eq)]
 pub struct Choice {
     pub mv: Move,
     pub ray: u8,

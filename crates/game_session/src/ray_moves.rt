@@ -22,7 +22,7 @@ use chess_game::{Move, Place, Position, Way, free_way};
 use mask_sets::coordinates;
 
 /// Of the moves along a ray that lead into sets: how many there are on the whole board, and the least distance of those whose square lies in a frame.
-#[derive(Clone, Copy, Debug, PartialEq, Eq)]
+#[derive(Clone, Copy, PartialEq, Eq)]
 pub struct RayMoves {
     pub few: Few,
     pub least: Option<u128>,

@@ -2,7 +2,7 @@
 use std::alloc::AllocError;
 
 /// Why a set or a pair got no number.
-#[derive(Debug, Drop, PartialEq)]
+#[derive(Drop, PartialEq)]
 pub enum NumberingError {
     /// It is new, and 2^32 - 1 are numbered.
     Full,

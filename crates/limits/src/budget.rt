@@ -6,7 +6,7 @@ use crate::numbers::MOST_STATES;
 use std::marker::Model;
 
 /// How many states a step of a computation may need: from 1 to `MOST_STATES`.
-#[derive(Clone, Copy, PartialEq, Eq, Debug)]
+#[derive(Clone, Copy, PartialEq, Eq)]
 pub struct Budget {
     states: u32,
 }

@@ -13,7 +13,7 @@ use std::alloc::{AllocError, Global};
 use track_word::{Rel, Var};
 
 /// Why there is no linear comparison of such parts.
-#[derive(Clone, Copy, PartialEq, Eq, Debug)]
+#[derive(Clone, Copy, PartialEq, Eq)]
 pub enum LinWhy {
     /// There are no terms, more than eight, or two of one variable.
     Terms,

@@ -9,7 +9,7 @@ use std::alloc::Global;
 use track_word::{Rel, Var};
 
 /// The name of a set of tuples of integers.
-#[derive(Clone, Copy, PartialEq, Eq, PartialOrd, Ord, Hash, Debug)]
+#[derive(Clone, Copy, PartialEq, Eq, PartialOrd, Ord, Hash)]
 pub struct SetId(pub u32);
 
 /// A formula over the integers. Its depth is bounded by the stack alone: what goes down a formula calls itself once a level.

@@ -13,7 +13,7 @@ use std::alloc::Global;
 use std::process::ExitCode;
 
 /// Why there are no words.
-#[derive(Clone, Copy, Debug, PartialEq, Eq)]
+#[derive(Clone, Copy, PartialEq, Eq)]
 pub enum WordsError {
     /// There is no memory for them.
     Memory,

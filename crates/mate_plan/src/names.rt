@@ -1,7 +1,7 @@
 //! Names of the parts of a plan.
 
 /// A part of a plan.
-#[derive(Clone, Copy, Debug, PartialEq, Eq)]
+#[derive(Clone, Copy, PartialEq, Eq)]
 pub enum Part {
     /// The starting position.
     Point,
@@ -40,7 +40,7 @@ pub enum Part {
 }
 
 /// A part of a plan at a ply, for the positions with the live men of a mask.
-#[derive(Clone, Copy, Debug, PartialEq, Eq)]
+#[derive(Clone, Copy, PartialEq, Eq)]
 pub struct PartName {
     /// How many moves were made since the starting position.
     pub ply: u8,

@@ -2,7 +2,7 @@
 use track_word::Var;
 
 /// One value of a tuple: in which variable it stood, in which it stands then, and how much more it is.
-#[derive(Clone, Copy, PartialEq, Eq, Debug)]
+#[derive(Clone, Copy, PartialEq, Eq)]
 pub struct Shift {
     pub gone: Var,
     pub new: Var,

@@ -108,7 +108,7 @@ pub(crate) fn line(alloc: Global, ray: Ray, a: Seat, b: Seat) -> Result<Formula,
 }
 
 /// How far one goes towards a square.
-#[derive(Clone, Copy, Debug, PartialEq, Eq)]
+#[derive(Clone, Copy, PartialEq, Eq)]
 pub(crate) enum Extent {
     /// Up to the square and onto it.
     Onto,

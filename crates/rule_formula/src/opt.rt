@@ -14,7 +14,7 @@ fn without(mask: u8, taken: u8) -> u8
 }
 
 /// A way in which a man may go.
-#[derive(Clone, Copy, Debug, Default, PartialEq, Eq)]
+#[derive(Clone, Copy, Default, PartialEq, Eq)]
 pub struct Opt {
     /// The number of the man, counted from 1.
     pub man: u8,
@@ -39,7 +39,7 @@ impl Opt {
 }
 
 /// A way in which a man may bear on a king.
-#[derive(Clone, Copy, Debug, Default, PartialEq, Eq)]
+#[derive(Clone, Copy, Default, PartialEq, Eq)]
 pub struct Bearing {
     /// The number of the man, counted from 1.
     pub man: u8,
@@ -50,7 +50,7 @@ pub struct Bearing {
 }
 
 /// Two men.
-#[derive(Clone, Copy, Debug, Default, PartialEq, Eq)]
+#[derive(Clone, Copy, Default, PartialEq, Eq)]
 pub struct Pair {
     /// The number of the one man, counted from 1.
     pub first: u8,

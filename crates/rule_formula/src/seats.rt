@@ -8,7 +8,7 @@ use game_rules::Ray;
 use track_word::Var;
 
 /// The two variables in which a square stands.
-#[derive(Clone, Copy, Debug, PartialEq, Eq)]
+#[derive(Clone, Copy, PartialEq, Eq)]
 pub(crate) struct Seat {
     pub(crate) x: Var,
     pub(crate) y: Var,

@@ -8,7 +8,7 @@ use std::alloc::Global;
 const MARK: &str = " .. ";
 
 /// Numbers in a row: what they stand in is done once for each of them.
-#[derive(Clone, Copy, Debug, PartialEq, Eq)]
+#[derive(Clone, Copy, PartialEq, Eq)]
 pub struct Cases {
     pub first: u32,
     pub last: u32,

@@ -4,7 +4,7 @@ use std::alloc::{AllocError, AllocFailed};
 use std::io;
 
 /// Why a line of a script cannot be read, or not be done.
-#[derive(Clone, Copy, Debug, PartialEq, Eq)]
+#[derive(Clone, Copy, PartialEq, Eq)]
 pub enum ScriptWhy {
     /// It has more than 200 bytes.
     Long,
@@ -68,7 +68,7 @@ impl<T: Drop> From<AllocFailed<T>> for ScriptWhy {
 }
 
 /// A line of a script that cannot be read or done.
-#[derive(Clone, Copy, Debug, PartialEq, Eq)]
+#[derive(Clone, Copy, PartialEq, Eq)]
 pub struct Refusal {
     /// The number of the line, counted from 1.
     pub line: u64,
@@ -76,7 +76,7 @@ pub struct Refusal {
 }
 
 /// Why a script is not performed to its end.
-#[derive(Debug, Drop)]
+#[derive(Drop)]
 pub enum Stop {
     /// One of its lines is refused.
     Script(Refusal),

@@ -31,7 +31,7 @@ pub enum Setting<'a> {
 }
 
 /// How the calls of a port go.
-#[derive(Clone, Copy, Debug, PartialEq, Eq)]
+#[derive(Clone, Copy, PartialEq, Eq)]
 pub enum Calls {
     /// A call moves at most so many bytes.
     AtMost(usize),

@@ -18,7 +18,7 @@ pub struct Stock {
 }
 
 /// What a file of the store becomes before a run.
-#[derive(Clone, Copy, Debug, PartialEq, Eq)]
+#[derive(Clone, Copy, PartialEq, Eq)]
 pub enum Edit<'a> {
     /// It gets the bytes of the text of this name.
     Text(&'a str),
@@ -61,7 +61,7 @@ impl Stock {
 }
 
 /// What is to be told of a file behind a run.
-#[derive(Clone, Copy, Debug, PartialEq, Eq)]
+#[derive(Clone, Copy, PartialEq, Eq)]
 pub enum Told {
     /// Its length, and the sum of its bytes.
     Size,

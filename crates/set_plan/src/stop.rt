@@ -7,7 +7,7 @@ use formula_auto::CompileError;
 use std::alloc::AllocError;
 
 /// A step of a part.
-#[derive(Clone, Copy, Debug, PartialEq, Eq)]
+#[derive(Clone, Copy, PartialEq, Eq)]
 pub struct StepName<P> {
     /// The part's name.
     pub part: P,
@@ -16,7 +16,7 @@ pub struct StepName<P> {
 }
 
 /// Why a program has no value.
-#[derive(Clone, Copy, Debug, PartialEq, Eq)]
+#[derive(Clone, Copy, PartialEq, Eq)]
 pub enum PlanError<P> {
     /// The first step whose spread exceeds the budget.
     Over(StepName<P>),

@@ -13,7 +13,7 @@ use winning_sets::Solved;
 
 /// The first moves of a man along a ray that keep the promised count: the man, the step of the ray, the least distance among those whose square lies
 /// in the frame, and how many there are on the whole board.
-#[derive(Clone, Copy, Debug, PartialEq, Eq)]
+#[derive(Clone, Copy, PartialEq, Eq)]
 pub struct FirstLine {
     pub man: u8,
     pub dx: i8,

@@ -14,7 +14,7 @@ use std::marker::Model;
 use winning_sets::Solved;
 
 /// A move that was made, the number of the ray that it went along, how far it went in steps of the ray, and whether it mates.
-#[derive(Clone, Copy, Debug, PartialEq, Eq)]
+#[derive(Clone, Copy, PartialEq, Eq)]
 pub struct Played {
     pub mv: Move,
     pub ray: u8,
@@ -23,7 +23,7 @@ pub struct Played {
 }
 
 /// No move to a square of the frame leads into the sets of the next ply.
-#[derive(Clone, Copy, Debug, PartialEq, Eq)]
+#[derive(Clone, Copy, PartialEq, Eq)]
 pub struct TooWide;
 
 /// A game from a solved position. The winner still mates within the moves that he has left.

@@ -7,7 +7,7 @@ use mate_plan::{Part, PartName};
 use set_plan::PlanError;
 
 /// A step of a plan.
-#[derive(Clone, Copy, Debug, PartialEq, Eq)]
+#[derive(Clone, Copy, PartialEq, Eq)]
 pub struct StepName {
     /// The number of moves of the winner that the plan is for.
     pub moves: u8,
@@ -21,7 +21,7 @@ pub struct StepName {
 }
 
 /// Why a position is not solved.
-#[derive(Clone, Copy, Debug, PartialEq, Eq)]
+#[derive(Clone, Copy, PartialEq, Eq)]
 pub enum SolveError {
     /// The first step of the plan that needs more states than the budget.
     Over(StepName),

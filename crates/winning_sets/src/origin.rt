@@ -1,7 +1,7 @@
 //! Where sets come from.
 
 /// Where the kept sets of a solved position come from.
-#[derive(Clone, Copy, Debug, PartialEq, Eq)]
+#[derive(Clone, Copy, PartialEq, Eq)]
 pub enum Origin {
     /// The plan: there is one for each ply and each mask.
     Plan,
