@@ -10,13 +10,25 @@ use std::marker::Model;
 use track_word::Var;
 
 /// A complete deterministic automaton that reads nonempty words, the sign letter first.
-#[derive(Drop)]
 pub struct Auto {
     tracks: Vec<Var>,
     diagrams: Diagrams,
     first: Node,
     rows: Vec<Node>,
     accept: Vec<bool>,
+}
+
+impl Drop for Auto {
+    /// Lets the tables go. Written out, so that a body that lets an automaton go has a call here in place of its fields' drops.
+    fn drop(self) {
+        let Auto {
+            tracks: _,
+            diagrams: _,
+            first: _,
+            rows: _,
+            accept: _,
+        } = self;
+    }
 }
 
 impl Model for Auto {

@@ -63,9 +63,15 @@ impl Hash for Shape {
 }
 
 /// Diagrams that share their nodes. There are no more than 2^32 of them: one more is refused as want of memory.
-#[derive(Drop)]
 pub struct Diagrams {
     shapes: IndexSet<Shape>,
+}
+
+impl Drop for Diagrams {
+    /// Lets the nodes go. Written out, so that a body that lets diagrams go has a call here in place of their fields' drops.
+    fn drop(self) {
+        let Diagrams { shapes: _ } = self;
+    }
 }
 
 impl Model for Diagrams {
