@@ -23,7 +23,7 @@ grows c = rw (c.in_ok-diagrams.ensures, c.diagrams.ensures.shapes) at c.bring.en
 each : (c : goal.After-as_slice-3)
     → EachAnswers (IsCarried c.args.b.now.shapes c.bring.new.self
     (λ letter. letter) (λ value. value)) (c.args.b.now.first_node ∷ c.args.b.now.row_nodes) c.in_ok-brought.brought.items
-each c = rw (c.diagrams-3.ensures.shapes, c.as_slice.ensures.value, c.in_ok-others.ensures.nodes) at c.in_ok-brought.ensures.brought
+each c = rw (c.diagrams-2.ensures.shapes, c.as_slice.ensures.value, c.in_ok-others.ensures.nodes) at c.in_ok-brought.ensures.brought
 
 pub have_equal_maps-requires-clause-size : goal.have_equal_maps-requires-clause-size
 have_equal_maps-requires-clause-size c =
@@ -47,7 +47,7 @@ pub returns : goal.returns
 returns c =
     let flags = sym c.flags.ensures ∙ flags_agree _ _ _ c.ne.ensures c.if-ne.false ∙ c.flags-2.ensures in
     let more = rw (c.in_ok-diagrams.ensures, c.diagrams.ensures.shapes) at c.bring.ensures.grows in
-    let all = rw (c.diagrams-3.ensures.shapes, c.as_slice.ensures.value, c.in_ok-others.ensures.nodes) at c.in_ok-brought.ensures.brought in
+    let all = rw (c.diagrams-2.ensures.shapes, c.as_slice.ensures.value, c.in_ok-others.ensures.nodes) at c.in_ok-brought.ensures.brought in
     let equal = rw (c.as_slice-2.ensures.value, c.as_slice-3.ensures.value, c.in_ok-nodes.ensures.nodes) at c.have_equal_maps.ensures in (
       λ said. HaveEqualTables-maps c.args.a.now c.args.b.now c.requires.a_valid c.requires.b_valid c.in_ok-nodes.ensures.over
           c.in_ok-others.ensures.over c.requires.tracks flags c.bring.new.self c.in_ok-brought.brought.items more all (equal.0 said),
