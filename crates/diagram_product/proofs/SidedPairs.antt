@@ -1,7 +1,6 @@
 -- Maps of pairs of two sides, as nodes and pairs are added.
 use Rattle.std.proofs.Common.{◌≡◌, ◌≢◌, ℕ, ◌<◌, ◌≤◌, ◌+◌, ◌%◌, min, Bool, true, false, List, length, slice_get, get_or, nat_eq, Some, arith, refl, sym, ap, ◌∙◌, subst, inl, inr, if◌then◌else◌}
 use Rattle.std.specs.Int.{bit_at}
-use Rattle.std.specs.HashMap.{HashMap, Updates}
 use Rattle.std.proofs.lemmas.Bool.{cases_lt}
 use Rattle.std.proofs.lemmas.List.{length_push, get_or_push}
 use Rattle.std.proofs.lemmas.Option.{slice_get-get_or}
@@ -10,11 +9,13 @@ use Rattle.letter_diagram.specs.declared.diagrams.Shape.{Shape}
 use Rattle.diagram_product.specs.declared.absorbing.Absorbing.{Absorbing}
 use Rattle.letter_diagram.specs.Diagram.{map_at, top_track, chosen, Grows}
 use Rattle.letter_diagram.specs.Numbering.{Numbers, PairsKept}
-use Rattle.letter_diagram.specs.Splits.{room_from, pair_eq}
+use Rattle.letter_diagram.specs.declared.pair_memo.Slot.{Slot}
+use Rattle.letter_diagram.specs.PairMemo.{AnswersNothing, LearnsPair}
+use Rattle.letter_diagram.specs.Splits.{room_from}
 use Rattle.diagram_product.specs.Absorbed.{absorbed, ArePairs}
 use Rattle.diagram_product.specs.Sided.{Reading, Sides, read_at, read_top, LooksFrom, IsReadSplit, pair_at, pair_top, AreReadPairs, CanBePaired, IsPaired, RemembersPaired}
 use Rattle.letter_diagram.proofs.Canonical.{flip, bit_at-flip_same, bit_at-flip_other}
-use Rattle.letter_diagram.proofs.Memos.{pair_answers-insert}
+use Rattle.letter_diagram.proofs.PairMemos.{pair_answers-learn}
 use Rattle.diagram_product.proofs.Readings.{CanBeRead-grows, read_at-grows, read_top-grows}
 
 -- two sides as nodes are added
@@ -48,14 +49,17 @@ IsPaired-grows {pairs'} {r} grows kept is =
       top = rw (tops, top_r) top;
     }
 
-pub RemembersPaired-grows : {S : Type 0} {sides : Sides} {old new : List Shape} {pairs pairs' : List (ℕ × ℕ)} {memo : HashMap (ℕ × ℕ) ℕ S} → Grows old new
+pub RemembersPaired-nothing : {sides : Sides} {shapes : List Shape} {pairs : List (ℕ × ℕ)} {memo : List Slot} → AnswersNothing memo → RemembersPaired sides shapes pairs memo
+RemembersPaired-nothing none = record { paired = λ a b r at. absurd (none a b r at) }
+
+pub RemembersPaired-grows : {sides : Sides} {old new : List Shape} {pairs pairs' : List (ℕ × ℕ)} {memo : List Slot} → Grows old new
     → PairsKept pairs pairs' → RemembersPaired sides old pairs memo → RemembersPaired sides new pairs' memo
 RemembersPaired-grows grows kept all = record { paired = λ a b r at. IsPaired-grows grows kept (all.paired a b r at) }
 
-pub RemembersPaired-insert : {S : Type 0} {sides : Sides} {shapes : List Shape} {pairs : List (ℕ × ℕ)} {memo new : HashMap (ℕ × ℕ) ℕ S} {a b r : ℕ}
+pub RemembersPaired-learn : {sides : Sides} {shapes : List Shape} {pairs : List (ℕ × ℕ)} {memo new : List Slot} {a b r : ℕ}
     → RemembersPaired sides shapes pairs memo
-    → Updates pair_eq memo new (a, b) (Some r) → IsPaired sides shapes pairs a b r → RemembersPaired sides shapes pairs new
-RemembersPaired-insert {sides} {shapes} {pairs} {memo} {new} {a} {b} {r} all updates is = record { paired = pair_answers-insert (IsPaired sides shapes pairs) memo new a b r all.paired updates is }
+    → LearnsPair memo new a b r → IsPaired sides shapes pairs a b r → RemembersPaired sides shapes pairs new
+RemembersPaired-learn {sides} {shapes} {pairs} all learns is = record { paired = pair_answers-learn (IsPaired sides shapes pairs) all.paired learns is }
 
 -- one pair at each letter
 pub IsPaired-leaf : {sides : Sides} {old new : List Shape} (pairs : List (ℕ × ℕ)) {a b : ℕ} (r number : ℕ) (pair : ℕ × ℕ) → CanBePaired sides old a b → Grows old new → r < length new

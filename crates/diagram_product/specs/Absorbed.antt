@@ -1,8 +1,6 @@
 -- Pairs one value of which says all.
 use Rattle.std.specs.Prelude.{◌≡◌, ◌<◌, ◌≤◌, ℕ, Bool, false, nat_eq, ◌||◌, if◌then◌else◌, Option, Some, None, List, length, slice_get}
-use Rattle.letter_diagram.specs.declared.diagrams.Shape.{Shape}
 use Rattle.diagram_product.specs.declared.absorbing.Absorbing.{Absorbing}
-use Rattle.letter_diagram.specs.Diagram.{map_at}
 
 -- whether a value is the absorbing one
 abbrev pub absorbs : Option ℕ → ℕ → Bool

@@ -1,14 +1,15 @@
 -- Maps of pairs of the values of two maps, each of which is read where it stands.
 use Rattle.std.specs.Prelude.{◌≡◌, ℕ, ◌+◌, ◌^◌, ◌<◌, ◌≤◌, min, List, Option, length, slice_index_or, Some, None, nat_eq, if◌then◌else◌}
 use Rattle.std.specs.Int.{bit_at}
-use Rattle.std.specs.HashMap.{HashMap, get}
 use Rattle.limits.specs.declared.numbers.TheConstants.{MOST_TRACKS}
 use Rattle.letter_diagram.specs.declared.diagrams.Shape.{Shape}
 use Rattle.letter_diagram.specs.declared.diagrams.Shape.TheVariants.{Leaf, Test}
 use Rattle.diagram_product.specs.declared.absorbing.Absorbing.{Absorbing}
 use Rattle.letter_diagram.specs.Diagram.{map_at, top_track, LooksBelow}
 use Rattle.letter_diagram.specs.Relabelled.{relabelled}
-use Rattle.letter_diagram.specs.Splits.{pair_eq, room_from}
+use Rattle.letter_diagram.specs.declared.pair_memo.Slot.{Slot}
+use Rattle.letter_diagram.specs.PairMemo.{Answers}
+use Rattle.letter_diagram.specs.Splits.{room_from}
 use Rattle.diagram_product.specs.Paired.{NumbersPairs}
 use Rattle.diagram_product.specs.Absorbed.{absorbed, ArePairs}
 
@@ -137,6 +138,5 @@ pub record IsPaired (sides : Sides) (shapes : List Shape) (pairs : List (ℕ × 
   pub top : pair_top sides shapes a b ≤ top_track shapes r
 
 -- the pairs of nodes in a memo are paired
-pub record RemembersPaired {S : Type 0} (sides : Sides) (shapes : List Shape) (pairs : List (ℕ × ℕ))
-    (memo : HashMap (ℕ × ℕ) ℕ S) : Type 0 where
-  pub paired : (a b r : ℕ) → get pair_eq memo (a, b) ≡ Some r → IsPaired sides shapes pairs a b r
+pub record RemembersPaired (sides : Sides) (shapes : List Shape) (pairs : List (ℕ × ℕ)) (memo : List Slot) : Type 0 where
+  pub paired : (a b r : ℕ) → Answers memo a b r → IsPaired sides shapes pairs a b r

@@ -8,10 +8,9 @@ ghost use Rattle.diagram_product.specs.Paired.{NumbersPairs, both_at, AreAnswers
 use crate::absorbing::Absorbing;
 use crate::pairs::Pairs;
 use crate::sides::TwoSides;
-use letter_diagram::{Diagrams, Node};
+use letter_diagram::{Diagrams, Node, PairMemo};
 use limits::MOST_TRACKS;
 use std::alloc::AllocError;
-use std::collections::HashMap;
 
 /// The map from a letter to the number, in `pairs`, of the pair of both values.
 pub fn apply2(
@@ -31,7 +30,7 @@ pub fn apply2(
     ensures pairs { PairsKept pairs.old pairs.new }
     ensures grows { Grows diagrams.old diagrams.new }
 {
-    let mut memo = HashMap::new(diagrams.alloc());
+    let mut memo = PairMemo::new(diagrams.alloc());
     let sides = TwoSides::together(Absorbing::nothing());
     let node = sides.paired(a, b, diagrams, pairs, &mut memo)?;
     Ok(node)

@@ -9,10 +9,9 @@ ghost use Rattle.diagram_product.specs.Product.{absorbed_at, AddsAbsorbed};
 use crate::absorbing::Absorbing;
 use crate::pairs::Pairs;
 use crate::sides::TwoSides;
-use letter_diagram::{Diagrams, Node};
+use letter_diagram::{Diagrams, Node, PairMemo};
 use limits::MOST_TRACKS;
 use std::alloc::AllocError;
-use std::collections::HashMap;
 use std::marker::Model;
 
 /// Diagrams and the pairs of their values, for many calls of `apply`. What two calls have in common is done once.
@@ -20,7 +19,7 @@ use std::marker::Model;
 pub struct Product {
     diagrams: Diagrams,
     pairs: Pairs,
-    memo: HashMap<(Node, Node), Node>,
+    memo: PairMemo,
     absorbing: Absorbing,
 }
 
@@ -42,7 +41,7 @@ impl Product {
         ensures pairs { IfOk result (λ product. product.pairs ≡ pairs) }
         ensures absorbing { IfOk result (λ product. product.absorbing ≡ absorbing) }
     {
-        let memo = HashMap::with_capacity(diagrams.alloc(), diagrams.len())?;
+        let memo = PairMemo::with_capacity(diagrams.alloc(), diagrams.len())?;
         Ok(Product {
             diagrams,
             pairs,

@@ -10,10 +10,9 @@ use crate::absorbing::Absorbing;
 use crate::pairs::Pairs;
 use crate::side::LentSide;
 use crate::sides::TwoSides;
-use letter_diagram::{Diagrams, Node};
+use letter_diagram::{Diagrams, Node, PairMemo};
 use limits::MOST_TRACKS;
 use std::alloc::{AllocError, Global};
-use std::collections::HashMap;
 use std::marker::Model;
 
 /// Two sides, the nodes of maps of pairs of their values, and these pairs, for many calls of `apply`. What two calls have in
@@ -23,7 +22,7 @@ pub struct SidedProduct<'a> {
     sides: TwoSides<LentSide<'a>>,
     diagrams: Diagrams,
     pairs: Pairs,
-    memo: HashMap<(Node, Node), Node>,
+    memo: PairMemo,
 }
 
 impl<'a> Model for SidedProduct<'a> {
@@ -55,7 +54,7 @@ impl<'a> SidedProduct<'a> {
     {
         let nodes = left.len().max(right.len());
         let diagrams = Diagrams::with_capacity(alloc, nodes)?;
-        let memo = HashMap::with_capacity(alloc, nodes)?;
+        let memo = PairMemo::with_capacity(alloc, nodes)?;
         let sides = TwoSides {
             left,
             right,

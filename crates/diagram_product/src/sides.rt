@@ -7,10 +7,9 @@ ghost use Rattle.diagram_product.specs.Sided.{together, AreReadPairs, pair_at, p
 use crate::absorbing::{Absorbing, absorbs};
 use crate::pairs::Pairs;
 use crate::side::{Here, Side, constant, split, top};
-use letter_diagram::{Diagrams, Node};
+use letter_diagram::{Diagrams, Node, PairMemo};
 use limits::MOST_TRACKS;
 use std::alloc::AllocError;
-use std::collections::HashMap;
 use std::marker::Model;
 
 /// Both sides of a product, and which of their values absorb the other's.
@@ -51,7 +50,7 @@ impl<S: Side> TwoSides<S> {
         b: Node,
         to: &mut Diagrams,
         pairs: &mut Pairs,
-        memo: &mut HashMap<(Node, Node), Node>,
+        memo: &mut PairMemo,
     ) -> Result<Node, AllocError>
         requires read { CanBePaired self.now to.old a b }
         requires room { HasPairRoom self.now to.old pairs.old a b }
@@ -63,14 +62,14 @@ impl<S: Side> TwoSides<S> {
         ensures pairs { PairsKept pairs.old pairs.new }
         ensures grows { Grows to.old to.new }
     {
-        if let Some(node) = memo.get(&(a, b)) {
-            return Ok(*node);
+        if let Some(node) = memo.get(a, b) {
+            return Ok(node);
         }
         let node = match self.one_pair(to, a, b) {
             Some((left, right)) => to.leaf(pairs.add(left, right)?)?,
             None => self.paired_sides(a, b, to, pairs, memo)?,
         };
-        memo.insert((a, b), node)?;
+        memo.insert(a, b, node)?;
         Ok(node)
     }
 
@@ -102,7 +101,7 @@ impl<S: Side> TwoSides<S> {
         b: Node,
         to: &mut Diagrams,
         pairs: &mut Pairs,
-        memo: &mut HashMap<(Node, Node), Node>,
+        memo: &mut PairMemo,
     ) -> Result<Node, AllocError>
         requires read { CanBePaired self.now to.old a b }
         requires low { pair_top self.now to.old a b < MOST_TRACKS }

@@ -1,13 +1,14 @@
 -- Maps that are one of two maps, as nodes are added.
-use Rattle.std.proofs.Common.{◌≡◌, ℕ, ◌<◌, ◌≤◌, Bool, true, false, List, length, nat_eq, Some, arith, refl, sym, ◌∙◌, if◌then◌else◌}
+use Rattle.std.proofs.Common.{◌≡◌, ℕ, ◌<◌, ◌≤◌, Bool, true, false, List, length, nat_eq, arith, sym, ◌∙◌, if◌then◌else◌}
 use Rattle.std.specs.Int.{bit_at}
-use Rattle.std.specs.HashMap.{HashMap, Updates}
 use Rattle.letter_diagram.specs.declared.diagrams.Shape.{Shape}
+use Rattle.letter_diagram.specs.declared.pair_memo.Slot.{Slot}
 use Rattle.letter_diagram.specs.Diagram.{map_at, top_track, chosen, Grows}
-use Rattle.letter_diagram.specs.Splits.{IsSplit, top_of_both, pair_eq}
+use Rattle.letter_diagram.specs.Splits.{IsSplit, top_of_both}
+use Rattle.letter_diagram.specs.PairMemo.{AnswersNothing, LearnsPair}
 use Rattle.letter_diagram.specs.Chosen.{IsChosen, RemembersChosen}
 use Rattle.letter_diagram.proofs.Splittings.{top_of_both-grows, chosen-grows}
-use Rattle.letter_diagram.proofs.Memos.{pair_answers-insert}
+use Rattle.letter_diagram.proofs.PairMemos.{pair_answers-learn}
 
 pub IsChosen-grows : {old new : List Shape} {track low high r : ℕ} → Grows old new → IsChosen old track low high r → IsChosen new track low high r
 IsChosen-grows {old} {new} {track} {low} {high} {r} grows is =
@@ -26,13 +27,16 @@ IsChosen-grows {old} {new} {track} {low} {high} {r} grows is =
       top = omega arith;
     }
 
-pub RemembersChosen-grows : {S : Type 0} {old new : List Shape} {track : ℕ} {memo : HashMap (ℕ × ℕ) ℕ S}
+pub RemembersChosen-nothing : {shapes : List Shape} {track : ℕ} {memo : List Slot} → AnswersNothing memo → RemembersChosen shapes track memo
+RemembersChosen-nothing none = record { chosen = λ low high r at. absurd (none low high r at) }
+
+pub RemembersChosen-grows : {old new : List Shape} {track : ℕ} {memo : List Slot}
     → Grows old new → RemembersChosen old track memo → RemembersChosen new track memo
 RemembersChosen-grows grows all = record { chosen = λ low high r at. IsChosen-grows grows (all.chosen low high r at) }
 
-pub RemembersChosen-insert : {S : Type 0} {shapes : List Shape} {track : ℕ} {memo new : HashMap (ℕ × ℕ) ℕ S} {low high r : ℕ} → RemembersChosen shapes track memo
-    → Updates pair_eq memo new (low, high) (Some r) → IsChosen shapes track low high r → RemembersChosen shapes track new
-RemembersChosen-insert {shapes} {track} {memo} {new} {low} {high} {r} all updates is = record { chosen = pair_answers-insert (IsChosen shapes track) memo new low high r all.chosen updates is }
+pub RemembersChosen-learn : {shapes : List Shape} {track : ℕ} {memo new : List Slot} {low high r : ℕ} → RemembersChosen shapes track memo
+    → LearnsPair memo new low high r → IsChosen shapes track low high r → RemembersChosen shapes track new
+RemembersChosen-learn {shapes} {track} all learns is = record { chosen = pair_answers-learn (IsChosen shapes track) all.chosen learns is }
 
 -- before the track, the choices between the sides of both maps
 pub IsChosen-sides : {shapes : List Shape} {track : ℕ} (own : ℕ) {low high : ℕ} (r : ℕ) {low_off low_on high_off high_on : ℕ} (off on : ℕ) → low < length shapes → high < length shapes → r < length shapes

@@ -4,6 +4,7 @@ pub mod Added
 pub mod Canonical
 pub mod Memos
 pub mod PairNumbers
+pub mod PairMemos
 pub mod Splittings
 pub mod Choices
 pub mod Narrow

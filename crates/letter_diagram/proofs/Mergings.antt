@@ -5,12 +5,15 @@ use Rattle.std.specs.HashMap.{HashMap, Updates}
 use Rattle.std.proofs.lemmas.Bool.{cases_lt, cases_eq}
 use Rattle.track_word.proofs.LetterBits.{bit_cases}
 use Rattle.letter_diagram.specs.declared.diagrams.Shape.{Shape}
+use Rattle.letter_diagram.specs.declared.pair_memo.Slot.{Slot}
+use Rattle.letter_diagram.specs.PairMemo.{AnswersNothing, LearnsPair}
 use Rattle.letter_diagram.specs.Diagram.{map_at, top_track, chosen, IsDiagram, Grows}
-use Rattle.letter_diagram.specs.Splits.{IsSplit, top_of_both, pair_eq}
+use Rattle.letter_diagram.specs.Splits.{IsSplit, top_of_both}
 use Rattle.letter_diagram.specs.Sets.{SetsKept, IsUnion}
 use Rattle.letter_diagram.specs.Merged.{IsWithBit, HasSets, IsUnited, AreUnions, RemembersUnited, IgnoresTrack, IsMerged, AreMerged, RemembersMerged}
 use Rattle.letter_diagram.proofs.Canonical.{flip, bit_at-flip_same, bit_at-flip_other, flipped, map_at-agree}
-use Rattle.letter_diagram.proofs.Memos.{answers-insert, pair_answers-insert}
+use Rattle.letter_diagram.proofs.Memos.{answers-insert}
+use Rattle.letter_diagram.proofs.PairMemos.{pair_answers-learn}
 use Rattle.letter_diagram.proofs.Splittings.{top_of_both-grows, chosen-low, chosen-high, low_answer, high_answer}
 use Rattle.letter_diagram.proofs.SetNumbers.{IsUnion-kept, IsUnion-same, IsUnion-at}
 
@@ -106,13 +109,16 @@ IsUnited-sides {shapes} r track low high ha hb kr sa sb e ul uh map top = record
       };
 }
 
-pub RemembersUnited-grows : {S : Type 0} {old new : List Shape} {sets sets' : List (List ℕ)} {memo : HashMap (ℕ × ℕ) ℕ S} → Grows old new → SetsKept sets sets'
+pub RemembersUnited-nothing : {shapes : List Shape} {sets : List (List ℕ)} {memo : List Slot} → AnswersNothing memo → RemembersUnited shapes sets memo
+RemembersUnited-nothing none = record { united = λ a b r at. absurd (none a b r at) }
+
+pub RemembersUnited-grows : {old new : List Shape} {sets sets' : List (List ℕ)} {memo : List Slot} → Grows old new → SetsKept sets sets'
     → RemembersUnited old sets memo → RemembersUnited new sets' memo
 RemembersUnited-grows grows kept all = record { united = λ a b r at. IsUnited-grows grows kept (all.united a b r at) }
 
-pub RemembersUnited-insert : {S : Type 0} {shapes : List Shape} {sets : List (List ℕ)} {memo new : HashMap (ℕ × ℕ) ℕ S} {a b r : ℕ} → RemembersUnited shapes sets memo
-    → Updates pair_eq memo new (a, b) (Some r) → IsUnited shapes sets a b r → RemembersUnited shapes sets new
-RemembersUnited-insert {shapes} {sets} {memo} {new} {a} {b} {r} all updates is = record { united = pair_answers-insert (IsUnited shapes sets) memo new a b r all.united updates is }
+pub RemembersUnited-learn : {shapes : List Shape} {sets : List (List ℕ)} {memo new : List Slot} {a b r : ℕ} → RemembersUnited shapes sets memo
+    → LearnsPair memo new a b r → IsUnited shapes sets a b r → RemembersUnited shapes sets new
+RemembersUnited-learn {shapes} {sets} all learns is = record { united = pair_answers-learn (IsUnited shapes sets) all.united learns is }
 
 -- the sets that two sides added are unions of sets of both nodes
 pub AreUnions-sides : {shapes mid : List Shape} → IsDiagram shapes → {first second third : List (List ℕ)} {a b : ℕ} (track : ℕ) {al ah bl bh : ℕ}

@@ -1,5 +1,5 @@
 -- Which tracks a map looks at.
-use Rattle.std.proofs.Common.{◌≡◌, ◌≢◌, ℕ, ◌<◌, ◌≤◌, ◌+◌, ◌*◌, ◌%◌, ◌/◌, ◌^◌, zero, suc, AllPairs, List, [], ◌∷◌, length, get_or, map, slice_get, nat_eq, Some, arith, refl, sym, ap, ◌∙◌, inl, inr, if◌then◌else◌}
+use Rattle.std.proofs.Common.{◌≡◌, ◌≢◌, ℕ, ◌<◌, ◌+◌, ◌*◌, ◌%◌, ◌/◌, ◌^◌, zero, suc, List, [], ◌∷◌, length, get_or, nat_eq, arith, refl, sym, ap, ◌∙◌, inl, inr, if◌then◌else◌}
 use Rattle.std.specs.Int.{bit_at}
 use Rattle.std.proofs.lemmas.Bool.{cases_eq, cases_lt}
 use Rattle.std.proofs.lemmas.Nat.Bits.{bit_at-lt, bit_at-suc, bit_at_lowest}
@@ -9,8 +9,7 @@ use Rattle.letter_diagram.specs.declared.diagrams.Shape.TheVariants.{Test}
 use Rattle.letter_diagram.specs.Diagram.{map_at, chosen, IsDiagram, IsTest, IsAt, Grows, LooksBelow}
 use Rattle.letter_diagram.specs.Relabelled.{relabelled}
 use Rattle.letter_diagram.specs.Carried.{KeepsLetters}
-use Rattle.letter_diagram.proofs.Lists.{one_place}
-use Rattle.letter_diagram.proofs.Canonical.{flip, bit_at-flip_same, bit_at-flip_other, flipped, low_is, high_is, node-from_map, map_at-agree}
+use Rattle.letter_diagram.proofs.Canonical.{flip, bit_at-flip_same, bit_at-flip_other, flipped, low_is, high_is, node-from_map}
 
 module _ {shapes : List Shape} {node track low high : ℕ} (is : IsDiagram shapes) (at : IsAt shapes node (Test track low high)) (fits : IsTest shapes node track low high) where
   -- a side's value at a letter is the node's at a letter with that bit

@@ -1,5 +1,6 @@
 -- Facts on lists of pairs of numbers.
-use Rattle.std.proofs.Common.{◌≡◌, ◌≢◌, ℕ, Bool, true, false, true≢false, List, slice_get, Some, Contains, AllPairs, arith, refl, sym, ap, ◌∙◌, subst, get_or, [], ◌∷◌, ◌++◌, if◌then◌else◌}
+use Rattle.std.proofs.Common.{◌≡◌, ◌≢◌, ℕ, Bool, true, false, true≢false, List, slice_get, nat_eq, Some, Contains, AllPairs, arith, refl, sym, ap, ◌∙◌, subst, get_or, [], ◌∷◌, ◌++◌, if◌then◌else◌}
+use Rattle.std.specs.Prelude.{◌&&◌}
 use Rattle.std.specs.Bool.{Decides}
 use Rattle.std.specs.List.{list_any, IsDistinct, position}
 use Rattle.std.proofs.lemmas.Grind.{common_steps}
@@ -9,7 +10,10 @@ use Rattle.std.proofs.lemmas.List.Quantifiers.{position-Some}
 use Rattle.std.proofs.lemmas.Option.{slice_get-get_or, slice_get_within, get_or_from_slice_get}
 use Rattle.indexmap.specs.IndexSet.{insert_key}
 use Rattle.letter_diagram.specs.Numbering.{PairsKept}
-use Rattle.letter_diagram.specs.Splits.{pair_eq}
+
+-- whether two pairs are equal
+abbrev pub pair_eq : ℕ × ℕ → ℕ × ℕ → Bool
+pair_eq p q = nat_eq p.0 q.0 && nat_eq p.1 q.1
 
 pub pair_eq-true : (p q : ℕ × ℕ) → pair_eq p q ≡ true → p ≡ q
 pair_eq-true (a, b) (c, d) h = grind (arith, common_steps)

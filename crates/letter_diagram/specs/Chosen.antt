@@ -1,9 +1,10 @@
 -- Maps that are one of two maps, by the bit of a track.
-use Rattle.std.specs.Prelude.{◌≡◌, ℕ, ◌<◌, ◌≤◌, min, List, length, Some}
-use Rattle.std.specs.HashMap.{HashMap, get}
+use Rattle.std.specs.Prelude.{◌≡◌, ℕ, ◌<◌, ◌≤◌, min, List, length}
 use Rattle.letter_diagram.specs.declared.diagrams.Shape.{Shape}
 use Rattle.letter_diagram.specs.Diagram.{map_at, top_track, chosen}
-use Rattle.letter_diagram.specs.Splits.{top_of_both, pair_eq}
+use Rattle.letter_diagram.specs.declared.pair_memo.Slot.{Slot}
+use Rattle.letter_diagram.specs.PairMemo.{Answers}
+use Rattle.letter_diagram.specs.Splits.{top_of_both}
 
 -- the map of r is that of low where the track's bit is 0, else that of high
 pub record IsChosen (shapes : List Shape) (track low high r : ℕ) : Type 0 where
@@ -14,5 +15,5 @@ pub record IsChosen (shapes : List Shape) (track low high r : ℕ) : Type 0 wher
   pub top : min track (top_of_both shapes low high) ≤ top_track shapes r
 
 -- it is chosen between the pairs of nodes in a memo
-pub record RemembersChosen {S : Type 0} (shapes : List Shape) (track : ℕ) (memo : HashMap (ℕ × ℕ) ℕ S) : Type 0 where
-  pub chosen : (low high r : ℕ) → get pair_eq memo (low, high) ≡ Some r → IsChosen shapes track low high r
+pub record RemembersChosen (shapes : List Shape) (track : ℕ) (memo : List Slot) : Type 0 where
+  pub chosen : (low high r : ℕ) → Answers memo low high r → IsChosen shapes track low high r

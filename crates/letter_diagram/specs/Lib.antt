@@ -15,3 +15,4 @@ pub mod Merger
 pub mod Leaves
 pub mod NodeMemo
 pub mod Hashed
+pub mod PairMemo

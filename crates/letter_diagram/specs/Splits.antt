@@ -1,5 +1,5 @@
 -- Maps by the bit of a track, and two maps side by side.
-use Rattle.std.specs.Prelude.{◌≡◌, ℕ, ◌<◌, ◌≤◌, ◌-◌, ◌^◌, min, List, length, nat_eq, ◌&&◌, Bool}
+use Rattle.std.specs.Prelude.{◌≡◌, ℕ, ◌<◌, ◌≤◌, ◌-◌, ◌^◌, min, List, length}
 use Rattle.letter_diagram.specs.declared.diagrams.Shape.{Shape}
 use Rattle.letter_diagram.specs.Diagram.{map_at, top_track, chosen}
 
@@ -28,7 +28,3 @@ room_from track = 2 ^ (20 - track)
 -- at most so many letters are told apart by two nodes
 abbrev pub room_for : List Shape → ℕ → ℕ → ℕ
 room_for shapes a b = room_from (top_of_both shapes a b)
-
--- whether two pairs are equal
-abbrev pub pair_eq : ℕ × ℕ → ℕ × ℕ → Bool
-pair_eq p q = nat_eq p.0 q.0 && nat_eq p.1 q.1

@@ -5,9 +5,9 @@ ghost use Rattle.letter_diagram.specs.Splits.{top_of_both};
 ghost use Rattle.letter_diagram.specs.Chosen.{IsChosen, RemembersChosen};
 
 use crate::diagrams::{Diagrams, Node};
+use crate::pair_memo::PairMemo;
 use limits::MOST_TRACKS;
 use std::alloc::AllocError;
-use std::collections::HashMap;
 
 impl Diagrams {
     /// The map that is `low` where the bit of `track` is 0, else `high`, whatever tracks they look at: the operation if-then-else
@@ -23,7 +23,7 @@ impl Diagrams {
         if track <= self.top(low).min(self.top(high)) {
             return self.tested(track, low, high);
         }
-        let mut memo = HashMap::new(self.alloc());
+        let mut memo = PairMemo::new(self.alloc());
         self.chosen(track, low, high, &mut memo)
     }
 
@@ -49,7 +49,7 @@ impl Diagrams {
         track: u8,
         low: Node,
         high: Node,
-        memo: &mut HashMap<(Node, Node), Node>,
+        memo: &mut PairMemo,
     ) -> Result<Node, AllocError>
         requires track_low { track < MOST_TRACKS }
         requires low_known { low < length self.old }
@@ -67,15 +67,15 @@ impl Diagrams {
         if low == high {
             return Ok(low);
         }
-        if let Some(node) = memo.get(&(low, high)) {
-            return Ok(*node);
+        if let Some(node) = memo.get(low, high) {
+            return Ok(node);
         }
         let (low_off, low_on) = self.split(low, own);
         let (high_off, high_on) = self.split(high, own);
         let off = self.chosen(track, low_off, high_off, memo)?;
         let on = self.chosen(track, low_on, high_on, memo)?;
         let node = self.node(own, off, on)?;
-        memo.insert((low, high), node)?;
+        memo.insert(low, high, node)?;
         Ok(node)
     }
 }

@@ -25,6 +25,9 @@ impl Model for Node {
     ghost inverse = { λ i. record { 0 = i } };
 }
 
+/// What stands where a table has no node. The node of this number is remembered by none of them.
+pub(crate) const NO_NODE: Node = Node(u32::MAX);
+
 impl Node {
     /// How many nodes were made before it.
     pub fn number(self) -> usize

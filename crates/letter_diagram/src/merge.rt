@@ -6,6 +6,7 @@ ghost use Rattle.letter_diagram.specs.Splits.{top_of_both, room_for};
 ghost use Rattle.letter_diagram.specs.Merged.{UnitesBits, HasSets, IsUnited, AreUnions, RemembersUnited, IgnoresTrack, IsMerged, AreMerged, RemembersMerged};
 
 use crate::diagrams::{Diagrams, Node};
+use crate::pair_memo::PairMemo;
 use crate::sets::Sets;
 use limits::MOST_TRACKS;
 use std::alloc::AllocError;
@@ -29,7 +30,7 @@ impl Diagrams {
         ensures grows { Grows self.old self.new }
     {
         let mut merged = HashMap::new(self.alloc());
-        let mut united = HashMap::new(self.alloc());
+        let mut united = PairMemo::new(self.alloc());
         self.merged(a, track, sets, &mut merged, &mut united)
     }
 
@@ -40,7 +41,7 @@ impl Diagrams {
         track: u8,
         sets: &mut Sets,
         merged: &mut HashMap<Node, Node>,
-        united: &mut HashMap<(Node, Node), Node>,
+        united: &mut PairMemo,
     ) -> Result<Node, AllocError>
         requires track_low { track < MOST_TRACKS }
         requires source { HasSets self.old sets.old a }
@@ -82,7 +83,7 @@ impl Diagrams {
         a: Node,
         b: Node,
         sets: &mut Sets,
-        memo: &mut HashMap<(Node, Node), Node>,
+        memo: &mut PairMemo,
     ) -> Result<Node, AllocError>
         requires a_sets { HasSets self.old sets.old a }
         requires b_sets { HasSets self.old sets.old b }
@@ -99,15 +100,15 @@ impl Diagrams {
         if a == b {
             return Ok(a);
         }
-        if let Some(node) = memo.get(&(a, b)) {
-            return Ok(*node);
+        if let Some(node) = memo.get(a, b) {
+            return Ok(node);
         }
         let node = if track == MOST_TRACKS {
             self.united_leaves(a, b, sets)?
         } else {
             self.united_sides(a, b, track, sets, memo)?
         };
-        memo.insert((a, b), node)?;
+        memo.insert(a, b, node)?;
         Ok(node)
     }
 
@@ -135,7 +136,7 @@ impl Diagrams {
         b: Node,
         track: u8,
         sets: &mut Sets,
-        memo: &mut HashMap<(Node, Node), Node>,
+        memo: &mut PairMemo,
     ) -> Result<Node, AllocError>
         requires a_sets { HasSets self.old sets.old a }
         requires b_sets { HasSets self.old sets.old b }

@@ -7,6 +7,7 @@ ghost use Rattle.letter_diagram.specs.Merged.{UnitesBits, HasSets, IsUnited, Are
 ghost use Rattle.letter_diagram.specs.Merger.{AddsMerged};
 
 use crate::diagrams::{Diagrams, Node};
+use crate::pair_memo::PairMemo;
 use crate::sets::Sets;
 use std::alloc::AllocError;
 use std::collections::HashMap;
@@ -20,7 +21,7 @@ pub struct Merger {
     sets: Sets,
     track: u8,
     merged: HashMap<Node, Node>,
-    united: HashMap<(Node, Node), Node>,
+    united: PairMemo,
 }
 
 impl Model for Merger {
@@ -46,7 +47,7 @@ impl Merger {
         ensures track { result.track ≡ track }
     {
         let merged = HashMap::new(diagrams.alloc());
-        let united = HashMap::new(diagrams.alloc());
+        let united = PairMemo::new(diagrams.alloc());
         Merger {
             diagrams,
             sets,

@@ -2,7 +2,11 @@ use Rattle.std.proofs.Common.{arith, ap, ◌∙◌, Some}
 use Rattle.diagram_product.specs.Sided.{pair_top}
 use Rattle.diagram_product.proofs.Absorptions.{absorbed-nothing}
 use Rattle.letter_diagram.proofs.Splittings.{room_from-le}
+use Rattle.diagram_product.proofs.SidedPairs.{RemembersPaired-nothing}
 use Rattle.diagram_product.proofs.apply.apply2.Goals as goal
+
+pub paired-requires-clause-remembered : goal.paired-requires-clause-remembered
+paired-requires-clause-remembered c = RemembersPaired-nothing c.new-memo.ensures
 
 pub paired-requires-clause-room : goal.paired-requires-clause-room
 paired-requires-clause-room c = let room = room_from-le (pair_top c.together-sides.result c.args.diagrams.now c.args.a c.args.b) in omega (arith, room)

@@ -2,7 +2,11 @@ use Rattle.std.proofs.Common.{length, ap, arith}
 use Rattle.diagram_product.specs.Product.{SidedTables}
 use Rattle.diagram_product.specs.Sided.{pair_top}
 use Rattle.letter_diagram.proofs.Splittings.{room_from-le}
+use Rattle.diagram_product.proofs.SidedPairs.{RemembersPaired-nothing}
 use Rattle.diagram_product.proofs.sided_product.SidedProduct.apply.Goals as goal
+
+pub invariant_of-self-in-Err : goal.invariant_of-self-in-Err
+invariant_of-self-in-Err c = RemembersPaired-nothing c.clear.ensures
 
 pub paired-requires-clause-room : goal.paired-requires-clause-room
 paired-requires-clause-room c =

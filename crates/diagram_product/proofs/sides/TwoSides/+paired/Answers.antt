@@ -4,13 +4,13 @@ use Rattle.diagram_product.specs.Sided.{pair_top, IsPaired, RemembersPaired}
 use Rattle.letter_diagram.proofs.Maps.{Grows-trans}
 use Rattle.letter_diagram.proofs.PairNumbers.{PairsKept-refl, PairsKept-trans}
 use Rattle.letter_diagram.proofs.Splittings.{room_from-some, room_from-sides, chosen-grows, sides-fall}
-use Rattle.diagram_product.proofs.SidedPairs.{IsPaired-grows, IsPaired-leaf, IsPaired-parts, RemembersPaired-grows, RemembersPaired-insert, CanBePaired-low, CanBePaired-high, CanBePaired-grows, room-grows, ArePairs-leaf, ArePairs-parts}
+use Rattle.diagram_product.proofs.SidedPairs.{IsPaired-grows, IsPaired-leaf, IsPaired-parts, RemembersPaired-grows, RemembersPaired-learn, CanBePaired-low, CanBePaired-high, CanBePaired-grows, room-grows, ArePairs-leaf, ArePairs-parts}
 use Rattle.diagram_product.proofs.sides.TwoSides.+paired.Given.{Over}
 use Rattle.diagram_product.proofs.sides.TwoSides.+paired.Goals as goal
 use Rattle.diagram_product.proofs.sides.TwoSides.+paired.Goals.{paired-in-Some-one_pair+in_ok-add-in-Some-one_pair+in_ok-node-in-Some-one_pair, paired-in-None+in_ok-node-in-None, paired-In_ok-insert}
 
 pub paired-returns-in-Some-clause-paired : goal.paired-returns-in-Some-clause-paired
-paired-returns-in-Some-clause-paired g t c = c.requires.remembered.paired _ _ _ (sym c.in-Some.ensures.value)
+paired-returns-in-Some-clause-paired g t c = c.requires.remembered.paired _ _ _ c.in-Some.ensures
 
 pub paired-add-requires : goal.paired-add-requires
 paired-add-requires g t c =
@@ -42,7 +42,7 @@ paired-returns-clause-remembered g t c =
           (RemembersPaired-grows w.in_ok-node-in-Some-one_pair.ensures.grows w.in_ok-add-in-Some-one_pair.ensures.kept c.requires.remembered)
       | paired-in-None+in_ok-node-in-None w ↦ rw (w.to-is, w.pairs-is, w.memo-is) w.in_ok-node-in-None.ensures.remembered
     ] in
-    RemembersPaired-insert before c.in_ok-insert.ensures.updates (made g t c)
+    RemembersPaired-learn before c.in_ok-insert.ensures (made g t c)
 
 pub paired-returns-clause-room : goal.paired-returns-clause-room
 paired-returns-clause-room g t c =

@@ -3,14 +3,14 @@ use Rattle.letter_diagram.specs.Splits.{top_of_both}
 use Rattle.letter_diagram.specs.Chosen.{IsChosen}
 use Rattle.letter_diagram.proofs.Maps.{Grows-trans}
 use Rattle.letter_diagram.proofs.Splittings.{IsSplit-grows, chosen-grows, top_of_both-grows}
-use Rattle.letter_diagram.proofs.Choices.{IsChosen-grows, IsChosen-sides, RemembersChosen-grows, RemembersChosen-insert}
+use Rattle.letter_diagram.proofs.Choices.{IsChosen-grows, IsChosen-sides, RemembersChosen-grows, RemembersChosen-learn}
 use Rattle.letter_diagram.proofs.diagrams.Diagrams.+chosen.Goals as goal
 
 pub returns-then-track-own-clause-remembered : goal.returns-then-track-own-clause-remembered
 returns-then-track-own-clause-remembered t c = RemembersChosen-grows c.in_ok-node.ensures.grows c.requires.remembered
 
 pub returns-in-Some-clause-chosen : goal.returns-in-Some-clause-chosen
-returns-in-Some-clause-chosen t c = c.requires.remembered.chosen _ _ _ (sym c.in-Some.ensures.value)
+returns-in-Some-clause-chosen t c = c.requires.remembered.chosen _ _ _ c.in-Some.ensures
 
 made : (t : ℕ) (c : goal.In_ok-insert t) → IsChosen c.node.new.self c.args.track c.args.low c.args.high c.in_ok-node-2.node
 made t c =
@@ -37,8 +37,8 @@ returns-clause-chosen t c = made t c
 
 pub returns-clause-remembered : goal.returns-clause-remembered
 returns-clause-remembered t c =
-    RemembersChosen-insert (RemembersChosen-grows c.in_ok-node-2.ensures.grows c.in_ok-on.ensures.remembered)
-    c.in_ok-insert.ensures.updates (made t c)
+    RemembersChosen-learn (RemembersChosen-grows c.in_ok-node-2.ensures.grows c.in_ok-on.ensures.remembered)
+    c.in_ok-insert.ensures (made t c)
 
 pub returns-in_err-on-clause-grows : goal.returns-in_err-on-clause-grows
 returns-in_err-on-clause-grows t c = Grows-trans c.in_ok-off.ensures.grows c.in_err-on.ensures.grows

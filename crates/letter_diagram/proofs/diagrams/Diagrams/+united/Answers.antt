@@ -4,12 +4,12 @@ use Rattle.letter_diagram.specs.Merged.{IsUnited, RemembersUnited}
 use Rattle.letter_diagram.proofs.Maps.{Grows-trans}
 use Rattle.letter_diagram.proofs.SetNumbers.{SetsKept-refl, SetsKept-trans}
 use Rattle.letter_diagram.proofs.Splittings.{room_for-constant, room_for-grows, room_for-sides, top_of_both-grows, IsSplit-grows, chosen-grows, sides-fall}
-use Rattle.letter_diagram.proofs.Mergings.{HasSets-grows, HasSets-low, HasSets-high, IsUnited-grows, IsUnited-same, IsUnited-sides, RemembersUnited-grows, RemembersUnited-insert, AreUnions-sides}
+use Rattle.letter_diagram.proofs.Mergings.{HasSets-grows, HasSets-low, HasSets-high, IsUnited-grows, IsUnited-same, IsUnited-sides, RemembersUnited-grows, RemembersUnited-learn, AreUnions-sides}
 use Rattle.letter_diagram.proofs.diagrams.Diagrams.+united.Goals as goal
 use Rattle.letter_diagram.proofs.diagrams.Diagrams.+united.Goals.{united-then-track-eq-MOST_TRACKS+in_ok-node, united-else-track-eq-MOST_TRACKS+in_ok-node-2}
 
 pub united-returns-in-Some-clause-united : goal.united-returns-in-Some-clause-united
-united-returns-in-Some-clause-united t c = c.requires.remembered.united _ _ _ (sym c.in-Some.ensures.value)
+united-returns-in-Some-clause-united t c = c.requires.remembered.united _ _ _ c.in-Some.ensures
 
 pub united-united_leaves-requires-clause-room : goal.united-united_leaves-requires-clause-room
 united-united_leaves-requires-clause-room t c =
@@ -35,7 +35,7 @@ united-returns-clause-remembered t c =
           (RemembersUnited-grows w.in_ok-node.ensures.grows w.in_ok-node.ensures.sets c.requires.remembered)
       | united-else-track-eq-MOST_TRACKS+in_ok-node-2 w ↦ rw (w.self-is, w.sets-is, w.memo-is) w.in_ok-node-2.ensures.remembered
     ] in
-    RemembersUnited-insert before c.in_ok-insert.ensures.updates (made t c)
+    RemembersUnited-learn before c.in_ok-insert.ensures (made t c)
 
 pub united-returns-clause-room : goal.united-returns-clause-room
 united-returns-clause-room t c =

@@ -1,0 +1,168 @@
+//! Answers for pairs of nodes.
+ghost use Rattle.std.specs.Prelude.{◌<◌, ◌≤◌, ◌+◌, ◌*◌, length, IfOk, IfSome};
+ghost use Rattle.letter_diagram.specs.PairMemo.{Answers, AnswersNothing, AnswersOnly, LearnsPair};
+
+use crate::diagrams::{NO_NODE, Node};
+use std::alloc::{AllocError, Global};
+use std::marker::Model;
+
+/// A pair of nodes and its answer. One whose left node is `NO_NODE` is free.
+#[derive(Clone, Copy)]
+pub struct Slot {
+    left: Node,
+    right: Node,
+    answer: Node,
+}
+
+const FREE: Slot = Slot {
+    left: NO_NODE,
+    right: NO_NODE,
+    answer: NO_NODE,
+};
+
+/// How many slots there are at least, once there are some.
+const LEAST_SLOTS: usize = 16;
+
+/// The odd number next to 2^64 over the golden ratio.
+const LEFT_FACTOR: usize = 0x9e37_79b9_7f4a_7c15;
+
+/// The odd number next to 2^64 over the real root of x^3 = x + 1.
+const RIGHT_FACTOR: usize = 0xc13f_a9a9_02a6_328f;
+
+/// A number that differs for most pairs of nodes: the upper half of a sum of products.
+fn spread(left: Node, right: Node) -> usize {
+    let left = left.number().wrapping_mul(LEFT_FACTOR);
+    let right = right.number().wrapping_mul(RIGHT_FACTOR);
+    left.wrapping_add(right) >> 32
+}
+
+/// The place among so many that comes so many steps after the one of a number: the last follows on the first.
+fn place(slots: usize, number: usize, step: usize) -> usize
+    requires { 0 < slots }
+    ensures { result < slots }
+{
+    number.wrapping_add(step) & (slots - 1)
+}
+
+/// Puts a pair and its answer into the first slot that is free.
+fn put(slots: &mut [Slot], new: Slot)
+    ensures { LearnsPair slots.old slots.new new.left new.right new.answer }
+{
+    let number = spread(new.left, new.right);
+    for step in 0..slots.len() {
+        let place = place(slots.len(), number, step);
+        if slots[place].left == NO_NODE {
+            slots[place] = new;
+            return;
+        }
+    }
+}
+
+/// Answers for pairs of nodes, in an open table with linear probing (Knuth, The Art of Computer Programming, volume 3, section
+/// 6.4). It may forget: no answer is one that was put in for another pair, but one that was put in may be missing. At most
+/// half of the slots are taken, and there are as many as a power of two.
+pub struct PairMemo {
+    slots: Vec<Slot>,
+    taken: usize,
+    ghost half_free: { 2 * taken ≤ length slots.items },
+}
+
+impl Drop for PairMemo {
+    /// Lets the slots go. Written out, so that a body that lets a memo go has a call here in place of its fields' drops.
+    fn drop(self) {
+        let PairMemo { slots: _, taken: _ } = self;
+    }
+}
+
+impl Model for PairMemo {
+    ghost use Rattle.std.specs.Prelude.{List};
+    ghost use Rattle.letter_diagram.specs.declared.pair_memo.Slot.{Slot};
+
+    ghost Value = { List Slot };
+
+    ghost view = { λ m. m.slots.items };
+}
+
+impl PairMemo {
+    /// No pair has an answer.
+    pub fn new(alloc: Global) -> Self
+        ensures { AnswersNothing result }
+    {
+        PairMemo {
+            slots: Vec::new(alloc),
+            taken: 0,
+        }
+    }
+
+    /// No pair has an answer, and there is room for so many.
+    pub fn with_capacity(alloc: Global, pairs: usize) -> Result<Self, AllocError>
+        ensures { IfOk result AnswersNothing }
+    {
+        let slots = pairs
+            .checked_mul(2)
+            .and_then(|slots| slots.max(LEAST_SLOTS).checked_next_power_of_two())
+            .ok_or(AllocError)?;
+        Ok(PairMemo {
+            slots: vec![in alloc; FREE; slots]?,
+            taken: 0,
+        })
+    }
+
+    /// Forgets all answers.
+    pub fn clear(&mut self)
+        ensures { AnswersNothing self.new }
+    {
+        self.slots.clear();
+        self.taken = 0;
+    }
+
+    /// The answer for a pair.
+    pub fn get(&self, left: Node, right: Node) -> Option<Node>
+        ensures { IfSome result (Answers self.now left right) }
+    {
+        let number = spread(left, right);
+        for step in 0..self.slots.len() {
+            let slot = self.slots[place(self.slots.len(), number, step)];
+            if slot.left == NO_NODE {
+                return None;
+            }
+            if slot.left == left && slot.right == right {
+                return Some(slot.answer);
+            }
+        }
+        None
+    }
+
+    /// One more answer, for a pair that has none. Where the left node's number is 2^32 - 1 it is not remembered.
+    pub fn insert(&mut self, left: Node, right: Node, answer: Node) -> Result<(), AllocError>
+        ensures { LearnsPair self.old self.new left right answer }
+    {
+        if self.taken == self.slots.len() / 2 {
+            let slots = self.grown()?;
+            self.slots = slots;
+        }
+        let slot = Slot {
+            left,
+            right,
+            answer,
+        };
+        put(&mut self.slots, slot);
+        self.taken += 1;
+        Ok(())
+    }
+
+    /// At least two more slots, and twice as many mostly, with the same pairs and answers.
+    fn grown(&self) -> Result<Vec<Slot>, AllocError>
+        ensures only { IfOk result (λ grown. AnswersOnly self.now grown.items) }
+        ensures more { IfOk result (λ grown. length self.now + 2 ≤ length grown.items) }
+    {
+        let size = self.slots.len().saturating_mul(2).max(LEAST_SLOTS);
+        let mut grown = vec![in *self.slots.allocator(); FREE; size]?;
+        for slot in &self.slots {
+            if slot.left != NO_NODE {
+                put(&mut grown, *slot);
+            }
+        }
+        Ok(grown)
+    }
+}
