@@ -7,9 +7,15 @@ use letter_diagram::NumberingError;
 use std::alloc::{AllocError, Global};
 use std::marker::Model;
 
-#[derive(Drop)]
 pub struct Pairs {
     seen: IndexSet<(u32, u32)>,
+}
+
+impl Drop for Pairs {
+    /// Lets the pairs go. Written out, so that a body that lets pairs go has a call here in place of their fields' drops.
+    fn drop(self) {
+        let Pairs { seen: _ } = self;
+    }
 }
 
 impl Model for Pairs {

@@ -22,9 +22,15 @@ fn union(alloc: Global, a: &[u32], b: &[u32]) -> Result<Vec<u32>, AllocError>
 }
 
 /// Sets of numbers with a number each.
-#[derive(Drop)]
 pub struct Sets {
     seen: IndexSet<Vec<u32>>,
+}
+
+impl Drop for Sets {
+    /// Lets the sets go. Written out, so that a body that lets sets go has a call here in place of their fields' drops.
+    fn drop(self) {
+        let Sets { seen: _ } = self;
+    }
 }
 
 impl Model for Sets {
