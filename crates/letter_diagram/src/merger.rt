@@ -1,9 +1,10 @@
 //! Merged and united maps over one table of nodes, with memos that are kept from call to call.
-ghost use Rattle.std.specs.Prelude.{◌≡◌, ◌<◌, ◌≤◌, ◌+◌, ◌^◌, ℕ, length, IfOk, OnOk};
+ghost use Rattle.std.specs.Prelude.{◌≡◌, ◌<◌, ◌≤◌, ◌+◌, ◌^◌, ℕ, All, length, IfOk, OnOk};
 ghost use Rattle.limits.specs.declared.numbers.TheConstants.{MOST_TRACKS};
 ghost use Rattle.letter_diagram.specs.Diagram.{map_at, top_track, Grows};
 ghost use Rattle.letter_diagram.specs.Sets.{SetsKept};
 ghost use Rattle.letter_diagram.specs.Merged.{UnitesBits, HasSets, IsUnited, AreUnions, IgnoresTrack};
+ghost use Rattle.letter_diagram.specs.Composed.{IsComposed};
 ghost use Rattle.letter_diagram.specs.Merger.{AddsMerged};
 
 use crate::diagrams::{Diagrams, Node};
@@ -139,5 +140,20 @@ impl Merger {
                 Err(refused)
             }
         }
+    }
+
+    /// The map that gives at a letter what the row that `a` names there gives at the same letter, as `Diagrams::compose` gives it. The
+    /// memos stay.
+    pub fn compose(&mut self, a: Node, rows: &[Node]) -> Result<Node, AllocError>
+        requires known { a < length self.old.shapes }
+        requires rows { All (λ node. node < length self.old.shapes) rows.now }
+        requires leaves { (letter : ℕ) → map_at self.old.shapes a letter < length rows.now }
+        ensures composed { IfOk result (IsComposed self.new.shapes rows.now a) }
+        ensures sets { self.new.sets ≡ self.old.sets }
+        ensures grows { Grows self.old.shapes self.new.shapes }
+        ensures track { self.new.track ≡ self.old.track }
+    {
+        let node = self.diagrams.compose(a, rows)?;
+        Ok(node)
     }
 }
