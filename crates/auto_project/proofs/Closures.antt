@@ -1,206 +1,222 @@
 -- Rounds of the closure of a row over repeated letters.
-use Rattle.std.proofs.Common.{◌≡◌, ◌⊎◌, ℕ, ◌<◌, ◌≤◌, ◌+◌, ◌^◌, List, [], ◌∷◌, ◌++◌, length, get_or, slice_get, slice_index, None, Some, Contains, arith, sym, ap, ◌∙◌, subst, inl, inr}
+use Rattle.std.proofs.Common.{◌≡◌, ◌≢◌, ◌⊎◌, ℕ, ◌<◌, ◌≤◌, ◌+◌, ◌%◌, ◌^◌, List, [], ◌∷◌, length, get_or, slice_index, Contains, arith, sym, ap, ◌∙◌, subst, inl, inr}
 use Rattle.std.specs.List.{All, range_with_len}
 use Rattle.std.specs.List.Sorted.{IsStrictlyIncreasing}
-use Rattle.std.proofs.lemmas.Bool.{cases_lt}
-use Rattle.std.proofs.lemmas.Option.{slice_get-get_or, slice_get_past, get_or_from_slice_get, same_Some}
-use Rattle.std.proofs.lemmas.List.{get_or_default}
-use Rattle.std.proofs.lemmas.List.Elements.{All-get_or, All-nil, All-cons, All-push, All-contains, Contains-get_or, Contains-push, Contains-push_cases, Contains-append_left, Contains-append_right}
+use Rattle.std.proofs.Math.ListN.{set}
+use Rattle.std.proofs.lemmas.Bool.{cases_lt, cases_eq}
+use Rattle.std.proofs.lemmas.Nat.{mod_below, pow_pos}
+use Rattle.std.proofs.lemmas.Option.{slice_get-get_or, get_or_from_slice_get}
+use Rattle.std.proofs.lemmas.List.{get_or_default, get_or-set_same, get_or-set_other}
+use Rattle.std.proofs.lemmas.List.Elements.{All-get_or, All-set, All-from_get_or, All-contains, Contains-get_or}
 use Rattle.std.proofs.lemmas.List.FromFn.{length-range_with_len}
 use Rattle.track_word.specs.declared.tracks.Var.{Var}
+use Rattle.track_word.proofs.LetterBits.{low_bits}
 use Rattle.letter_diagram.specs.declared.diagrams.Shape.{Shape}
 use Rattle.letter_diagram.specs.Diagram.{map_at, Grows}
 use Rattle.letter_diagram.specs.Sets.{set_at, SetsKept}
 use Rattle.letter_diagram.specs.Leaves.{AreLeaves}
-use Rattle.letter_diagram.specs.Merged.{HasSets}
+use Rattle.letter_diagram.specs.Composed.{IsComposed}
+use Rattle.letter_diagram.specs.Merged.{HasSets, IsUnited}
+use Rattle.letter_diagram.proofs.SetNumbers.{SetsKept-refl, SetsKept-trans, set_at-kept}
+use Rattle.letter_diagram.proofs.Compositions.{rows-grow, IsComposed-grows}
+use Rattle.letter_diagram.proofs.Maps.{Grows-trans}
 use Rattle.letter_diagram.proofs.Mergings.{HasSets-grows}
 use Rattle.auto_core.specs.Automaton.{Automaton, IsAutomaton}
 use Rattle.auto_core.proofs.States.{state_within}
-use Rattle.auto_project.specs.Lifted.{Begins, LiftLeads}
-use Rattle.auto_project.specs.SetMaps.{set_of, IsSetRow, AreSetRows, IsLedRow, IsJoined, IsNothing, IsUnionOf, IsGuarded, IsSwept}
-use Rattle.auto_project.proofs.Lists.{length-wider, all_in_or_one_not, in_or_not, Contains-range, Contains-head, Contains-cases}
+use Rattle.auto_project.specs.Lifted.{Begins, Follows, LiftLeads}
+use Rattle.auto_project.specs.SetMaps.{set_of, HasSomeStates, HasStates, HasUnionRows, IsSetRow, AreSetRows, IsLedRow, IsUnionRow, IsSwept}
+use Rattle.auto_project.proofs.Lists.{length-wider, all_in_or_one_not, in_or_not, no-element, some-element, Contains-range}
 use Rattle.auto_project.proofs.Lifts.{LiftLeads-begins, LiftLeads-follows, LiftLeads-in}
-use Rattle.auto_project.proofs.SetMapLemmas.{stays, has-kept, had, AreSetRows-kept, IsLedRow-kept}
+use Rattle.auto_project.proofs.SetMapLemmas.{stays, has-kept, had, AreSetRows-kept, IsLedRow-kept, IsUnionRow-kept, HasStates-kept, HasUnionRows-kept, rows-sets}
 
-pub no-row : (rows : List ℕ) (from : ℕ) → length rows ≤ from → slice_get rows from ≡ None
-no-row rows from h = slice_get_past rows from h
-
--- nothing is given where there is no row
-pub IsGuarded-none : {shapes : List Shape} {sets : List (List ℕ)} (rows : List ℕ) (from node : ℕ) {guarded : ℕ} → IsNothing shapes sets guarded → slice_get rows from ≡ None
-    → IsGuarded shapes sets rows from node guarded
-IsGuarded-none rows from node nothing none = record {
-  is = nothing.is;
-  has = λ row letter state at c d. cc;
-  only = λ letter state c. absurd (nothing.none letter state c);
+-- each of the sets that the node gives has some states, which are states of the automaton
+pub HasStates-led : {shapes : List Shape} {sets : List (List ℕ)} {a : Automaton} {some : List Var} {rows : List ℕ} {node : ℕ} → IsAutomaton a → AreSetRows shapes sets a some rows
+    → IsLedRow shapes sets a some node → HasStates shapes sets (length rows) node
+HasStates-led {shapes} {sets} {a} {some} {rows} {node} valid are led = record {
+  is = led.is;
+  nonempty = λ letter none.
+      let one = some-element (set_of shapes sets node (low letter)) (led.nonempty (low letter) (below letter)) in
+      no-element (set_of shapes sets node letter) one.0 none (led.narrow.same (low letter) letter one.0 (λ k h. sym (low_bits letter (length some) k h)) one.1);
+  within = λ letter state c.
+      let l = led.led (low letter) state (below letter) (led.narrow.same letter (low letter) state (λ k h. low_bits letter (length some) k h) c) in
+      subst (λ n. state < n) (sym are.size) (subst (λ n. n < length a.accept) l.leads (state_within valid l.lift));
 }
-
--- what joining a state's row gives
-pub IsGuarded-joined : {shapes : List Shape} {sets : List (List ℕ)} (rows : List ℕ) {from row node guarded : ℕ} → slice_get rows from ≡ Some row
-    → IsJoined shapes sets from node row guarded → IsGuarded shapes sets rows from node guarded
-IsGuarded-joined {shapes} {sets} rows {row} at joined = record {
-  is = record { known = joined.known; numbered = λ letter. (joined.joins letter).known };
-  has = λ other letter state at' there c.
-      let same : other ≡ row = same_Some _ _ (sym at' ∙ at) in
-      ((joined.joins letter).members state).1 (there, subst (λ r. Contains (set_of shapes sets r letter) state) same c);
-  only = λ letter state c. let both = ((joined.joins letter).members state).0 c in (row, at, both.0, both.1);
-}
-
--- what a state's row gives at a letter where the node's sets have the state
-pub record Gives (shapes : List Shape) (sets : List (List ℕ)) (rows : List ℕ) (node letter state : ℕ) : Type 0 where
-  pub from : ℕ
-  pub row : ℕ
-  pub is : slice_get rows from ≡ Some row
-  pub there : Contains (set_of shapes sets node letter) from
-  pub given : Contains (set_of shapes sets row letter) state
-
--- a node among some whose sets have a state at a letter
-pub record HasOne (shapes : List Shape) (sets : List (List ℕ)) (nodes : List ℕ) (letter state : ℕ) : Type 0 where
-  pub one : ℕ
-  pub among : Contains nodes one
-  pub has : Contains (set_of shapes sets one letter) state
-
--- the nodes so far, after the guarded rows of so many states
-pub record IsSweeping (shapes : List Shape) (sets : List (List ℕ)) (a : Automaton) (some : List Var) (rows states : List ℕ) (node : ℕ) (nodes : List ℕ) (count : ℕ) : Type 0 where
-  pub are_rows : AreSetRows shapes sets a some rows
-  pub led : IsLedRow shapes sets a some node
-  pub all : (letter state : ℕ) → Contains (set_of shapes sets node letter) state → Contains states state
-  pub have_sets : All (HasSets shapes sets) nodes
-  pub own : Contains nodes node
-  pub from : (one letter state : ℕ) → Contains nodes one → Contains (set_of shapes sets one letter) state
-      → Contains (set_of shapes sets node letter) state ⊎ Gives shapes sets rows node letter state
-  pub done : (i row letter state : ℕ) → i < count → i < length states → slice_get rows (slice_index states i) ≡ Some row
-      → Contains (set_of shapes sets node letter) (slice_index states i) → Contains (set_of shapes sets row letter) state
-      → HasOne shapes sets nodes letter state
-
-pub IsSweeping-first : {shapes : List Shape} {sets : List (List ℕ)} {a : Automaton} {some : List Var} {rows : List ℕ} (states : List ℕ) {node : ℕ} (nodes : List ℕ)
-    → AreSetRows shapes sets a some rows → IsLedRow shapes sets a some node
-    → ((letter state : ℕ) → Contains (set_of shapes sets node letter) state → Contains states state) → nodes ≡ node ∷ [] → IsSweeping shapes sets a some rows states node nodes 0
-IsSweeping-first {shapes} {sets} {a} {some} {rows} states {node} nodes are led all e = subst (λ l. IsSweeping shapes sets a some rows states node l 0) (sym e) (record {
-  are_rows = are;
-  led = led;
-  all = all;
-  have_sets = All-cons (HasSets shapes sets) node [] led.is (All-nil (HasSets shapes sets));
-  own = Contains-head node [];
-  from = λ one letter state c d. inl (subst (λ n. Contains (set_of shapes sets n letter) state) (sym (only-one one c)) d);
-  done = λ i row letter state h within at c d. absurd (omega arith);
-})
   where
-    only-one : (one : ℕ) → Contains (node ∷ []) one → node ≡ one
-    only-one one c = elim (Contains-cases node [] one c) [ inl e ↦ e | inr none ↦ let h = none.1 in absurd (omega arith) ]
+    low : ℕ → ℕ
+    low letter = letter % 2 ^ length some
 
-module _ (shapes more : List Shape) (sets sets' : List (List ℕ)) (a : Automaton) (some : List Var) (rows states : List ℕ) (node : ℕ) (nodes : List ℕ)
-    (count : ℕ) (grows : Grows shapes more) (kept : SetsKept sets sets')
-    (so_far : IsSweeping shapes sets a some rows states node nodes count) where
-  sets-of : (one : ℕ) → Contains nodes one → HasSets shapes sets one
-  sets-of one c = All-contains (HasSets shapes sets) nodes one so_far.have_sets c
+    below : (letter : ℕ) → letter % 2 ^ length some < 2 ^ length some
+    below letter = mod_below letter (2 ^ length some) (pow_pos (length some))
 
-  rows_now : AreSetRows more sets' a some rows
-  rows_now = AreSetRows-kept shapes more sets sets' grows kept so_far.are_rows
+-- the rows of the first sets in a table
+pub record HasRowsSoFar (shapes : List Shape) (sets : List (List ℕ)) (rows numbers table : List ℕ) (count : ℕ) : Type 0 where
+  pub known : All (λ row. row < length shapes) table
+  pub union : (k : ℕ) → k < count → IsUnionRow shapes sets rows (set_at sets (slice_index numbers k)) (slice_index table (slice_index numbers k))
 
-  led_now : IsLedRow more sets' a some node
-  led_now = IsLedRow-kept shapes more sets sets' grows kept so_far.led
+-- the set of a number that the node gives
+pub record HasNumber (sets : List (List ℕ)) (count number : ℕ) : Type 0 where
+  pub known : number < length sets
+  pub nonempty : set_at sets number ≢ []
+  pub within : All (λ state. state < count) (set_at sets number)
 
-  nodes-kept : (one : ℕ) → Contains nodes one → HasSets more sets' one
-  nodes-kept one c = HasSets-grows grows kept (sets-of one c)
-
-  all_now : (letter state : ℕ) → Contains (set_of more sets' node letter) state → Contains states state
-  all_now letter state c = so_far.all letter state (had shapes more sets sets' grows kept letter state so_far.led.is c)
-
-  from_now : (one letter state : ℕ) → Contains nodes one → Contains (set_of more sets' one letter) state
-      → Contains (set_of more sets' node letter) state ⊎ Gives more sets' rows node letter state
-  from_now one letter state c d = elim (so_far.from one letter state c (had shapes more sets sets' grows kept letter state (sets-of one c) d)) [
-    | inl e ↦ inl (has-kept shapes more sets sets' grows kept letter state so_far.led.is e)
-    | inr g ↦ inr (record {
-      from = g.from;
-      row = g.row;
-      is = g.is;
-      there = has-kept shapes more sets sets' grows kept letter g.from so_far.led.is g.there;
-      given = has-kept shapes more sets sets' grows kept letter state (so_far.are_rows.each g.from g.row g.is).is g.given;
+pub HasNumber-leaf : {shapes more : List Shape} {sets sets' : List (List ℕ)} {count node : ℕ} {numbers : List ℕ} → Grows shapes more → SetsKept sets sets'
+    → HasStates shapes sets count node → AreLeaves shapes node numbers → (i : ℕ) → i < length numbers → HasNumber sets' count (slice_index numbers i)
+HasNumber-leaf {shapes} {more} {sets} {sets'} {count} {node} {numbers} grows kept has are i h =
+    let one = are.given i h in
+    let now = HasStates-kept shapes more sets sets' grows kept has in
+    subst (HasNumber sets' count) (grows.map node one.0 has.is.known ∙ one.1) (record {
+      known = now.is.numbered one.0;
+      nonempty = now.nonempty one.0;
+      within = All-from_get_or (λ state. state < count) (set_of more sets' node one.0) 0
+          (λ k inside. now.within one.0 (get_or (set_of more sets' node one.0) k 0) (Contains-get_or (set_of more sets' node one.0) k 0 inside));
     })
+
+pub HasRowsSoFar-none : {shapes : List Shape} (sets : List (List ℕ)) (rows numbers table : List ℕ) → All (λ row. row < length shapes) table
+    → HasRowsSoFar shapes sets rows numbers table 0
+HasRowsSoFar-none sets rows numbers table known = record { known = known; union = λ k h. absurd (omega arith) }
+
+-- one more row
+pub HasRowsSoFar-step : {shapes more : List Shape} {sets sets' : List (List ℕ)} {rows numbers table : List ℕ} {count : ℕ} (row : ℕ) → Grows shapes more → SetsKept sets sets'
+    → All (HasSets shapes sets) rows → ((k : ℕ) → k < length numbers → HasNumber sets (length rows) (slice_index numbers k)) → count < length numbers
+    → slice_index numbers count < length table → HasRowsSoFar shapes sets rows numbers table count
+    → IsUnionRow more sets' rows (set_at sets (slice_index numbers count)) row
+    → HasRowsSoFar more sets' rows numbers (set table (slice_index numbers count) row) (count + 1)
+HasRowsSoFar-step {shapes} {more} {sets} {sets'} {rows} {numbers} {table} {count} row grows kept all has inside below so_far union = record {
+  known = All-set (λ r. r < length more) table (slice_index numbers count) row union.is.known (rows-grow table grows so_far.known);
+  union = λ k h. elim (cases_eq (slice_index numbers k) (slice_index numbers count)) [
+    | inl same ↦
+        subst (λ n. IsUnionRow more sets' rows (set_at sets' n) (get_or (set table (slice_index numbers count) row) n 0)) (sym same)
+        (subst (λ r. IsUnionRow more sets' rows (set_at sets' (slice_index numbers count)) r) (sym (get_or-set_same table (slice_index numbers count) row 0 below))
+        (subst (λ s. IsUnionRow more sets' rows s row) (sym (set_at-kept (slice_index numbers count) kept (has count inside).known)) union))
+    | inr other ↦
+        let earlier : k < count = before k h other in
+        let number = has k (omega (arith, earlier, inside)) in
+        subst (λ r. IsUnionRow more sets' rows (set_at sets' (slice_index numbers k)) r)
+        (sym (get_or-set_other table (slice_index numbers count) (slice_index numbers k) row 0 other))
+        (subst (λ s. IsUnionRow more sets' rows s (slice_index table (slice_index numbers k))) (sym (set_at-kept (slice_index numbers k) kept number.known))
+        (IsUnionRow-kept shapes more sets sets' grows kept
+        (λ from c. all from 0 (All-contains (λ state. state < length rows) (set_at sets (slice_index numbers k)) from number.within c)) (so_far.union k earlier)))
+  ];
+}
+  where
+    before : (k : ℕ) → k < count + 1 → slice_index numbers k ≢ slice_index numbers count → k < count
+    before k h other = elim (cases_lt k count) [
+      | inl less ↦ less
+      | inr past ↦ let same : k ≡ count = omega arith in absurd (other (ap (slice_index numbers) same))
+    ]
+
+-- the rows of all numbers that the node gives
+pub HasUnionRows-all : {old shapes : List Shape} {before sets : List (List ℕ)} {rows numbers table : List ℕ} {node count : ℕ} → Grows old shapes
+    → HasStates old before (length rows) node → AreLeaves old node numbers → length numbers ≤ count → length table ≡ length before
+    → HasRowsSoFar shapes sets rows numbers table count → HasUnionRows shapes sets rows node table
+HasUnionRows-all {old} {shapes} {before} {sets} {rows} {numbers} {table} {node} {count} grows has are enough size so_far = record {
+  known = so_far.known;
+  within = λ letter. let e = grows.map node letter has.is.known in let h = has.is.numbered letter in omega (arith, e, h, size);
+  union = λ letter.
+      let there = are.all letter in
+      let h = there.1 in
+      let e : slice_index numbers there.0 ≡ map_at shapes node letter =
+      get_or_default numbers there.0 0 (map_at old node letter) there.1 ∙ there.2 ∙ sym (grows.map node letter has.is.known) in
+      subst (λ n. IsUnionRow shapes sets rows (set_at sets n) (slice_index table n)) e (so_far.union there.0 (omega (arith, h, enough)));
+}
+
+-- a node over the rows of its sets
+pub HasSets-ahead : {shapes : List Shape} {sets : List (List ℕ)} {rows table : List ℕ} {node ahead : ℕ} → HasUnionRows shapes sets rows node table → IsComposed shapes table node ahead
+    → HasSets shapes sets ahead
+HasSets-ahead {sets} has composed = record {
+  known = composed.known;
+  numbered = λ letter. subst (λ n. n < length sets) (sym (composed.map letter)) ((has.union letter).is.numbered letter);
+}
+
+module _ {shapes : List Shape} {sets : List (List ℕ)} {a : Automaton} {some : List Var} {rows table : List ℕ} {node ahead next : ℕ} (valid : IsAutomaton a)
+    (are : AreSetRows shapes sets a some rows) (led : IsLedRow shapes sets a some node) (has : HasUnionRows shapes sets rows node table)
+    (composed : IsComposed shapes table node ahead) (united : IsUnited shapes sets node ahead next) where
+  -- a state that the row of a state of the node's set gives
+  abbrev IsAhead : ℕ → ℕ → Type 0
+  IsAhead letter state = (from : ℕ) × Contains (set_of shapes sets node letter) from × Contains (set_of shapes sets (slice_index rows from) letter) state
+
+  either : (letter state : ℕ) → Contains (set_of shapes sets next letter) state → Contains (set_of shapes sets node letter) state ⊎ IsAhead letter state
+  either letter state c = elim (((united.map letter).members state).0 c) [
+    | inl own ↦ inl own
+    | inr other ↦ inr (((has.union letter).members letter state).0 (subst (λ set. Contains set state) (ap (set_at sets) (composed.map letter)) other))
   ]
 
-  done_now : (i row letter state : ℕ) → i < count → i < length states → slice_get rows (slice_index states i) ≡ Some row
-      → Contains (set_of more sets' node letter) (slice_index states i) → Contains (set_of more sets' row letter) state → HasOne more sets' nodes letter state
-  done_now i row letter state h within at c d =
-      let h' =
-      so_far.done i row letter state h within at (had shapes more sets sets' grows kept letter (slice_index states i) so_far.led.is c)
-      (had shapes more sets sets' grows kept letter state (so_far.are_rows.each (slice_index states i) row at).is d) in
-      record { one = h'.one; among = h'.among; has = has-kept shapes more sets sets' grows kept letter state (sets-of h'.one h'.among) h'.has }
+  own-in : (letter state : ℕ) → Contains (set_of shapes sets node letter) state → Contains (set_of shapes sets next letter) state
+  own-in letter state c = ((united.map letter).members state).1 (inl c)
 
-  -- one more guarded row
-  pub IsSweeping-step : {guarded : ℕ} → IsGuarded more sets' rows (slice_index states count) node guarded → IsSweeping more sets' a some rows states node (nodes ++ guarded ∷ []) (count + 1)
-  IsSweeping-step {guarded} step = record {
-    are_rows = rows_now;
-    led = led_now;
-    all = all_now;
-    have_sets = All-push (HasSets more sets') nodes guarded (λ i d h. nodes-kept (get_or nodes i d) (Contains-get_or nodes i d h)) step.is;
-    own = Contains-append_left nodes (guarded ∷ []) node so_far.own;
-    from = λ one letter state c d. elim (Contains-push_cases nodes guarded one c) [
-      | inl old ↦ from_now one letter state old d
-      | inr e ↦
-          let g = step.only letter state (subst (λ n. Contains (set_of more sets' n letter) state) (sym e) d) in
-          inr (record { from = slice_index states count; row = g.0; is = g.1; there = g.2; given = g.3 })
-    ];
-    done = λ i row letter state h within at c d. elim (cases_lt i count) [
-      | inl less ↦
-          let o = done_now i row letter state less within at c d in
-          record { one = o.one; among = Contains-append_left nodes (guarded ∷ []) o.one o.among; has = o.has }
-      | inr past ↦
-          let same = ap (slice_index states) (same_place i count past h) in
-          record {
-            one = guarded;
-            among = Contains-push nodes guarded;
-            has = step.has row letter state (subst (λ s. slice_get rows s ≡ Some row) same at) (subst (λ s. Contains (set_of more sets' node letter) s) same c) d;
-          }
+  ahead-in : (letter state : ℕ) → IsAhead letter state → Contains (set_of shapes sets next letter) state
+  ahead-in letter state one =
+      ((united.map letter).members state).1
+      (inr (subst (λ set. Contains set state) (sym (ap (set_at sets) (composed.map letter))) (((has.union letter).members letter state).1 one)))
+
+  row-at : (letter from : ℕ) → Contains (set_of shapes sets node letter) from → IsSetRow shapes sets (length some) (slice_index rows from) (Follows a some from)
+  row-at letter from c = are.each from (slice_index rows from) (slice_get-get_or rows from 0 ((HasStates-led valid are led).within letter from c))
+
+  pub IsLedRow-swept : IsLedRow shapes sets a some next
+  IsLedRow-swept = record {
+    is = record { known = united.known; numbered = λ letter. (united.map letter).known };
+    narrow = record {
+      same = λ x y state agree c. elim (either x state c) [
+        | inl own ↦ own-in y state (led.narrow.same x y state agree own)
+        | inr (from, there, given) ↦ ahead-in y state (from, led.narrow.same x y from agree there, (row-at x from there).narrow.same x y state agree given)
+      ];
+    };
+    nonempty = λ letter below none.
+        let one = some-element (set_of shapes sets node letter) (led.nonempty letter below) in
+        no-element (set_of shapes sets next letter) one.0 none (own-in letter one.0 one.1);
+    led = λ letter state below c. elim (either letter state c) [
+      | inl own ↦ led.led letter state below own
+      | inr (from, there, given) ↦ LiftLeads-follows a some (led.led letter from below there) (((row-at letter from there).members letter state below).0 given)
     ];
   }
-    where
-      same_place : (i count : ℕ) → count ≤ i → i < count + 1 → i ≡ count
-      same_place i count past h = omega arith
 
-  -- the union of all the nodes
-  module _ (next : ℕ) (enough : length states ≤ count) (union : IsUnionOf more sets' nodes next) where
-    gives-in : (letter state : ℕ) → Gives more sets' rows node letter state → Contains (set_of more sets' next letter) state
-    gives-in letter state g =
-        let there = all_now letter g.from g.there in
-        let place : slice_index states there.0 ≡ g.from = get_or_from_slice_get states there.0 g.from 0 (slice_get-get_or states there.0 g.from there.1 ∙ ap Some there.2) in
-        let o = done_now there.0 g.row letter state (let h = there.1 in omega (arith, h, enough)) there.1 (subst (λ s. slice_get rows s ≡ Some g.row) (sym place) g.is)
-        (subst (λ s. Contains (set_of more sets' node letter) s) (sym place) g.there) g.given in
-        (union.members letter state).1 (o.one, o.among, o.has)
+  pub IsSwept-swept : IsSwept shapes sets rows node next
+  IsSwept-swept = record {
+    is = led.is;
+    wider = own-in;
+    has = λ from row letter state at there given.
+        ahead-in letter state (from, there, subst (λ r. Contains (set_of shapes sets r letter) state) (sym (get_or_from_slice_get rows from row 0 at)) given);
+  }
 
-    own-in : (letter state : ℕ) → Contains (set_of more sets' node letter) state → Contains (set_of more sets' next letter) state
-    own-in letter state c = (union.members letter state).1 (node, so_far.own, c)
+-- a round: a table is made, a node composed of it, and this one united with the node
+module _ {begun tabled shapes : List Shape} {before sets after : List (List ℕ)} {a : Automaton} {some : List Var} {rows table : List ℕ} {node ahead : ℕ} (valid : IsAutomaton a)
+    (are : AreSetRows begun before a some rows) (led : IsLedRow begun before a some node) (grows : Grows begun tabled) (kept : SetsKept before sets)
+    (has : HasUnionRows tabled sets rows node table) (more : Grows tabled shapes) (same : after ≡ sets) (composed : IsComposed shapes table node ahead) where
+  still : SetsKept sets after
+  still = subst (SetsKept sets) (sym same) (SetsKept-refl sets)
 
-    either : (letter state : ℕ) → Contains (set_of more sets' next letter) state → Contains (set_of more sets' node letter) state ⊎ Gives more sets' rows node letter state
-    either letter state c = let o = (union.members letter state).0 c in from_now o.0 letter state o.1 o.2
+  rows_tabled : AreSetRows tabled sets a some rows
+  rows_tabled = AreSetRows-kept begun tabled before sets grows kept are
 
-    pub IsLedRow-united : IsLedRow more sets' a some next
-    IsLedRow-united = record {
-      is = union.is;
-      narrow = record {
-        same = λ x y state agree c. elim (either x state c) [
-          | inl l ↦ own-in y state (led_now.narrow.same x y state agree l)
-          | inr g ↦ gives-in y state (record {
-            from = g.from;
-            row = g.row;
-            is = g.is;
-            there = led_now.narrow.same x y g.from agree g.there;
-            given = (rows_now.each g.from g.row g.is).narrow.same x y state agree g.given;
-          })
-        ];
-      };
-      led = λ letter state below c. elim (either letter state c) [
-        | inl l ↦ led_now.led letter state below l
-        | inr g ↦ LiftLeads-follows a some (led_now.led letter g.from below g.there) (((rows_now.each g.from g.row g.is).members letter state below).0 g.given)
-      ];
-    }
+  led_tabled : IsLedRow tabled sets a some node
+  led_tabled = IsLedRow-kept begun tabled before sets grows kept led
 
-    pub IsSwept-united : IsSwept more sets' rows node next
-    IsSwept-united = record {
-      is = led_now.is;
-      wider = own-in;
-      has = λ from row letter state at c d. gives-in letter state (record { from = from; row = row; is = at; there = c; given = d });
-    }
+  has_composed : HasUnionRows shapes after rows node table
+  has_composed = HasUnionRows-kept tabled shapes sets after more still (rows-sets rows_tabled) (HasStates-led valid rows_tabled led_tabled) has
+
+  pub node-sets : HasSets shapes after node
+  node-sets = HasSets-grows more still led_tabled.is
+
+  pub ahead-sets : HasSets shapes after ahead
+  ahead-sets = HasSets-ahead has_composed composed
+
+  module _ {now : List Shape} {final : List (List ℕ)} {next : ℕ} (further : Grows shapes now) (kept' : SetsKept after final) (united : IsUnited now final node ahead next) where
+    rows_now : AreSetRows now final a some rows
+    rows_now = AreSetRows-kept tabled now sets final (Grows-trans more further) (SetsKept-trans still kept') rows_tabled
+
+    led_now : IsLedRow now final a some node
+    led_now = IsLedRow-kept tabled now sets final (Grows-trans more further) (SetsKept-trans still kept') led_tabled
+
+    has_now : HasUnionRows now final rows node table
+    has_now =
+        HasUnionRows-kept shapes now after final further kept' (rows-sets (AreSetRows-kept tabled shapes sets after more still rows_tabled))
+        (HasStates-kept tabled shapes sets after more still (HasStates-led valid rows_tabled led_tabled)) has_composed
+
+    pub IsLedRow-round : IsLedRow now final a some next
+    IsLedRow-round = IsLedRow-swept valid rows_now led_now has_now (IsComposed-grows further composed) united
+
+    pub IsSwept-round : IsSwept now final rows node next
+    IsSwept-round = IsSwept-swept valid rows_now led_now has_now (IsComposed-grows further composed) united
 
 -- after so many rounds: each set is closed or has at least so many states
 pub record IsClosing (shapes : List Shape) (sets : List (List ℕ)) (a : Automaton) (some : List Var) (rows : List ℕ) (node round : ℕ) : Type 0 where
@@ -217,11 +233,11 @@ set-ascends sets number h all = All-get_or IsStrictlyIncreasing sets number [] h
 
 pub IsClosing-first : {shapes : List Shape} {sets : List (List ℕ)} {a : Automaton} {some : List Var} {rows : List ℕ} {node : ℕ}
     → AreSetRows shapes sets a some rows → All IsStrictlyIncreasing sets
-    → IsSetRow shapes sets (length some) node (Begins a some) → IsClosing shapes sets a some rows node 0
-IsClosing-first {a} {some} are ascend first = record {
+    → HasSomeStates shapes sets (length some) node → IsSetRow shapes sets (length some) node (Begins a some) → IsClosing shapes sets a some rows node 0
+IsClosing-first {a} {some} are ascend nonempty first = record {
   are_rows = are;
   ascend = ascend;
-  led = record { is = first.is; narrow = first.narrow; led = λ letter state below c. LiftLeads-begins a some ((first.members letter state below).0 c) };
+  led = record { is = first.is; narrow = first.narrow; nonempty = nonempty; led = λ letter state below c. LiftLeads-begins a some ((first.members letter state below).0 c) };
   begins = λ letter state below b. (first.members letter state below).1 b;
   progress = λ letter below. inr (omega arith);
 }
@@ -305,23 +321,3 @@ IsSetRow-last {shapes} {sets} {a} {node} round valid enough so_far = record {
     ],
   );
 }
-
--- the states of the first sets
-pub states-so-far : (sets : List (List ℕ)) (leaves states more : List ℕ) (count : ℕ) → more ≡ states ++ set_at sets (slice_index leaves count)
-    → ((k state : ℕ) → k < count → Contains (set_at sets (slice_index leaves k)) state → Contains states state)
-    → (k state : ℕ) → k < count + 1 → Contains (set_at sets (slice_index leaves k)) state → Contains more state
-states-so-far sets leaves states more count is so_far k state h c = elim (cases_lt k count) [
-  | inl less ↦ subst (λ l. Contains l state) (sym is) (Contains-append_left states (set_at sets (slice_index leaves count)) state (so_far k state less c))
-  | inr past ↦
-      let e : k ≡ count = omega arith in
-      subst (λ l. Contains l state) (sym is) (Contains-append_right states (set_at sets (slice_index leaves count)) state (subst (λ n. Contains (set_at sets (slice_index leaves n)) state) e c))
-]
-
-pub states-all : (shapes : List Shape) (sets : List (List ℕ)) (node : ℕ) (leaves states : List ℕ) (count : ℕ) → length leaves ≤ count → AreLeaves shapes node leaves
-    → ((k state : ℕ) → k < count → Contains (set_at sets (slice_index leaves k)) state → Contains states state)
-    → (letter state : ℕ) → Contains (set_of shapes sets node letter) state → Contains states state
-states-all shapes sets node leaves states count all are so_far letter state c =
-    let there = are.all letter in
-    let h = there.1 in
-    let e : slice_index leaves there.0 ≡ map_at shapes node letter = get_or_default leaves there.0 0 (map_at shapes node letter) there.1 ∙ there.2 in
-    so_far there.0 state (omega (arith, h, all)) (subst (λ n. Contains (set_at sets n) state) (sym e) c)

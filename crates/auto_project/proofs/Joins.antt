@@ -1,23 +1,21 @@
--- Tables of joined sets, and unions of rows.
+-- Sets of one state each, and unions of rows.
 use Rattle.std.proofs.Common.{◌≡◌, ◌≢◌, ℕ, ◌<◌, ◌+◌, List, [], ◌∷◌, ◌++◌, length, map, get_or, slice_get, slice_index, Some, Contains, arith, refl, sym, ap, ◌∙◌, subst, inl, inr}
 use Rattle.std.specs.List.{All}
 use Rattle.std.proofs.Math.ListN.{set}
 use Rattle.std.proofs.lemmas.Bool.{cases_lt}
-use Rattle.std.proofs.lemmas.Option.{slice_get-get_or, slice_get_within, get_or_from_slice_get, same_Some}
-use Rattle.std.proofs.lemmas.List.{length_push, get_or_push, get_or_append_left}
+use Rattle.std.proofs.lemmas.Option.{slice_get_within, same_Some}
+use Rattle.std.proofs.lemmas.List.{length_push}
 use Rattle.std.proofs.lemmas.List.Elements.{All-from_get_or, All-contains, Contains-get_or, Contains-append_left, Contains-append_right, Contains-append_cases}
 use Rattle.letter_diagram.specs.declared.diagrams.Shape.{Shape}
-use Rattle.letter_diagram.specs.Diagram.{map_at, Grows}
-use Rattle.diagram_product.specs.Paired.{AreAnswers}
-use Rattle.letter_diagram.specs.Sets.{set_at, SetsKept, NumbersSet}
-use Rattle.letter_diagram.specs.Leaves.{AreLeaves}
+use Rattle.letter_diagram.specs.Diagram.{Grows}
+use Rattle.letter_diagram.specs.Sets.{SetsKept, NumbersSet}
 use Rattle.letter_diagram.specs.Merged.{HasSets, IsUnited}
 use Rattle.letter_diagram.proofs.SetNumbers.{SetsKept-trans, SetsKept-numbers, slice_get-last}
 use Rattle.letter_diagram.proofs.Mergings.{HasSets-grows}
-use Rattle.auto_project.specs.SetMaps.{set_of, AreSingletons, IsJoinedSet, AreJoinedSets, IsJoined, IsNothing, IsUnionOf, IsUnionRow}
+use Rattle.auto_project.specs.SetMaps.{set_of, AreSingletons, IsUnionOf, IsUnionRow}
 use Rattle.letter_diagram.proofs.Maps.{Grows-trans}
 use Rattle.auto_project.proofs.Lists.{Contains-head, Contains-cases, Contains-cons}
-use Rattle.auto_project.proofs.SetMapLemmas.{has-kept, had, IsJoinedSet-kept}
+use Rattle.auto_project.proofs.SetMapLemmas.{has-kept, had}
 
 -- the sets of the states below a count, in order
 pub record AreSingletonsSoFar (sets : List (List ℕ)) (count : ℕ) : Type 0 where
@@ -53,77 +51,6 @@ AreSingletons-all are = record { enough = let s = are.size in omega (arith, s); 
 
 pub AreSingletonsSoFar-none : (sets : List (List ℕ)) → sets ≡ [] → AreSingletonsSoFar sets 0
 AreSingletonsSoFar-none sets e = record { size = ap length e; single = λ number h. absurd (omega arith) }
-
--- the joined sets of the first pairs
-pub record AreJoinedSoFar (sets : List (List ℕ)) (only : ℕ) (pairs : List (ℕ × ℕ)) (table : List ℕ) (count : ℕ) : Type 0 where
-  pub size : length table ≡ count
-  pub each : (i a b : ℕ) → i < count → slice_get pairs i ≡ Some (a, b) → IsJoinedSet sets only a b (slice_index table i)
-
-pub AreJoinedSoFar-push : {sets sets' : List (List ℕ)} {only : ℕ} {pairs : List (ℕ × ℕ)} {table : List ℕ} {count number : ℕ} (pair : ℕ × ℕ) → SetsKept sets sets'
-    → slice_get pairs count ≡ Some pair → AreJoinedSoFar sets only pairs table count
-    → IsJoinedSet sets' only pair.0 pair.1 number → AreJoinedSoFar sets' only pairs (table ++ number ∷ []) (count + 1)
-AreJoinedSoFar-push {sets'} {only} {pairs} {table} {count} {number} pair kept at so_far here = record {
-  size = let l = length_push table number in let s = so_far.size in omega (arith, l, s);
-  each = λ i a b h at'.
-      let s = so_far.size in
-      elim (cases_lt i count) [
-        | inl less ↦
-            let e = get_or_append_left table (number ∷ []) 0 i (omega (arith, s, less)) in
-            subst (IsJoinedSet sets' only a b) (sym e) (IsJoinedSet-kept kept (so_far.each i a b less at'))
-        | inr more ↦
-            let same : i ≡ count = omega arith in
-            let e = get_or_push table number 0 i (s ∙ sym same) in
-            let p : pair ≡ (a, b) = same_Some _ _ (sym at ∙ ap (slice_get pairs) (sym same) ∙ at') in
-            subst (IsJoinedSet sets' only a b) (sym e) (subst (λ (q : ℕ × ℕ). IsJoinedSet sets' only q.0 q.1 number) p here)
-      ];
-}
-
-pub AreJoinedSets-all : {sets : List (List ℕ)} {only : ℕ} {pairs : List (ℕ × ℕ)} {table : List ℕ} {count : ℕ} → count ≡ length pairs → AreJoinedSoFar sets only pairs table count
-    → AreJoinedSets sets only pairs table
-AreJoinedSets-all {pairs} all so_far = record {
-  size = so_far.size ∙ all;
-  each = λ i a b at. so_far.each i a b (let h = slice_get_within pairs i (a, b) at in omega (arith, h, all)) at;
-}
-
--- the pairs of values of two nodes are pairs of known numbers
-pub pairs-known : {shapes : List Shape} {sets : List (List ℕ)} {pairs : List (ℕ × ℕ)} {a b from : ℕ} → from ≡ 0 → HasSets shapes sets a → HasSets shapes sets b
-    → AreAnswers shapes from pairs a b → All (λ (pair : ℕ × ℕ). (pair.0 < length sets) × (pair.1 < length sets)) pairs
-pairs-known {shapes} {sets} {pairs} {a} {b} none a_sets b_sets answers = All-from_get_or (λ (pair : ℕ × ℕ). (pair.0 < length sets) × (pair.1 < length sets)) pairs (0, 0) (λ i h.
-    let one = answers.answer i (omega (arith, none)) h in
-    let e : (map_at shapes a one.0, map_at shapes b one.0) ≡ get_or pairs i (0, 0) = same_Some _ _ (sym one.1 ∙ slice_get-get_or pairs i (0, 0) h) in
-    subst (λ (pair : ℕ × ℕ). (pair.0 < length sets) × (pair.1 < length sets)) e (a_sets.numbered one.0, b_sets.numbered one.0))
-
--- a node over pairs, led through their joined sets
-pub IsJoined-made : (old mid shapes : List Shape) (sets : List (List ℕ)) (only : ℕ) (pairs : List (ℕ × ℕ)) (table : List ℕ) (a b both node : ℕ)
-    → a < length old → b < length old → Grows old shapes
-    → ((letter : ℕ) → slice_get pairs (map_at mid both letter) ≡ Some (map_at old a letter, map_at old b letter)) → AreJoinedSets sets only pairs table → node < length shapes
-    → ((letter : ℕ) → map_at shapes node letter ≡ slice_index table (map_at mid both letter)) → IsJoined shapes sets only a b node
-IsJoined-made old mid shapes sets only pairs table a b both node a_known b_known grows paired joined known led = record {
-  known = known;
-  joins = λ letter.
-      let j = joined.each (map_at mid both letter) (map_at old a letter) (map_at old b letter) (paired letter) in
-      subst (λ n. IsJoinedSet sets only (map_at shapes a letter) (map_at shapes b letter) n) (sym (led letter))
-      (subst (λ n. IsJoinedSet sets only n (map_at shapes b letter) (slice_index table (map_at mid both letter))) (sym (grows.map a letter a_known))
-      (subst (λ n. IsJoinedSet sets only (map_at old a letter) n (slice_index table (map_at mid both letter))) (sym (grows.map b letter b_known)) j));
-}
-
-pub table-covers : (mid : List Shape) (pairs : List (ℕ × ℕ)) (table : List ℕ) (both : ℕ) (letter : ℕ) (pair : ℕ × ℕ) → length table ≡ length pairs
-    → slice_get pairs (map_at mid both letter) ≡ Some pair → map_at mid both letter < length table
-table-covers mid pairs table both letter pair size at = let h = slice_get_within pairs (map_at mid both letter) pair at in omega (arith, h, size)
-
--- a node whose sets are empty
-pub IsNothing-made : (shapes : List Shape) (sets : List (List ℕ)) (empty node : ℕ) → slice_get sets empty ≡ Some [] → node < length shapes
-    → ((letter : ℕ) → map_at shapes node letter ≡ empty) → IsNothing shapes sets node
-IsNothing-made shapes sets empty node at known constant =
-    let within = slice_get_within sets empty [] at in
-    record {
-      is = record { known = known; numbered = λ letter. let e = constant letter in omega (arith, e, within) };
-      none = λ letter state c.
-          let e : set_of shapes sets node letter ≡ [] = ap (set_at sets) (constant letter) ∙ get_or_from_slice_get sets empty [] [] at in
-          let d = subst (λ l. Contains l state) e c in
-          let h = d.1 in
-          absurd (omega arith);
-    }
 
 -- the union of two unions
 pub IsUnionOf-both : {s1 s2 s3 : List Shape} {t1 t2 t3 : List (List ℕ)} (s0 : List Shape) (t0 : List (List ℕ)) (nodes : List ℕ) {front back : List ℕ} {a b node : ℕ} → nodes ≡ front ++ back
@@ -224,8 +151,3 @@ picked-sets shapes sets rows set nodes same within all =
     All-from_get_or (HasSets shapes sets) nodes 0 (λ i h.
     let p = Contains-map (slice_index rows) set (get_or nodes i 0) (subst (λ l. Contains l (get_or nodes i 0)) same (Contains-get_or nodes i 0 h)) in
     subst (HasSets shapes sets) p.2 (all p.0 0 (All-contains (λ state. state < length rows) set p.0 within p.1)))
-
--- each leaf is the number of a set
-pub leaves-known : {shapes : List Shape} {sets : List (List ℕ)} {node : ℕ} {leaves : List ℕ} → HasSets shapes sets node
-    → AreLeaves shapes node leaves → All (λ leaf. leaf < length sets) leaves
-leaves-known {sets} {leaves} is are = All-from_get_or (λ leaf. leaf < length sets) leaves 0 (λ i h. let one = are.given i h in subst (λ n. n < length sets) one.1 (is.numbered one.0))

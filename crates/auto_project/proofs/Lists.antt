@@ -20,6 +20,14 @@ Contains-cases x xs t (suc k, h, e) = inr (k, omega arith, e)
 pub Contains-head : {X : Type 0} (x : X) (xs : List X) → Contains (x ∷ xs) x
 Contains-head x xs = (0, omega arith, refl)
 
+-- a list with no element, and one with some
+pub no-element : (set : List ℕ) (element : ℕ) → set ≡ [] → Contains set element → ⊥
+no-element set element none c = let there = subst (λ l. Contains l element) none c in let h = there.1 in omega arith
+
+pub some-element : (set : List ℕ) → set ≢ [] → (element : ℕ) × Contains set element
+some-element [] some = absurd (some refl)
+some-element (element ∷ set) some = (element, Contains-head element set)
+
 module _ {X : Type 0} (p : X → Bool) where
   kept : (b : Bool) (x : X) (ys : List X) (t : X) → Contains ys t → Contains (cond b (x ∷ ys) ys) t
   kept true x ys t c = Contains-cons x ys t c

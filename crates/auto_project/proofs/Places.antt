@@ -23,11 +23,11 @@ use Rattle.auto_walk.specs.Walker.{Walker, place_of, IsReached, AreTracks}
 use Rattle.auto_walk.specs.Rows.{AreNumbered, IsRow}
 use Rattle.auto_walk.proofs.WalkLemmas.{All-at}
 use Rattle.auto_core.proofs.States.{state_within, run_within}
-use Rattle.auto_project.specs.Lifted.{Begins, Follows, LiftLeads}
+use Rattle.auto_project.specs.Lifted.{ReadsAs, Begins, Follows, LiftLeads}
 use Rattle.auto_project.specs.Subsets.{lengthened, leads_to, next_set, set_walker}
-use Rattle.auto_project.specs.SetMaps.{set_of, IsSetRow, AreSetRows, HasSetRows, HasClosedRows, HasPlaceRows, IsUnionRow}
+use Rattle.auto_project.specs.SetMaps.{set_of, HasSomeStates, IsSetRow, AreSetRows, HasSetRows, HasClosedRows, HasPlaceRows, IsUnionRow}
 use Rattle.auto_project.specs.Placed.{IsPlaced, AddsSetsOf}
-use Rattle.auto_project.proofs.Lists.{same_sets, Contains-head, Contains-cases, Contains-filter, Contains-from_filter, Contains-from_range, Contains-range, increasing-range}
+use Rattle.auto_project.proofs.Lists.{same_sets, no-element, some-element, Contains-head, Contains-cases, Contains-filter, Contains-from_filter, Contains-from_range, Contains-range, increasing-range}
 use Rattle.auto_project.proofs.Letters.{ascending-without, length-without, ReadsAs-lengthened}
 use Rattle.std.proofs.lemmas.Bool.{or_left}
 use Rattle.auto_project.proofs.Lifts.{any-from, any-to, steps-next, increasing-next, LiftLeads-begins}
@@ -37,12 +37,17 @@ set-ascends : {shapes : List Shape} {sets : List (List ℕ)} {node : ℕ} (lette
     → All IsStrictlyIncreasing sets → IsStrictlyIncreasing (set_of shapes sets node letter)
 set-ascends {shapes} {sets} {node} letter is all = All-get_or IsStrictlyIncreasing sets (map_at shapes node letter) [] (is.numbered letter) all
 
-no-element : (set : List ℕ) (element : ℕ) → set ≡ [] → Contains set element → ⊥
-no-element set element none c = let there = subst (λ l. Contains l element) none c in let h = there.1 in omega arith
-
-some-element : (set : List ℕ) → set ≢ [] → (element : ℕ) × Contains set element
-some-element [] some = absurd (some refl)
-some-element (element ∷ set) some = (element, Contains-head element set)
+-- each letter has a longer one that it reads as, so some state is there
+pub HasSomeStates-from : {shapes : List Shape} {sets : List (List ℕ)} {a : Automaton} (x : Var) {some : List Var} {first : ℕ} {Holds : ℕ → ℕ → Type 0} → IsAutomaton a
+    → some ≡ without_var x a.tracks → ((letter state : ℕ) → Begins a some letter state → Holds letter state)
+    → IsSetRow shapes sets (length some) first Holds → HasSomeStates shapes sets (length some) first
+HasSomeStates-from {shapes} {sets} {a} x {some} {first} valid same holds row letter below none =
+    let longer = lengthened a.tracks some 0 letter in
+    let reads = subst (λ tracks. letter < 2 ^ length tracks → ReadsAs a.tracks tracks letter (lengthened a.tracks tracks 0 letter)) (sym same)
+    (λ h. ReadsAs-lengthened a.tracks x valid.ascending letter 0 h) below in
+    let begins : Begins a some letter (first_state a longer) = record { longer = longer; is = reads; leads = refl } in
+    no-element (set_of shapes sets first letter) (first_state a longer) none
+    ((row.members letter (first_state a longer) below).1 (holds letter (first_state a longer) begins))
 
 -- the rows of the walk are those that follow on the states
 pub HasPlaceRows-from : {shapes : List Shape} {sets : List (List ℕ)} {a : Automaton} (x : Var) {first : ℕ} {rows : List ℕ}
@@ -50,13 +55,7 @@ pub HasPlaceRows-from : {shapes : List Shape} {sets : List (List ℕ)} {a : Auto
 HasPlaceRows-from {shapes} {sets} {a} x {first} {rows} closed = record {
   valid = closed.valid;
   first_is = closed.first_row.is;
-  first_some = λ letter below none.
-      let longer = lengthened a.tracks (without_var x a.tracks) 0 letter in
-      let begins : Begins a (without_var x a.tracks) letter (first_state a longer) =
-      record { longer = longer; is = ReadsAs-lengthened a.tracks x closed.valid.ascending letter 0 below; leads = refl } in
-      no-element (set_of shapes sets first letter) (first_state a longer) none
-      ((closed.first_row.members letter (first_state a longer) below).1
-      (LiftLeads-begins a (without_var x a.tracks) begins));
+  first_some = HasSomeStates-from x closed.valid refl (λ letter state b. LiftLeads-begins a (without_var x a.tracks) b) closed.first_row;
   first_within = λ letter state below c. let l = (closed.first_row.members letter state below).0 c in subst (λ n. n < length a.accept) l.leads (state_within closed.valid l.lift);
   first_narrow = λ m n agree. alike first closed.first_row.is (λ p q state same c. closed.first_row.narrow.same p q state same c) m n agree;
   size = closed.state_rows.size;

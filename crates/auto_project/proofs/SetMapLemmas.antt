@@ -1,19 +1,17 @@
--- Maps to sets, as more nodes and sets are known, and joined ones.
-use Rattle.std.proofs.Common.{◌≡◌, ◌↔◌, ℕ, ◌<◌, List, [], length, get_or, slice_get, Some, Contains, arith, sym, subst}
+-- Maps to sets, as more nodes and sets are known.
+use Rattle.std.proofs.Common.{◌≡◌, ℕ, ◌<◌, List, length, get_or, slice_index, Contains, arith, sym, ◌∙◌, subst}
 use Rattle.std.specs.List.{All}
-use Rattle.std.proofs.lemmas.Option.{slice_get-get_or, slice_get_within, get_or_from_slice_get}
+use Rattle.std.proofs.lemmas.Option.{slice_get-get_or}
 use Rattle.std.proofs.lemmas.List.Elements.{All-from_get_or}
 use Rattle.track_word.specs.declared.tracks.Var.{Var}
 use Rattle.letter_diagram.specs.declared.diagrams.Shape.{Shape}
-use Rattle.letter_diagram.specs.Diagram.{Grows}
-use Rattle.letter_diagram.specs.Sets.{set_at, SetsKept}
+use Rattle.letter_diagram.specs.Diagram.{map_at, Grows}
+use Rattle.letter_diagram.specs.Sets.{SetsKept}
 use Rattle.letter_diagram.specs.Listed.{EachAnswers}
 use Rattle.letter_diagram.specs.Merged.{HasSets, IsMerged}
-use Rattle.letter_diagram.proofs.SetNumbers.{set_at-kept}
 use Rattle.letter_diagram.proofs.Mergings.{HasSets-grows, IsMerged-grows}
 use Rattle.auto_core.specs.Automaton.{Automaton}
-use Rattle.auto_project.specs.Lifted.{Follows}
-use Rattle.auto_project.specs.SetMaps.{set_of, IsNarrow, IsSetRow, AreSetRows, IsLedRow, IsJoinedSet}
+use Rattle.auto_project.specs.SetMaps.{set_of, IsNarrow, IsSetRow, AreSetRows, IsLedRow, IsUnionRow, HasStates, HasUnionRows}
 use Rattle.auto_project.proofs.Walks.{set_of-kept}
 
 module _ (shapes more : List Shape) (sets sets' : List (List ℕ)) (grows : Grows shapes more) (kept : SetsKept sets sets') where
@@ -43,51 +41,41 @@ module _ (shapes more : List Shape) (sets sets' : List (List ℕ)) (grows : Grow
   IsLedRow-kept row = record {
     is = HasSets-grows grows kept row.is;
     narrow = IsNarrow-kept row.is row.narrow;
+    nonempty = λ letter below none. row.nonempty letter below (sym (stays letter row.is) ∙ none);
     led = λ letter state below c. row.led letter state below (had letter state row.is c);
+  }
+
+  pub IsUnionRow-kept : {rows set : List ℕ} {node : ℕ} → ((from : ℕ) → Contains set from → HasSets shapes sets (slice_index rows from)) → IsUnionRow shapes sets rows set node
+      → IsUnionRow more sets' rows set node
+  IsUnionRow-kept of union = record {
+    is = HasSets-grows grows kept union.is;
+    members = λ letter state. (
+      λ c. let one = (union.members letter state).0 (had letter state union.is c) in (one.0, one.1, has-kept letter state (of one.0 one.1) one.2),
+      λ one. has-kept letter state union.is ((union.members letter state).1 (one.0, one.1, had letter state (of one.0 one.1) one.2)),
+    );
+  }
+
+  pub HasStates-kept : {count node : ℕ} → HasStates shapes sets count node → HasStates more sets' count node
+  HasStates-kept has = record {
+    is = HasSets-grows grows kept has.is;
+    nonempty = λ letter none. has.nonempty letter (sym (stays letter has.is) ∙ none);
+    within = λ letter state c. has.within letter state (had letter state has.is c);
+  }
+
+  pub HasUnionRows-kept : {rows table : List ℕ} {node : ℕ} → All (HasSets shapes sets) rows → HasStates shapes sets (length rows) node → HasUnionRows shapes sets rows node table
+      → HasUnionRows more sets' rows node table
+  HasUnionRows-kept {rows} {table} {node} all has of = record {
+    known = λ i d h. let known = of.known i d h in let longer = grows.longer in omega (arith, known, longer);
+    within = λ letter. subst (λ n. n < length table) (sym (grows.map node letter has.is.known)) (of.within letter);
+    union = λ letter.
+        subst (λ n. IsUnionRow more sets' rows (set_of more sets' node letter) (slice_index table n)) (sym (grows.map node letter has.is.known))
+        (subst (λ set. IsUnionRow more sets' rows set (slice_index table (map_at shapes node letter))) (sym (stays letter has.is))
+        (IsUnionRow-kept (λ from c. all from 0 (has.within letter from c)) (of.union letter)));
   }
 
 -- the nodes of rows
 pub rows-sets : {shapes : List Shape} {sets : List (List ℕ)} {a : Automaton} {some : List Var} {rows : List ℕ} → AreSetRows shapes sets a some rows → All (HasSets shapes sets) rows
 rows-sets {shapes} {sets} {rows} are = All-from_get_or (HasSets shapes sets) rows 0 (λ i h. (are.each i (get_or rows i 0) (slice_get-get_or rows i 0 h)).is)
-
--- joined sets of numbers, as more sets are known
-pub IsJoinedSet-kept : {sets sets' : List (List ℕ)} {only a b number : ℕ} → SetsKept sets sets' → IsJoinedSet sets only a b number → IsJoinedSet sets' only a b number
-IsJoinedSet-kept {sets} {sets'} {only} {a} {b} {number} kept is =
-    let longer = kept.longer in
-    let a_known = is.a_known in
-    let b_known = is.b_known in
-    let known = is.known in
-    let ea = set_at-kept a kept is.a_known in
-    let eb = set_at-kept b kept is.b_known in
-    let en = set_at-kept number kept is.known in
-    record {
-      a_known = omega arith;
-      b_known = omega arith;
-      known = omega arith;
-      members = λ state.
-          subst (λ set. Contains set state ↔ (Contains (set_at sets' a) only × Contains (set_at sets' b) state)) (sym en)
-          (subst (λ set. Contains (set_at sets number) state ↔ (Contains set only × Contains (set_at sets' b) state)) (sym ea)
-          (subst (λ set. Contains (set_at sets number) state ↔ (Contains (set_at sets a) only × Contains set state)) (sym eb)
-          (is.members state)));
-    }
-
--- the second set where the first has the state, else nothing
-pub IsJoinedSet-second : (sets : List (List ℕ)) (only a b : ℕ) → a < length sets → b < length sets → Contains (set_at sets a) only → IsJoinedSet sets only a b b
-IsJoinedSet-second sets only a b a_known b_known there = record { a_known = a_known; b_known = b_known; known = b_known; members = λ state. (λ c. (there, c), λ e. e.1) }
-
-pub IsJoinedSet-nothing : {sets sets' : List (List ℕ)} (only a b number : ℕ) → SetsKept sets sets' → a < length sets → b < length sets → (Contains (set_at sets a) only → ⊥)
-    → slice_get sets' number ≡ Some [] → IsJoinedSet sets' only a b number
-IsJoinedSet-nothing {sets'} only a b number kept a_known b_known absent at =
-    let longer = kept.longer in
-    record {
-      a_known = omega arith;
-      b_known = omega arith;
-      known = slice_get_within sets' number [] at;
-      members = λ state. (
-        λ c. let d = subst (λ set. Contains set state) (get_or_from_slice_get sets' number [] [] at) c in let h = d.1 in absurd (omega arith),
-        λ e. absurd (absent (subst (λ set. Contains set only) (set_at-kept a kept a_known) e.0)),
-      );
-    }
 
 -- merged rows, as more nodes and sets are known
 pub EachMerged-kept : {shapes more : List Shape} {sets sets' : List (List ℕ)} (track : ℕ) {nodes answers : List ℕ} → Grows shapes more → SetsKept sets sets'

@@ -25,29 +25,14 @@ pub record AreSingletons (sets : List (List ℕ)) (count : ℕ) : Type 0 where
 abbrev pub set_of : List Shape → List (List ℕ) → ℕ → ℕ → List ℕ
 set_of shapes sets node letter = set_at sets (map_at shapes node letter)
 
--- the number of what the second of two numbered sets has if the first has a state, else of nothing
-pub record IsJoinedSet (sets : List (List ℕ)) (only a b number : ℕ) : Type 0 where
-  pub a_known : a < length sets
-  pub b_known : b < length sets
-  pub known : number < length sets
-  pub members : (state : ℕ)
-      → Contains (set_at sets number) state ↔ (Contains (set_at sets a) only × Contains (set_at sets b) state)
-
--- for each pair of numbers that of the joined set
-pub record AreJoinedSets (sets : List (List ℕ)) (only : ℕ) (pairs : List (ℕ × ℕ)) (table : List ℕ) : Type 0 where
-  pub size : length table ≡ length pairs
-  pub each : (i a b : ℕ) → slice_get pairs i ≡ Some (a, b) → IsJoinedSet sets only a b (slice_index table i)
-
--- the node's sets are the joined sets of two nodes
-pub record IsJoined (shapes : List Shape) (sets : List (List ℕ)) (only a b node : ℕ) : Type 0 where
-  pub known : node < length shapes
-  pub joins : (letter : ℕ)
-      → IsJoinedSet sets only (map_at shapes a letter) (map_at shapes b letter) (map_at shapes node letter)
-
 -- letters that agree on so many tracks have sets with the same states
 pub record IsNarrow (shapes : List Shape) (sets : List (List ℕ)) (tracks node : ℕ) : Type 0 where
   pub same : (x y state : ℕ) → ((k : ℕ) → k < tracks → bit_at x k ≡ bit_at y k)
       → Contains (set_of shapes sets node x) state → Contains (set_of shapes sets node y) state
+
+-- each letter over so many tracks is led to a set with some state
+abbrev pub HasSomeStates : List Shape → List (List ℕ) → ℕ → ℕ → Type 0
+HasSomeStates shapes sets tracks node = (letter : ℕ) → letter < 2 ^ tracks → set_of shapes sets node letter ≢ []
 
 -- the node's map leads each letter over so many tracks to the set of the states for which this holds
 pub record IsSetRow (shapes : List Shape) (sets : List (List ℕ)) (tracks node : ℕ) (Holds : ℕ → ℕ → Type 0) : Type
@@ -84,7 +69,7 @@ pub record HasPlaceRows (shapes : List Shape) (sets : List (List ℕ)) (a : Auto
     (rows : List ℕ) : Type 0 where
   pub valid : IsAutomaton a
   pub first_is : HasSets shapes sets first
-  pub first_some : (letter : ℕ) → letter < 2 ^ length some → set_of shapes sets first letter ≢ []
+  pub first_some : HasSomeStates shapes sets (length some) first
   pub first_within : (letter state : ℕ) → letter < 2 ^ length some → Contains (set_of shapes sets first letter) state
       → state < length a.accept
   pub first_narrow : (x y : ℕ) → ((k : ℕ) → k < length some → bit_at x k ≡ bit_at y k)
@@ -118,23 +103,14 @@ pub record HasWideRows (shapes : List Shape) (a : Automaton) (some : List Var) (
   pub first_row : IsWideRow shapes a some first (first_state a)
   pub state_rows : AreWideRows shapes a some rows
 
--- the node's sets have states to which a lift of the letter leads
+-- the node's sets have some states, to each of which a lift of the letter leads
 pub record IsLedRow (shapes : List Shape) (sets : List (List ℕ)) (a : Automaton) (some : List Var) (node : ℕ) : Type
     0 where
   pub is : HasSets shapes sets node
   pub narrow : IsNarrow shapes sets (length some) node
+  pub nonempty : HasSomeStates shapes sets (length some) node
   pub led : (letter state : ℕ) → letter < 2 ^ length some → Contains (set_of shapes sets node letter) state
       → LiftLeads a some (letter ∷ []) state
-
--- each state that the node's sets have is in the list
-abbrev pub HasStatesOf : List Shape → List (List ℕ) → ℕ → List ℕ → Type 0
-HasStatesOf shapes sets node states =
-    (letter state : ℕ) → Contains (set_of shapes sets node letter) state → Contains states state
-
--- the node's sets have no state
-pub record IsNothing (shapes : List Shape) (sets : List (List ℕ)) (node : ℕ) : Type 0 where
-  pub is : HasSets shapes sets node
-  pub none : (letter state : ℕ) → Contains (set_of shapes sets node letter) state → ⊥
 
 -- the node's sets have just what the sets of some nodes have
 pub record IsUnionOf (shapes : List Shape) (sets : List (List ℕ)) (nodes : List ℕ) (node : ℕ) : Type 0 where
@@ -142,15 +118,6 @@ pub record IsUnionOf (shapes : List Shape) (sets : List (List ℕ)) (nodes : Lis
   pub members : (letter state : ℕ)
       → Contains (set_of shapes sets node letter) state
       ↔ ((one : ℕ) × Contains nodes one × Contains (set_of shapes sets one letter) state)
-
--- the guarded row's sets have what the row of a state gives where the node's sets have the state
-pub record IsGuarded (shapes : List Shape) (sets : List (List ℕ)) (rows : List ℕ) (from node guarded : ℕ) : Type 0 where
-  pub is : HasSets shapes sets guarded
-  pub has : (row letter state : ℕ) → slice_get rows from ≡ Some row → Contains (set_of shapes sets node letter) from
-      → Contains (set_of shapes sets row letter) state → Contains (set_of shapes sets guarded letter) state
-  pub only : (letter state : ℕ) → Contains (set_of shapes sets guarded letter) state
-      → (row : ℕ) × (slice_get rows from ≡ Some row) × Contains (set_of shapes sets node letter) from
-      × Contains (set_of shapes sets row letter) state
 
 -- the swept node's sets have what the node's sets have, and what the rows of their states give
 pub record IsSwept (shapes : List Shape) (sets : List (List ℕ)) (rows : List ℕ) (node swept : ℕ) : Type 0 where
@@ -167,6 +134,20 @@ pub record IsUnionRow (shapes : List Shape) (sets : List (List ℕ)) (rows set :
   pub members : (letter state : ℕ)
       → Contains (set_of shapes sets node letter) state
       ↔ ((from : ℕ) × Contains set from × Contains (set_of shapes sets (slice_index rows from) letter) state)
+
+-- each of the node's sets has some states, all of them below a count
+pub record HasStates (shapes : List Shape) (sets : List (List ℕ)) (count node : ℕ) : Type 0 where
+  pub is : HasSets shapes sets node
+  pub nonempty : (letter : ℕ) → set_of shapes sets node letter ≢ []
+  pub within : (letter state : ℕ) → Contains (set_of shapes sets node letter) state → state < count
+
+-- a table that has, at the number of each set that the node gives, the row of the states of that set
+pub record HasUnionRows (shapes : List Shape) (sets : List (List ℕ)) (rows : List ℕ) (node : ℕ) (table : List ℕ) : Type
+    0 where
+  pub known : All (λ row. row < length shapes) table
+  pub within : (letter : ℕ) → map_at shapes node letter < length table
+  pub union : (letter : ℕ)
+      → IsUnionRow shapes sets rows (set_of shapes sets node letter) (slice_index table (map_at shapes node letter))
 
 -- ---- the same of nodes of a merger and of its sets
 
@@ -192,6 +173,18 @@ IsLiftRowIn merger rows node =
 -- the node leads each letter to a set of states to which its lifts lead
 abbrev pub IsLedRowIn : MergerTables → Rows → ℕ → Type 0
 IsLedRowIn merger rows node = IsLedRow merger.shapes merger.sets rows.automaton.now rows.tracks.items node
+
+-- each letter is led to a set with some state
+abbrev pub HasSomeStatesIn : MergerTables → Rows → ℕ → Type 0
+HasSomeStatesIn merger rows node = HasSomeStates merger.shapes merger.sets (length rows.tracks.items) node
+
+-- each of the node's sets has some states, all of which have rows
+abbrev pub HasStatesIn : MergerTables → Rows → ℕ → Type 0
+HasStatesIn merger rows node = HasStates merger.shapes merger.sets (length rows.nodes.items) node
+
+-- a table that has, at the number of each set that the node gives, the row of the states of that set
+abbrev pub HasUnionRowsIn : MergerTables → Rows → ℕ → List ℕ → Type 0
+HasUnionRowsIn merger rows node table = HasUnionRows merger.shapes merger.sets rows.nodes.items node table
 
 -- the swept node's sets have what the node's sets have, and what the rows of their states give
 abbrev pub IsSweptIn : MergerTables → Rows → ℕ → ℕ → Type 0

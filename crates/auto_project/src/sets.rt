@@ -1,8 +1,8 @@
-//! Numbers of sets of states, and why there are none.
-ghost use Rattle.std.specs.Prelude.{◌≡◌, ◌<◌, ◌↔◌, length, slice_get, Some, IfOk, OnOk, IsTrue, Contains};
+//! Numbered sets of states.
+ghost use Rattle.std.specs.Prelude.{◌≡◌, ◌<◌, length, slice_get, Some, IfOk, OnOk};
 ghost use Rattle.std.specs.List.Sorted.{IsStrictlyIncreasing};
-ghost use Rattle.letter_diagram.specs.Sets.{SetsKept, NumbersSet, set_at};
-ghost use Rattle.auto_project.specs.SetMaps.{AreSingletons, IsJoinedSet};
+ghost use Rattle.letter_diagram.specs.Sets.{SetsKept, NumbersSet};
+ghost use Rattle.auto_project.specs.SetMaps.{AreSingletons};
 
 use letter_diagram::Sets;
 use std::alloc::{AllocError, Global};
@@ -32,26 +32,13 @@ pub fn singletons(alloc: Global, states: u32) -> Result<Sets, AllocError>
     Ok(sets)
 }
 
-fn has_state(sets: &Sets, number: u32, state: u32) -> bool
+/// The set of a number.
+pub fn copied_set(alloc: Global, sets: &Sets, number: u32) -> Result<Vec<u32>, AllocError>
     requires { number < length sets.now }
-    ensures { IsTrue result ↔ Contains (set_at sets.now number) state }
+    ensures { IfOk result (λ set. slice_get sets.now number ≡ Some set.items) }
 {
     match sets.get(number) {
-        Some(set) => set.contains(&state),
-        None => false,
+        Some(set) => Ok(set.to_vec(alloc)?),
+        None => unreachable!(),
     }
-}
-
-/// The number of what set `b` has, or of nothing unless set `a` has a state.
-pub fn joined_set(sets: &mut Sets, state: u32, a: u32, b: u32) -> Result<u32, AllocError>
-    requires a_known { a < length sets.old }
-    requires b_known { b < length sets.old }
-    ensures joined { IfOk result (λ number. IsJoinedSet sets.new state a b number) }
-    ensures kept { SetsKept sets.old sets.new }
-{
-    if has_state(sets, a, state) {
-        return Ok(b);
-    }
-    let number = number_of(sets, &[])?;
-    Ok(number)
 }

@@ -11,12 +11,13 @@ ghost use Rattle.auto_project.specs.SetMaps.{HasClosedRowsIn, HasPlaceRowsIn, Is
 ghost use Rattle.auto_project.specs.Placed.{AddsPlacesOf, LeadsToPlaces, RemembersRows};
 
 use crate::closure::Rows;
-use crate::join::united;
+use crate::join::united_rows;
 use crate::placing::Places;
 use crate::rows::{SetRows, set_rows};
+use crate::sets::copied_set;
 use auto_core::Auto;
 use auto_walk::Walk;
-use letter_diagram::{Diagrams, Merger, Node, Sets};
+use letter_diagram::{Diagrams, Merger, Node};
 use std::alloc::{AllocError, Global};
 use track_word::{Var, remove_track};
 
@@ -27,43 +28,6 @@ fn tracks_without(alloc: Global, tracks: &[Var], var: Var) -> Result<Vec<Var>, A
     let mut left = tracks.to_vec(alloc)?;
     remove_track(&mut left, var);
     Ok(left)
-}
-
-/// The rows of some states.
-fn rows_of(alloc: Global, rows: &[Node], set: &[u32]) -> Result<Vec<Node>, AllocError>
-    requires { All (λ state. state < length rows.now) set.now }
-    ensures { IfOk result (λ picked. picked.items ≡ map (slice_index rows.now) set.now) }
-{
-    let mut picked = Vec::new(alloc);
-    for state in set {
-        picked.push(rows[*state as usize])?;
-    }
-    Ok(picked)
-}
-
-/// The node that leads each letter to the states to which the states of a set lead.
-fn united_rows(merger: &mut Merger, rows: &[Node], set: &[u32]) -> Result<Node, AllocError>
-    requires some { set.now ≢ [] }
-    requires rows { All (HasSets merger.old.shapes merger.old.sets) rows.now }
-    requires set { All (λ state. state < length rows.now) set.now }
-    ensures union { IfOk result (IsUnionRowIn merger.new rows.now set.now) }
-    ensures grows { Grows merger.old.shapes merger.new.shapes }
-    ensures kept { SetsKept merger.old.sets merger.new.sets }
-{
-    let nodes = rows_of(merger.diagrams().alloc(), rows, set)?;
-    let node = united(merger, nodes.as_slice())?;
-    Ok(node)
-}
-
-/// The set of a place.
-fn copied_set(alloc: Global, places: &Sets, number: u32) -> Result<Vec<u32>, AllocError>
-    requires { number < length places.now }
-    ensures { IfOk result (λ set. slice_get places.now number ≡ Some set.items) }
-{
-    match places.get(number) {
-        Some(set) => Ok(set.to_vec(alloc)?),
-        None => unreachable!(),
-    }
 }
 
 /// The rows of an automaton over the tracks that are left, and the sets that are numbered as places. One merger unites all rows, so
@@ -88,7 +52,7 @@ impl<'a> Subsets<'a> {
     {
         let tracks = tracks_without(alloc, a.tracks(), var)?;
         let SetRows {
-            merger,
+            mut merger,
             first,
             rows: nodes,
         } = set_rows(alloc, a, var, tracks.as_slice())?;
@@ -97,7 +61,7 @@ impl<'a> Subsets<'a> {
             tracks,
             nodes,
         };
-        let (merger, first) = rows.closed(merger, first)?;
+        let first = rows.closed(&mut merger, first)?;
         let _ = merger.sets().len(); // for its invariant
         Ok(Subsets {
             rows,

@@ -1,5 +1,5 @@
 use Rattle.auto_project.proofs.Joins.{picked-sets, picked-some, IsUnionRow-from}
-use Rattle.auto_project.proofs.subsets.united_rows.Goals as goal
+use Rattle.auto_project.proofs.join.united_rows.Goals as goal
 
 pub united-requires-clause-some : goal.united-requires-clause-some
 united-requires-clause-some c = rw c.as_slice.ensures.value (picked-some _ _ _ c.in_ok-nodes.ensures c.requires.some)
