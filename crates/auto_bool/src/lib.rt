@@ -17,4 +17,4 @@ pub use complement::not;
 pub use connective::Connective;
 pub use nothing::none_of;
 pub use operand::{Operand, fits_with_itself, operand_by};
-pub use product::{difference, difference_within, join, join_within, meet, meet_within};
+pub use product::{difference, join, meet, product_within};

@@ -5,7 +5,7 @@ ghost use Rattle.auto_core.specs.Reduced.{IsReduced, AllReached};
 ghost use Rattle.auto_walk.specs.Walker.{MoreThan};
 ghost use Rattle.auto_bool.specs.Both.{both_walker};
 ghost use Rattle.auto_bool.specs.Absorbed.{IsProduct};
-ghost use Rattle.auto_bool.specs.Words.{AcceptsBoth, AcceptsEither, AcceptsFirstOnly, StepExceeds};
+ghost use Rattle.auto_bool.specs.Words.{AcceptsBy, AcceptsBoth, AcceptsEither, AcceptsFirstOnly, StepExceeds};
 
 use crate::both::Both;
 use crate::connective::Connective;
@@ -16,10 +16,13 @@ use diagram_product::Absorbing;
 use limits::{Budget, MOST_TRACKS};
 use std::alloc::Global;
 
-/// The automaton over the pairs of states that words lead to, or `Over` where they are more than the budget. Words that lead to
-/// one pair have the same residuals; in reduced automata words that lead to different pairs have not. Where the budget has room
-/// for all pairs of states, those in which one side decides for good are one state.
-fn product(
+/// The automaton of the words over the tracks of both that the connective takes, each word read on the argument's own tracks, of any
+/// two automata, reduced or not. Its states are the pairs of states that words lead to (Rabin and Scott 1959). Where the budget has
+/// room for all pairs of states, those in which a side decides for good are one. Some states may accept the same suffixes. `Over` where
+/// the pairs that words lead to are more than the budget. Only of reduced automata does that say how many words the step has to tell
+/// apart: on the reduced automata for the same words it may still be within. Costs the pairs of nodes that are met over all rows
+/// together.
+pub fn product_within(
     alloc: Global,
     a: &Auto,
     b: &Auto,
@@ -27,20 +30,23 @@ fn product(
     budget: Budget,
 ) -> Result<Auto, Grown>
     requires tracks { length (with_vars a.now.tracks b.now.tracks) ≤ MOST_TRACKS }
-    ensures ok { IfOk result (IsProduct a.now b.now connective) }
+    ensures tracks { IfOk result (λ m. m.tracks ≡ with_vars a.now.tracks b.now.tracks) }
+    ensures words { IfOk result (AcceptsBy connective a.now b.now) }
+    ensures reached { IfOk result AllReached }
     ensures few { IfOk result (λ m. length m.accept ≤ budget) }
     ensures within { OnOk result (¬ StepExceeds a.now b.now budget) }
     ensures over { IsReduced a.now → IsReduced b.now → result ≡ Err Grown.Over → StepExceeds a.now b.now budget }
     ensures many { result ≡ Err Grown.Over → MoreThan (both_walker a.now b.now connective) budget }
 {
-    if !pairs_fit(a, b, budget) {
-        return exact_product(alloc, a, b, connective, budget);
+    if pairs_fit(a, b, budget) {
+        match absorbed_product(alloc, a, b, connective, budget) {
+            Ok(m) => return Ok(m),
+            Err(Grown::Memory) => return Err(Grown::Memory),
+            Err(Grown::Over) => {}
+        }
     }
-    match absorbed_product(alloc, a, b, connective, budget) {
-        Ok(m) => Ok(m),
-        Err(Grown::Memory) => Err(Grown::Memory),
-        Err(Grown::Over) => exact_product(alloc, a, b, connective, budget),
-    }
+    let m = exact_product(alloc, a, b, connective, budget)?;
+    Ok(m)
 }
 
 /// Whether the budget has room for all pairs of states.
@@ -87,10 +93,8 @@ fn exact_product(
     walked(alloc, both, budget)
 }
 
-/// The automaton of the words over the tracks of both that both accept, each word read on the argument's own tracks.
-/// Its states are the pairs of states that words lead to (Rabin and Scott 1959). Where the budget has room for all pairs of states,
-/// those in which a side decides for good are one. Some states may accept the same suffixes. `Over` where the pairs that words
-/// lead to are more than the budget. Costs the pairs of nodes that are met over all rows together.
+/// The automaton of the words over the tracks of both that both accept, each word read on the argument's own tracks: the product of
+/// reduced automata, of which `Over` says that the step has to tell apart more words than the budget.
 pub fn meet(alloc: Global, a: &Auto, b: &Auto, budget: Budget) -> Result<Auto, Grown>
     requires a_reduced { IsReduced a.now }
     requires b_reduced { IsReduced b.now }
@@ -101,7 +105,7 @@ pub fn meet(alloc: Global, a: &Auto, b: &Auto, budget: Budget) -> Result<Auto, G
     ensures within { OnOk result (¬ StepExceeds a.now b.now budget) }
     ensures over { result ≡ Err Grown.Over → StepExceeds a.now b.now budget }
 {
-    let m = product(alloc, a, b, Connective::And, budget)?;
+    let m = product_within(alloc, a, b, Connective::And, budget)?;
     Ok(m)
 }
 
@@ -117,7 +121,7 @@ pub fn join(alloc: Global, a: &Auto, b: &Auto, budget: Budget) -> Result<Auto, G
     ensures within { OnOk result (¬ StepExceeds a.now b.now budget) }
     ensures over { result ≡ Err Grown.Over → StepExceeds a.now b.now budget }
 {
-    let m = product(alloc, a, b, Connective::Or, budget)?;
+    let m = product_within(alloc, a, b, Connective::Or, budget)?;
     Ok(m)
 }
 
@@ -133,50 +137,6 @@ pub fn difference(alloc: Global, a: &Auto, b: &Auto, budget: Budget) -> Result<A
     ensures within { OnOk result (¬ StepExceeds a.now b.now budget) }
     ensures over { result ≡ Err Grown.Over → StepExceeds a.now b.now budget }
 {
-    let m = product(alloc, a, b, Connective::AndNot, budget)?;
+    let m = product_within(alloc, a, b, Connective::AndNot, budget)?;
     Ok(m)
-}
-
-/// `meet` of any two automata, reduced or not, that is within the budget where the pairs of states that words lead to are.
-/// `Over` where they are more. That says nothing of how many words the step has to tell apart: of the reduced automata for the
-/// same words `meet` may still be within.
-pub fn meet_within(alloc: Global, a: &Auto, b: &Auto, budget: Budget) -> Result<Auto, Grown>
-    requires tracks { length (with_vars a.now.tracks b.now.tracks) ≤ MOST_TRACKS }
-    ensures tracks { IfOk result (λ m. m.tracks ≡ with_vars a.now.tracks b.now.tracks) }
-    ensures words { IfOk result (AcceptsBoth a.now b.now) }
-    ensures reached { IfOk result AllReached }
-    ensures few { IfOk result (λ m. length m.accept ≤ budget) }
-    ensures within { OnOk result (¬ StepExceeds a.now b.now budget) }
-    ensures over { result ≡ Err Grown.Over → MoreThan (both_walker a.now b.now Connective.And) budget }
-{
-    let both = product(alloc, a, b, Connective::And, budget)?;
-    Ok(both)
-}
-
-/// `join` of any two automata, reduced or not. Otherwise as `meet_within`.
-pub fn join_within(alloc: Global, a: &Auto, b: &Auto, budget: Budget) -> Result<Auto, Grown>
-    requires tracks { length (with_vars a.now.tracks b.now.tracks) ≤ MOST_TRACKS }
-    ensures tracks { IfOk result (λ m. m.tracks ≡ with_vars a.now.tracks b.now.tracks) }
-    ensures words { IfOk result (AcceptsEither a.now b.now) }
-    ensures reached { IfOk result AllReached }
-    ensures few { IfOk result (λ m. length m.accept ≤ budget) }
-    ensures within { OnOk result (¬ StepExceeds a.now b.now budget) }
-    ensures over { result ≡ Err Grown.Over → MoreThan (both_walker a.now b.now Connective.Or) budget }
-{
-    let either = product(alloc, a, b, Connective::Or, budget)?;
-    Ok(either)
-}
-
-/// `difference` of any two automata, reduced or not. Otherwise as `meet_within`.
-pub fn difference_within(alloc: Global, a: &Auto, b: &Auto, budget: Budget) -> Result<Auto, Grown>
-    requires tracks { length (with_vars a.now.tracks b.now.tracks) ≤ MOST_TRACKS }
-    ensures tracks { IfOk result (λ m. m.tracks ≡ with_vars a.now.tracks b.now.tracks) }
-    ensures words { IfOk result (AcceptsFirstOnly a.now b.now) }
-    ensures reached { IfOk result AllReached }
-    ensures few { IfOk result (λ m. length m.accept ≤ budget) }
-    ensures within { OnOk result (¬ StepExceeds a.now b.now budget) }
-    ensures over { result ≡ Err Grown.Over → MoreThan (both_walker a.now b.now Connective.AndNot) budget }
-{
-    let only = product(alloc, a, b, Connective::AndNot, budget)?;
-    Ok(only)
 }
