@@ -31,7 +31,7 @@ use Rattle.formula_auto.proofs.PartLemmas.{one_automaton, part-after, same_few}
 use Rattle.formula_auto.proofs.WithMemo.{remembered_both}
 
 -- a product serves as the step
-decides-by : (connective : Connective) {a b m : Automaton} → m.tracks ≡ with_vars a.tracks b.tracks → AcceptsBy connective a b m → DecidesBoth connective a b m
+pub decides-by : (connective : Connective) {a b m : Automaton} → m.tracks ≡ with_vars a.tracks b.tracks → AcceptsBy connective a b m → DecidesBoth connective a b m
 decides-by And {a} {b} {m} tracks words = λ f g e left right. Decides-And (members e) f g a b m left right tracks words
 decides-by Or {a} {b} {m} tracks words = λ f g e left right. Decides-Or (members e) f g a b m left right tracks words
 decides-by AndNot {a} {b} {m} tracks words = λ f g e left right. Decides-AndNot (members e) f g a b m left right tracks words

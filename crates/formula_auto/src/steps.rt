@@ -15,7 +15,7 @@ ghost use Rattle.auto_project.specs.Lifted.{ForgettingExceeds};
 ghost use Rattle.formula_auto.specs.Nodes.{AcceptSame, IsNoLarger};
 ghost use Rattle.formula_auto.specs.Nodes.{DecidesAmong, DecidesNot, DecidesEx, DecidesBoth};
 
-use auto_bool::{Connective, difference_within, join_within, meet_within, not};
+use auto_bool::{Connective, not};
 use auto_compact::renamed;
 use auto_core::Auto;
 use auto_merge::merge;
@@ -118,13 +118,7 @@ fn product_within(
     ensures within { OnOk result (¬ StepExceeds a.now b.now budget) }
     ensures over { IsReduced a.now → IsReduced b.now → result ≡ Err Grown.Over → StepExceeds a.now b.now budget }
 {
-    let _ = a.states(); // for its invariant
-    let _ = b.states(); // for its invariant
-    match connective {
-        Connective::And => meet_within(alloc, a, b, budget),
-        Connective::Or => join_within(alloc, a, b, budget),
-        Connective::AndNot => difference_within(alloc, a, b, budget),
-    }
+    auto_bool::product_within(alloc, a, b, connective, budget)
 }
 
 fn reduced_product(
