@@ -6,7 +6,7 @@ use Rattle.auto_core.specs.Reduced.{AllReached}
 use Rattle.track_word.specs.Tracks.{with_vars}
 use Rattle.auto_bool.specs.declared.operand.Operand.{Operand}
 use Rattle.auto_bool.specs.declared.operand.Operand.TheVariants.{Left, Right}
-use Rattle.auto_bool.specs.Words.{AcceptsBy}
+use Rattle.auto_bool.specs.Words.{AcceptsBy, StepExceeds}
 use Rattle.auto_bool.specs.Operands.{operand_of, IsAtHand, IsOperand, IsNoneOf, IsProductWithin, IsNothingLeft}
 use Rattle.lin_formula.specs.SetOf.{SetOf, members}
 use Rattle.lin_formula.specs.TreeOf.{tree_of}
@@ -17,6 +17,10 @@ use Rattle.formula_auto.specs.MemoState.{MemoState}
 use Rattle.formula_auto.specs.Recalled.{is_recalled, MayBeOneStep}
 use Rattle.formula_auto.specs.PartOf.{IsPart, IsSamePlace, IsRememberedPart}
 use Rattle.formula_auto.specs.Shortcuts.{Serves, with_itself, IsShortcutOf, IsSeen}
+use Rattle.formula_auto.specs.Joints.{joint_part, Joins, IsJointOf}
+use Rattle.formula_auto.specs.declared.joint.Joint.{Joint}
+use Rattle.formula_auto.specs.declared.joint.Joint.TheVariants as joint
+use Rattle.formula_auto.specs.Compiled.{IsAccessible}
 use Rattle.auto_bool.specs.declared.connective.Connective.{Connective}
 use Rattle.auto_bool.specs.declared.connective.Connective.TheVariants.{And, Or, AndNot}
 use Rattle.formula_auto.specs.declared.pair.Pair.{Pair}
@@ -114,18 +118,27 @@ module _ (pair : Pair) {e : ℕ → SetOf} {course : Course} {m0 m1 m2 : MemoSta
     remembered = remembered_both pair outside one first.remembered second.remembered made.decides made.within;
   }
 
-  pub part-operand : (operand : Operand) → LevelGrows l k → IsShortcutOf pair.connective m2 k left.part right.part (shortcut.Operand operand)
-      → IsRememberedPart (connected pair) e course m0 m2 k (record { part = operand_of operand left.part right.part; done = right.done + 1 })
-  part-operand operand grows serves =
+  -- where it is one of the two, that one's automaton is not made again
+  pub part-joint : (joint : Joint) → LevelGrows l k → IsJointOf pair.connective m2 k left.part right.part joint
+      → IsRememberedPart (connected pair) e course m0 m2 k (record { part = joint_part joint left.part right.part; done = right.done + 1 })
+  part-joint (joint.Operand operand) grows is =
       let still = part-after left.part first.auto first.has second.remembered.after grows in
       part-made (operand_of operand first.auto second.auto) (operand_of operand left.part right.part)
       (has-operand operand m2 k left.part right.part first.auto second.auto still second.has)
       (reached-operand operand first.auto second.auto first.reached second.reached)
-      (serves first.auto second.auto still second.has)
-
-  pub part-nothing : {a n : Automaton} → LevelGrows l k → IsPart m2 k left.part a → IsNoneOf a n → IsShortcutOf pair.connective m2 k left.part right.part shortcut.Nothing
-      → IsRememberedPart (connected pair) e course m0 m2 k (record { part = Fresh n; done = right.done + 1 })
-  part-nothing {a} {n} grows has none serves =
+      (is first.auto second.auto still second.has)
+  part-joint (joint.Made c) grows is =
       let still = part-after left.part first.auto first.has second.remembered.after grows in
-      let same = one_automaton m2 k left.part a first.auto has still in
-      part-made n (Fresh n) refl none.reached (serves first.auto second.auto still second.has n (subst (λ x. IsNoneOf x n) same none))
+      let made = is first.auto second.auto still second.has in
+      part-made c (Fresh c) refl made.1 made.0
+
+-- what two parts make by their automata
+module _ (connective : Connective) (m : MemoState) (l : LevelState) (left right : Part) (a b : Automaton) (has_left : IsPart m l left a) (has_right : IsPart m l right b) where
+  by_theirs : (P : Automaton → Automaton → Type 0) → P a b → (x y : Automaton) → IsPart m l left x → IsPart m l right y → P x y
+  by_theirs P here x y is_x is_y =
+      subst (λ z. P x z) (one_automaton m l right b y has_right is_y) (subst (λ z. P z b) (one_automaton m l left a x has_left is_x) here)
+
+  pub joint-made : {c : Automaton} → DecidesBoth connective a b c → IsAccessible m.budget c → (StepExceeds a b m.budget → ⊥) → IsJointOf connective m l left right (joint.Made c)
+  joint-made {c} decides accessible within =
+      by_theirs (λ x y. Joins connective x y m.budget (joint.Made c))
+      (record { decides = decides; few = accessible.few; within = within }, accessible.reached)

@@ -134,9 +134,6 @@ module _ (pair : Pair) {e : ℕ → SetOf} {course : Course} {m0 m1 : MemoState}
             (λ step is. let at = number_of (end + 1) why step is in omega (arith, at, left.counts, right.counts));
       }
 
-      pub interrupted_after_both : {why : CompileError} → why ≡ Memory → IsInterrupted (connected pair) e course m0 m2 why
-      interrupted_after_both is = subst (IsInterrupted (connected pair) e course m0 m2) (sym is) (interrupted_at_both grown.Memory (λ over. absurd (cc)))
-
 module _ {e : ℕ → SetOf} {course : Course} {f : Tree} {m : MemoState} where
   -- without a step nothing is entered and nothing taken
   pub remembered_leaf : {a : Automaton} → steps f ≡ [] → Decides a f (members e) → IsRemembered f e course m m a course.before

@@ -24,6 +24,7 @@ pub mod MemoState
 pub mod Remembered
 pub mod PartOf
 pub mod Shortcuts
+pub mod Joints
 pub mod EntryOf
 pub mod LevelState
 pub mod Codes

@@ -1,6 +1,6 @@
 //! The way down a formula and up again, a step at a time. What was made of a plain formula once is taken from the memo, and what was
 //! made of And of two sets from the level.
-ghost use Rattle.std.specs.Prelude.{◌≡◌, ◌+◌, ◌<◌, ◌≤◌, ◌^◌, length, IfOk, IfErr, OnOk, true, false};
+ghost use Rattle.std.specs.Prelude.{◌≡◌, ◌+◌, ◌<◌, ◌≤◌, ◌^◌, length, IfOk, IfErr, OnOk, Err, true, false};
 ghost use Rattle.auto_core.specs.Automaton.{Automaton};
 ghost use Rattle.auto_core.specs.Integers.{DecidesIntegers};
 ghost use Rattle.auto_core.specs.Reduced.{AllReached, IsReduced};
@@ -20,9 +20,11 @@ ghost use Rattle.formula_auto.specs.LevelState.{LevelGrows};
 ghost use Rattle.formula_auto.specs.LevelState as level_state;
 ghost use Rattle.formula_auto.specs.MemoState.{IsMemoAfter, IsMemoStopped, IsKnown};
 ghost use Rattle.formula_auto.specs.PartOf.{IsPart, IsRememberedOn, IsInterruptedOn};
+ghost use Rattle.formula_auto.specs.Joints.{IsJointOf, FitTogether, TogetherExceed};
 
 use crate::course::{Course, Recall};
 use crate::errors::CompileError;
+use crate::joint::Joint;
 use crate::level::Level;
 use crate::memo::Memo;
 use crate::pair::Pair;
@@ -33,6 +35,7 @@ use crate::steps::{comparison, complement, joined, projection, value_of};
 use crate::table::SetTable;
 use auto_bool::{Connective, none_of};
 use auto_core::Auto;
+use auto_walk::Grown;
 use limits::Budget;
 use lin_formula::Formula;
 use std::alloc::{AllocError, Global};
@@ -401,21 +404,41 @@ impl Memo {
         };
         let right = self.compiled(alloc, pair.right, level, after_left)?;
         let step = right.done + 1;
-        match self.shortcut(level, pair.connective, &left.part, &right.part) {
-            Some(Shortcut::Operand(operand)) => Ok(Remembered {
-                part: operand.of(left.part, right.part),
+        let parts = (&left.part, &right.part);
+        match self.put_together(alloc, level, pair.connective, parts) {
+            Ok(joint) => Ok(Remembered {
+                part: joint.of(left.part, right.part),
                 done: step,
             }),
+            Err(why) => Err(CompileError::at(step, why)),
+        }
+    }
+
+    /// What the connective makes of two parts, within the budget. Where it is one of the two, nothing is made.
+    fn put_together(
+        &self,
+        alloc: Global,
+        level: &Level,
+        connective: Connective,
+        parts: (&Part, &Part),
+    ) -> Result<Joint, Grown>
+        requires left { (a : Automaton) × IsPart self.now level.now parts.0.now a }
+        requires right { (b : Automaton) × IsPart self.now level.now parts.1.now b }
+        requires room { FitTogether self.now level.now parts.0.now parts.1.now }
+        ensures ok { IfOk result (IsJointOf connective self.now level.now parts.entry.0.now parts.entry.1.now) }
+        ensures over { result ≡ Err Grown.Over → TogetherExceed self.now level.now parts.entry.0.now parts.entry.1.now }
+    {
+        let (left, right) = parts;
+        match self.shortcut(level, connective, left, right) {
+            Some(Shortcut::Operand(operand)) => Ok(Joint::Operand(operand)),
             Some(Shortcut::Nothing) => {
-                let nothing = none_of(alloc, self.automaton(level, &left.part))?;
-                Ok(Remembered::fresh(nothing, step))
+                let nothing = none_of(alloc, self.automaton(level, left))?;
+                Ok(Joint::Made(nothing))
             }
             None => {
-                let (a, b) = self.automata(level, &left.part, &right.part);
-                match joined(alloc, pair.connective, a, b, self.budget()) {
-                    Ok(auto) => Ok(Remembered::fresh(auto, step)),
-                    Err(why) => Err(CompileError::at(step, why)),
-                }
+                let (a, b) = self.automata(level, left, right);
+                let auto = joined(alloc, connective, a, b, self.budget())?;
+                Ok(Joint::Made(auto))
             }
         }
     }

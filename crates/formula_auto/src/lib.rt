@@ -7,6 +7,7 @@ mod compiling;
 mod course;
 mod entry;
 mod errors;
+mod joint;
 mod level;
 mod memo;
 mod pair;

@@ -6,11 +6,11 @@ use Rattle.lin_formula.specs.Tree.{steps}
 use Rattle.lin_formula.specs.TreeOf.{tree_of}
 use Rattle.lin_formula.specs.SetOf.{tables, members}
 use Rattle.formula_auto.specs.Decides.{Decides}
-use Rattle.formula_auto.proofs.WithMemo.{remembered_not, interrupted_not, interrupted_at_not, remembered_ex, interrupted_ex, interrupted_at_ex, remembered_both, interrupted_left, interrupted_right, interrupted_at_both, interrupted_after_both, interrupted_memory, interrupted_last, remembered_entered, interrupted_inside, may_enter, unknown_still}
+use Rattle.formula_auto.proofs.WithMemo.{remembered_not, interrupted_not, interrupted_at_not, remembered_ex, interrupted_ex, interrupted_at_ex, interrupted_left, interrupted_right, interrupted_at_both, interrupted_memory, interrupted_last, remembered_entered, interrupted_inside, may_enter, unknown_still}
 use Rattle.formula_auto.proofs.Connections.{size-connect, ready-connect}
 use Rattle.formula_auto.proofs.PartLemmas.{same_few, part-fresh, part-leaf, part-whole, part-found, part-after, lent, lent-reached, lent-few, few_kept, lent-later}
 use Rattle.formula_auto.proofs.MemoLemmas.{recalled-plain}
-use Rattle.formula_auto.proofs.Operands.{part-operand, part-nothing}
+use Rattle.formula_auto.proofs.Operands.{part-joint}
 use Rattle.formula_auto.proofs.Pairs.{pair_outside, pair_size, part-paired, may_remember, part-remembered}
 use Rattle.formula_auto.proofs.memo.Memo.+compiled.Goals as goal
 
@@ -168,69 +168,35 @@ both-overflow_add-step t c =
     let size = size-connect c.args.pair.connective (tree_of c.args.pair.left.now) (tree_of c.args.pair.right.now) in
     record { fits = omega (arith, c.requires.room, left, right, size) }
 
-pub both-shortcut-requires-clause-left : goal.both-shortcut-requires-clause-left
-both-shortcut-requires-clause-left t c =
+pub both-put_together-requires-clause-left : goal.both-put_together-requires-clause-left
+both-put_together-requires-clause-left t c =
     let left = c.in_ok-left.ensures.ok in
     (left.auto, part-after c.in_ok-left.left.part left.auto left.has c.in_ok-right.ensures.ok.remembered.after c.compiled-2.ensures.grows)
 
-pub both-shortcut-requires-clause-right : goal.both-shortcut-requires-clause-right
-both-shortcut-requires-clause-right t c = (c.in_ok-right.ensures.ok.auto, c.in_ok-right.ensures.ok.has)
+pub both-put_together-requires-clause-right : goal.both-put_together-requires-clause-right
+both-put_together-requires-clause-right t c = (c.in_ok-right.ensures.ok.auto, c.in_ok-right.ensures.ok.has)
 
-pub both-automaton-requires : goal.both-automaton-requires
-both-automaton-requires t c =
-    let left = c.in_ok-left.ensures.ok in
-    (left.auto, part-after c.in_ok-left.left.part left.auto left.has c.in_ok-right.ensures.ok.remembered.after c.compiled-2.ensures.grows)
-
-pub both-returns-in_err-nothing-in-Some-Nothing-clause-err : goal.both-returns-in_err-nothing-in-Some-Nothing-clause-err
-both-returns-in_err-nothing-in-Some-Nothing-clause-err t c =
-    let p = err_from_is_err_and c.from_residual-in_err-nothing-in-Some-Nothing.result c.from_residual-in_err-nothing-in-Some-Nothing.ensures.1 in
-    let right = rw c.compiled.ensures.grows.sets at c.in_ok-right.ensures.ok in
-    rw p.1 (interrupted_after_both c.args.pair c.requires.not_recalled c.requires.one_step c.in_ok-left.ensures.ok.remembered right.remembered p.2)
-
-pub both-returns-in-Some-Operand-clause-ok : goal.both-returns-in-Some-Operand-clause-ok
-both-returns-in-Some-Operand-clause-ok t c =
-    let right = rw c.compiled.ensures.grows.sets at c.in_ok-right.ensures.ok in
-    let serves = rw c.in-Some-Operand.field-0-is at c.in-Some-Operand.ensures.is in
-    rw c.of.ensures
-    (part-operand c.args.pair c.requires.not_recalled c.requires.one_step c.in_ok-left.ensures.ok right c.in-Some-Operand.operand c.compiled-2.ensures.grows serves)
-
-pub both-returns-in-Some-Nothing-clause-ok : goal.both-returns-in-Some-Nothing-clause-ok
-both-returns-in-Some-Nothing-clause-ok t c =
-    let right = rw c.compiled.ensures.grows.sets at c.in_ok-right.ensures.ok in
-    let serves = rw c.in-Some-Nothing.field-0-is at c.in-Some-Nothing.ensures.is in
-    rw c.fresh.ensures
-    (part-nothing c.args.pair c.requires.not_recalled c.requires.one_step c.in_ok-left.ensures.ok right c.compiled-2.ensures.grows c.automaton.ensures
-    c.in_ok-nothing-in-Some-Nothing.ensures serves)
-
-pub both-automata-requires-clause-left : goal.both-automata-requires-clause-left
-both-automata-requires-clause-left t c =
-    let left = c.in_ok-left.ensures.ok in
-    (left.auto, part-after c.in_ok-left.left.part left.auto left.has c.in_ok-right.ensures.ok.remembered.after c.compiled-2.ensures.grows)
-
-pub both-automata-requires-clause-right : goal.both-automata-requires-clause-right
-both-automata-requires-clause-right t c = (c.in_ok-right.ensures.ok.auto, c.in_ok-right.ensures.ok.has)
-
-pub both-joined-requires : goal.both-joined-requires
-both-joined-requires t c =
-    let left = lent-later c.in_ok-left.ensures.ok c.in_ok-right.ensures.ok.remembered.after c.compiled-2.ensures.grows c.automata.ensures.left in
-    let right = lent (rw c.compiled.ensures.grows.sets at c.in_ok-right.ensures.ok) c.automata.ensures.right in
+pub both-put_together-requires-clause-room : goal.both-put_together-requires-clause-room
+both-put_together-requires-clause-room t c = λ a b has_left has_right.
+    let left = lent-later c.in_ok-left.ensures.ok c.in_ok-right.ensures.ok.remembered.after c.compiled-2.ensures.grows has_left in
+    let right = lent (rw c.compiled.ensures.grows.sets at c.in_ok-right.ensures.ok) has_right in
     rw (left.made.decides.tracks, right.made.decides.tracks)
     (ready-connect c.args.pair.connective (tree_of c.args.pair.left.now) (tree_of c.args.pair.right.now) c.args.level.now.sets c.requires.ready).0
 
 pub both-returns-in-Ok-clause-ok : goal.both-returns-in-Ok-clause-ok
 both-returns-in-Ok-clause-ok t c =
-    let left = lent-later c.in_ok-left.ensures.ok c.in_ok-right.ensures.ok.remembered.after c.compiled-2.ensures.grows c.automata.ensures.left in
-    let right = lent (rw c.compiled.ensures.grows.sets at c.in_ok-right.ensures.ok) c.automata.ensures.right in
-    let within = rw c.budget.ensures.is at c.in-Ok.ensures.within in
-    part-fresh c.fresh-in-Ok.ensures c.in-Ok.ensures.accessible.reached
-    (λ some. same_few c.in-Ok.auto (c.budget.ensures.is ∙ (right.after.budget ∙ left.after.budget)) c.in-Ok.ensures.accessible.few)
-    (remembered_both c.args.pair c.requires.not_recalled c.requires.one_step left right c.in-Ok.ensures.decides within)
+    let right = rw c.compiled.ensures.grows.sets at c.in_ok-right.ensures.ok in
+    rw c.of.ensures
+    (part-joint c.args.pair c.requires.not_recalled c.requires.one_step c.in_ok-left.ensures.ok right c.in-Ok.joint c.compiled-2.ensures.grows c.in-Ok.ensures.ok)
 
-pub both-returns-clause-err : goal.both-returns-clause-err
-both-returns-clause-err t c =
-    let left = lent-later c.in_ok-left.ensures.ok c.in_ok-right.ensures.ok.remembered.after c.compiled-2.ensures.grows c.automata.ensures.left in
-    let right = lent (rw c.compiled.ensures.grows.sets at c.in_ok-right.ensures.ok) c.automata.ensures.right in
-    rw c.at.ensures (interrupted_at_both c.args.pair c.requires.not_recalled c.requires.one_step left right c.in-Err.why (λ over. rw c.budget.ensures.is at (c.in-Err.ensures.over (ap Err over))))
+pub both-returns-in-Err-clause-err : goal.both-returns-in-Err-clause-err
+both-returns-in-Err-clause-err t c =
+    let first = c.in_ok-left.ensures.ok in
+    let second = c.in_ok-right.ensures.ok in
+    let still = part-after c.in_ok-left.left.part first.auto first.has second.remembered.after c.compiled-2.ensures.grows in
+    let right = lent (rw c.compiled.ensures.grows.sets at second) second.has in
+    rw c.at.ensures (interrupted_at_both c.args.pair c.requires.not_recalled c.requires.one_step first.remembered right c.in-Err.why
+    (λ over. c.in-Err.ensures.over (ap Err over) first.auto second.auto still second.has))
 
 pub paired-overflow_add-result : goal.paired-overflow_add-result
 paired-overflow_add-result t c = record { fits = omega (arith, c.requires.room, pair_size (tree_of c.args.f.now) c.requires.pair) }

@@ -1,0 +1,42 @@
+-- What two parts of a formula make, put together.
+use Rattle.std.specs.Prelude.{◌≤◌, ℕ, length}
+use Rattle.limits.specs.declared.numbers.TheConstants.{MOST_TRACKS}
+use Rattle.track_word.specs.Tracks.{with_vars}
+use Rattle.auto_core.specs.Automaton.{Automaton}
+use Rattle.auto_core.specs.Reduced.{AllReached}
+use Rattle.auto_bool.specs.Words.{StepExceeds}
+use Rattle.auto_bool.specs.declared.connective.Connective.{Connective}
+use Rattle.auto_bool.specs.Operands.{operand_of}
+use Rattle.formula_auto.specs.MemoState.{MemoState}
+use Rattle.formula_auto.specs.LevelState.{LevelState}
+use Rattle.formula_auto.specs.Nodes.{IsStepWithin}
+use Rattle.formula_auto.specs.PartOf.{IsPart}
+use Rattle.formula_auto.specs.declared.part.Part.{Part}
+use Rattle.formula_auto.specs.declared.part.Part.TheVariants.{Fresh}
+use Rattle.formula_auto.specs.declared.joint.Joint.{Joint}
+use Rattle.formula_auto.specs.declared.joint.Joint.TheVariants as joint
+
+-- one of the two parts, or one of its own
+abbrev pub joint_part : Joint → Part → Part → Part
+joint_part (joint.Operand operand) left right = operand_of operand left right
+joint_part (joint.Made auto) left right = Fresh auto
+
+-- it stands for what the connective makes of two automata, within the budget; what was made is reached
+abbrev pub Joins : Connective → Automaton → Automaton → ℕ → Joint → Type 0
+Joins connective a b budget (joint.Operand operand) = IsStepWithin connective a b budget (operand_of operand a b)
+Joins connective a b budget (joint.Made c) = IsStepWithin connective a b budget c × AllReached c
+
+-- that of the automata of two parts, within the memo's budget
+abbrev pub IsJointOf : Connective → MemoState → LevelState → Part → Part → Joint → Type 0
+IsJointOf connective m l left right joint =
+    (a b : Automaton) → IsPart m l left a → IsPart m l right b → Joins connective a b m.budget joint
+
+-- their automata have few tracks together
+abbrev pub FitTogether : MemoState → LevelState → Part → Part → Type 0
+FitTogether m l left right =
+    (a b : Automaton) → IsPart m l left a → IsPart m l right b → length (with_vars a.tracks b.tracks) ≤ MOST_TRACKS
+
+-- the step on their automata exceeds the memo's budget
+abbrev pub TogetherExceed : MemoState → LevelState → Part → Part → Type 0
+TogetherExceed m l left right =
+    (a b : Automaton) → IsPart m l left a → IsPart m l right b → StepExceeds a b m.budget
