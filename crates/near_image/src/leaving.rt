@@ -7,7 +7,7 @@ ghost use Rattle.near_image.specs.Read.{trees};
 ghost use Rattle.near_image.specs.LeftOut.{IsDifference, IsLeftOver, AreLeftOver, MayBeAsked};
 
 use crate::merging::merged;
-use auto_bool::difference_within;
+use auto_bool::{Connective, product_within};
 use auto_core::Auto;
 use auto_walk::Grown;
 use formula_auto::{CompileError, Memo, SetTable};
@@ -68,6 +68,6 @@ fn difference(alloc: Global, a: &Auto, b: &Auto, each: Budget) -> Result<Auto, G
     requires { length (with_vars a.now.tracks b.now.tracks) ≤ MOST_TRACKS }
     ensures { IfOk result (IsDifference each a.now b.now) }
 {
-    let only = difference_within(alloc, a, b, each)?;
+    let only = product_within(alloc, a, b, Connective::AndNot, each)?;
     Ok(merged(alloc, &only)?)
 }
