@@ -5,7 +5,7 @@ ghost use Rattle.set_plan.specs.Program.{IsSetOf, LastExceeds};
 ghost use Rattle.set_plan.specs.Sets.{IsSetOn, IsReachedOn, IsReductionOf};
 ghost use Rattle.set_plan.specs.Unite.{difference as difference_of, either as either_of};
 
-use auto_bool::{Connective, difference, join, join_within, operand_by};
+use auto_bool::{Connective, difference, join, operand_by, product_within};
 use auto_core::Auto;
 use auto_merge::merge;
 use auto_reduce::reduce;
@@ -47,7 +47,7 @@ fn either_reached(
 {
     let _ = a.tracks(); // for its invariant
     let _ = budget.states(); // for its invariant
-    match join_within(alloc, a, b, budget) {
+    match product_within(alloc, a, b, Connective::Or, budget) {
         Ok(c) => Ok(merge(alloc, &c)?),
         Err(Grown::Over) => either_of_reduced(alloc, tracks, a, b, budget),
         Err(Grown::Memory) => Err(Grown::Memory),

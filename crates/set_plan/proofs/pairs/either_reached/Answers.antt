@@ -3,8 +3,8 @@ use Rattle.auto_bool.specs.declared.connective.Connective.TheVariants as connect
 use Rattle.set_plan.proofs.BothSets.{both-exceeds, both-is, both-reached, few-tracks}
 use Rattle.set_plan.proofs.pairs.either_reached.Goals as goal
 
-pub join_within-requires : goal.join_within-requires
-join_within-requires c = record {
+pub product_within-requires : goal.product_within-requires
+product_within-requires c = record {
   tracks = few-tracks c.args.tracks.now c.args.a.now c.args.b.now c.requires.first.decides c.requires.second.decides c.tracks.ensures.valid.ascending c.tracks.ensures.valid.few_tracks;
 }
 
