@@ -1,6 +1,5 @@
 -- `==` of shapes decides `≡`.
-use Rattle.std.proofs.Common.{◌≡◌, Bool, true, arith, ap, sym, ◌∙◌}
-use Rattle.std.specs.Bool.{Decides}
+use Rattle.std.proofs.Common.{◌≡◌, Bool, true, arith}
 use Rattle.std.proofs.lemmas.Grind.{common_steps}
 use Rattle.letter_diagram.specs.declared.diagrams.Shape.{Shape}
 use Rattle.letter_diagram.specs.declared.diagrams.Shape.TheVariants.{Leaf, Test}
@@ -18,6 +17,3 @@ shape_eq-true (Test t l r) (Test u m s) h = grind (arith, common_steps, h)
 pub shape_eq-refl : (a : Shape) → shape_eq a a ≡ true
 shape_eq-refl (Leaf v) = grind (arith, common_steps)
 shape_eq-refl (Test t l r) = grind (arith, common_steps)
-
-pub shape_eq-Decides : (a b : Shape) → Decides (shape_eq a b) (a ≡ b)
-shape_eq-Decides a b = (shape_eq-true a b, λ e. ap (shape_eq a) (sym e) ∙ shape_eq-refl a)

@@ -14,5 +14,6 @@ pub mod Laws
 pub mod Merger
 pub mod Leaves
 pub mod NodeMemo
-pub mod Hashed
 pub mod PairMemo
+pub mod Probing
+pub mod ShapeTable

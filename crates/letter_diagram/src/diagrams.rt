@@ -2,13 +2,10 @@
 ghost use Rattle.std.specs.Prelude.{◌≡◌, ◌<◌, ◌≤◌, ◌^◌, [], List, ℕ, length, IfOk, IsTrue, ◌↔◌};
 ghost use Rattle.letter_diagram.specs.Diagram.{map_at, top_track, HasMap, HaveOneMap, Grows, FitsBelow, IsAt, IsDiagram, HasChildren, chosen};
 ghost use Rattle.letter_diagram.specs.Splits.{IsSplit};
-ghost use Rattle.std.specs.Cmp.Rules.{hashing};
-ghost use Rattle.std.proofs.Common.{rules};
 
-use indexmap::IndexSet;
+use crate::shape_table::ShapeTable;
 use limits::MOST_TRACKS;
 use std::alloc::{AllocError, Global};
-use std::hash::{Hash, Hasher};
 use std::marker::Model;
 
 /// A diagram inside a `Diagrams`.
@@ -25,7 +22,7 @@ impl Model for Node {
     ghost inverse = { λ i. record { 0 = i } };
 }
 
-/// What stands where a table has no node. The node of this number is remembered by none of them.
+/// What stands where a table has no node: none of a `Diagrams` has this number.
 pub(crate) const NO_NODE: Node = Node(u32::MAX);
 
 impl Node {
@@ -46,28 +43,9 @@ pub enum Shape {
     Test { track: u8, low: Node, high: Node },
 }
 
-/// Of a test both sides are hashed and not the track: few tests have the same sides and look at another track.
-impl Hash for Shape {
-    ghost use Rattle.letter_diagram.specs.Hashed.{hashed};
-
-    ghost hash_input = { hashed };
-
-    ghost respects_eq = { Prim.search (hashing, rules) };
-
-    fn hash<H: Hasher>(&self, state: &mut H) {
-        match self {
-            Shape::Leaf(value) => value.hash(state),
-            Shape::Test { low, high, .. } => {
-                low.hash(state);
-                high.hash(state);
-            }
-        }
-    }
-}
-
-/// Diagrams that share their nodes. There are no more than 2^32 of them: one more is refused as want of memory.
+/// Diagrams that share their nodes. There are no more than 2^32 - 1 of them: one more is refused as want of memory.
 pub struct Diagrams {
-    shapes: IndexSet<Shape>,
+    shapes: ShapeTable,
 }
 
 impl Drop for Diagrams {
@@ -84,9 +62,9 @@ impl Model for Diagrams {
 
     ghost Value = { List Shape };
 
-    ghost view = { λ d. d.shapes.keys };
+    ghost view = { λ d. d.shapes };
 
-    ghost invariant = { λ d. IsDiagram d.shapes.keys };
+    ghost invariant = { λ d. IsDiagram d.shapes };
 }
 
 impl Diagrams {
@@ -94,7 +72,7 @@ impl Diagrams {
         ensures { result ≡ [] }
     {
         Diagrams {
-            shapes: IndexSet::new(alloc),
+            shapes: ShapeTable::new(alloc),
         }
     }
 
@@ -103,7 +81,7 @@ impl Diagrams {
         ensures { IfOk result (λ diagrams. diagrams ≡ []) }
     {
         Ok(Diagrams {
-            shapes: IndexSet::with_capacity(alloc, nodes)?,
+            shapes: ShapeTable::with_capacity(alloc, nodes)?,
         })
     }
 
@@ -111,21 +89,21 @@ impl Diagrams {
     pub fn alloc(&self) -> Global
         ensures diagram { IsDiagram self.now }
     {
-        *self.shapes.allocator()
+        self.shapes.alloc()
     }
 
     /// How many nodes are known.
     pub fn len(&self) -> usize
         ensures { result ≡ length self.now }
     {
-        self.shapes.len()
+        self.shapes.as_slice().len()
     }
 
     /// Whether no node is known.
     pub fn is_empty(&self) -> bool
         ensures { IsTrue result ↔ (self.now ≡ []) }
     {
-        self.shapes.is_empty()
+        self.shapes.as_slice().is_empty()
     }
 
     /// The same nodes, with the same maps.
@@ -133,7 +111,7 @@ impl Diagrams {
         ensures { IfOk result (λ copy. copy ≡ self.now) }
     {
         Ok(Diagrams {
-            shapes: self.shapes.clone()?,
+            shapes: self.shapes.copy()?,
         })
     }
 
@@ -243,10 +221,7 @@ impl Diagrams {
         ensures at { IfOk result (λ node. IsAt self.new node shape) }
         ensures grows { Grows self.old self.new }
     {
-        let (index, _) = self.shapes.insert_full(shape)?;
-        if index > u32::MAX as usize {
-            return Err(AllocError);
-        }
-        Ok(Node(index as u32))
+        let number = self.shapes.number(shape)?;
+        Ok(Node(number))
     }
 }

@@ -15,8 +15,10 @@ mod merger;
 mod node_memo;
 mod numbering;
 mod pair_memo;
+mod probing;
 mod relabel;
 mod sets;
+mod shape_table;
 mod turn;
 
 pub use carry::{Carry, carried, carried_all};

@@ -3,6 +3,7 @@ ghost use Rattle.std.specs.Prelude.{◌<◌, ◌≤◌, ◌+◌, ◌*◌, length
 ghost use Rattle.letter_diagram.specs.PairMemo.{Answers, AnswersNothing, AnswersOnly, LearnsPair};
 
 use crate::diagrams::{NO_NODE, Node};
+use crate::probing::{place, slots_for, spread};
 use std::alloc::{AllocError, Global};
 use std::marker::Model;
 
@@ -20,35 +21,11 @@ const FREE: Slot = Slot {
     answer: NO_NODE,
 };
 
-/// How many slots there are at least, once there are some.
-const LEAST_SLOTS: usize = 16;
-
-/// The odd number next to 2^64 over the golden ratio.
-const LEFT_FACTOR: usize = 0x9e37_79b9_7f4a_7c15;
-
-/// The odd number next to 2^64 over the real root of x^3 = x + 1.
-const RIGHT_FACTOR: usize = 0xc13f_a9a9_02a6_328f;
-
-/// A number that differs for most pairs of nodes: the upper half of a sum of products.
-fn spread(left: Node, right: Node) -> usize {
-    let left = left.number().wrapping_mul(LEFT_FACTOR);
-    let right = right.number().wrapping_mul(RIGHT_FACTOR);
-    left.wrapping_add(right) >> 32
-}
-
-/// The place among so many that comes so many steps after the one of a number: the last follows on the first.
-fn place(slots: usize, number: usize, step: usize) -> usize
-    requires { 0 < slots }
-    ensures { result < slots }
-{
-    number.wrapping_add(step) & (slots - 1)
-}
-
 /// Puts a pair and its answer into the first slot that is free.
 fn put(slots: &mut [Slot], new: Slot)
     ensures { LearnsPair slots.old slots.new new.left new.right new.answer }
 {
-    let number = spread(new.left, new.right);
+    let number = spread(new.left.number(), new.right.number());
     for step in 0..slots.len() {
         let place = place(slots.len(), number, step);
         if slots[place].left == NO_NODE {
@@ -58,9 +35,8 @@ fn put(slots: &mut [Slot], new: Slot)
     }
 }
 
-/// Answers for pairs of nodes, in an open table with linear probing (Knuth, The Art of Computer Programming, volume 3, section
-/// 6.4). It may forget: no answer is one that was put in for another pair, but one that was put in may be missing. At most
-/// half of the slots are taken, and there are as many as a power of two.
+/// Answers for pairs of nodes, in an open table. It may forget: no answer is one that was put in for another pair, but one that
+/// was put in may be missing.
 pub struct PairMemo {
     slots: Vec<Slot>,
     taken: usize,
@@ -98,12 +74,8 @@ impl PairMemo {
     pub fn with_capacity(alloc: Global, pairs: usize) -> Result<Self, AllocError>
         ensures { IfOk result AnswersNothing }
     {
-        let slots = pairs
-            .checked_mul(2)
-            .and_then(|slots| slots.max(LEAST_SLOTS).checked_next_power_of_two())
-            .ok_or(AllocError)?;
         Ok(PairMemo {
-            slots: vec![in alloc; FREE; slots]?,
+            slots: vec![in alloc; FREE; slots_for(pairs)?]?,
             taken: 0,
         })
     }
@@ -120,7 +92,7 @@ impl PairMemo {
     pub fn get(&self, left: Node, right: Node) -> Option<Node>
         ensures { IfSome result (Answers self.now left right) }
     {
-        let number = spread(left, right);
+        let number = spread(left.number(), right.number());
         for step in 0..self.slots.len() {
             let slot = self.slots[place(self.slots.len(), number, step)];
             if slot.left == NO_NODE {
@@ -151,12 +123,12 @@ impl PairMemo {
         Ok(())
     }
 
-    /// At least two more slots, and twice as many mostly, with the same pairs and answers.
+    /// Twice as many slots, with the same pairs and answers.
     fn grown(&self) -> Result<Vec<Slot>, AllocError>
         ensures only { IfOk result (λ grown. AnswersOnly self.now grown.items) }
         ensures more { IfOk result (λ grown. length self.now + 2 ≤ length grown.items) }
     {
-        let size = self.slots.len().saturating_mul(2).max(LEAST_SLOTS);
+        let size = slots_for(self.slots.len())?;
         let mut grown = vec![in *self.slots.allocator(); FREE; size]?;
         for slot in &self.slots {
             if slot.left != NO_NODE {

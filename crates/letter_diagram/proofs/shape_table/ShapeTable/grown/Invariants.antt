@@ -1,0 +1,6 @@
+use Rattle.std.proofs.Common.{take}
+use Rattle.letter_diagram.specs.ShapeTable.{IsHashed}
+use Rattle.letter_diagram.proofs.shape_table.ShapeTable.grown.Given as goal
+
+abbrev pub invariant-loop-number : goal.invariant-loop-number
+invariant-loop-number l = IsHashed l.slots.items (take l.number l.shape-items)

@@ -1,0 +1,15 @@
+use Rattle.std.proofs.Common.{◌≡◌, ◌<◌, length, arith, rules}
+use Rattle.letter_diagram.specs.ShapeTable.{free}
+use Rattle.letter_diagram.proofs.ShapeTables.{IsHashed-push, last-number}
+use Rattle.letter_diagram.proofs.shape_table.add.Goals as goal
+
+pub returns-clause-hashed : goal.returns-clause-hashed
+returns-clause-hashed c =
+    let last : c.len-number.result ≡ length c.args.shapes.now.items = search rules in
+    let room : length c.args.shapes.now.items < free = omega (arith, c.requires.hashed.few, c.if-number.false) in
+    rw (last, c.in_ok-push.ensures.items) (IsHashed-push c.args.shape c.args.place c.requires.hashed c.requires.first room)
+
+pub returns-clause-number : goal.returns-clause-number
+returns-clause-number c =
+    let last : c.len-number.result ≡ length c.args.shapes.now.items = search rules in
+    rw (last, c.in_ok-push.ensures.items) (last-number c.args.shapes.now.items c.args.shape)
