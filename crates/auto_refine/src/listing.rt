@@ -8,10 +8,19 @@ use std::alloc::{AllocError, Global};
 
 /// For each class a state that stands for it, and states among which are all of the class: also some that have left it since the
 /// list was last pruned.
-#[derive(Drop)]
 pub struct Listing {
     pub representatives: Vec<u32>,
     pub lists: Vec<Vec<u32>>,
+}
+
+impl Drop for Listing {
+    /// Lets the lists go. Written out, so that a body that lets a listing go has a call here in place of its fields' drops.
+    fn drop(self) {
+        let Listing {
+            representatives: _,
+            lists: _,
+        } = self;
+    }
 }
 
 /// All states, in their order.

@@ -8,10 +8,19 @@ use std::marker::Model;
 
 /// Answers for the nodes of one `Diagrams`, by the nodes' numbers. The nodes that got one are listed, so that to forget them all costs
 /// no more than to answer them.
-#[derive(Drop)]
 pub struct RoundMemo {
     answers: NodeMemo,
     answered: Vec<Node>,
+}
+
+impl Drop for RoundMemo {
+    /// Lets the answers go. Written out, so that a body that lets a memo go has a call here in place of its fields' drops.
+    fn drop(self) {
+        let RoundMemo {
+            answers: _,
+            answered: _,
+        } = self;
+    }
 }
 
 impl Model for RoundMemo {

@@ -25,7 +25,6 @@ enum Way {
 }
 
 /// The ways upwards from the states to the rows that lead to them, by the places of the rows' nodes.
-#[derive(Drop)]
 pub struct Ways {
     /// For each place those that lead to it directly.
     pub above: Vec<Places>,
@@ -33,6 +32,17 @@ pub struct Ways {
     pub owners: Vec<States>,
     /// For each state the places that lead to it directly.
     pub leaves: Vec<Places>,
+}
+
+impl Drop for Ways {
+    /// Lets the lists go. Written out, so that a body that lets ways go has a call here in place of their fields' drops.
+    fn drop(self) {
+        let Ways {
+            above: _,
+            owners: _,
+            leaves: _,
+        } = self;
+    }
 }
 
 /// Gives a node the next place. A place past 2^32 is refused as want of memory.
