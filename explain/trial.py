@@ -96,6 +96,8 @@ def run(program, row, folder):
 
 def differs(program, row):
     """Returns how a row differs from what stands there, or None."""
+    if row.before and not program:
+        return None
     with tempfile.TemporaryDirectory() as folder:
         for name, data in row.files.items():
             with open(f"{folder}/{name}", "wb") as it:
