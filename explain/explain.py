@@ -699,14 +699,17 @@ def of_refused_text(number, why, words, text):
 
 
 def given():
-    """Returns the standard input where it is a file, or what else it is, or None."""
-    try:
-        kind = os.fstat(0)
-    except OSError:
-        return CLOSED
-    if stat.S_ISDIR(kind.st_mode):
-        return FOLDER
-    return os.pread(0, 1 << 20, 0) if stat.S_ISREG(kind.st_mode) else b"" if is_nothing(kind) else None
+    """Returns the input where it is a file, or what else it is, or None. It is descriptor 3 where that is open, and else the standard input: Python does not
+    start where that is a folder."""
+    for descriptor in (3, 0):
+        try:
+            kind = os.fstat(descriptor)
+        except OSError:
+            continue
+        if stat.S_ISDIR(kind.st_mode):
+            return FOLDER
+        return os.pread(descriptor, 1 << 20, 0) if stat.S_ISREG(kind.st_mode) else b"" if is_nothing(kind) else None
+    return CLOSED
 
 
 def is_nothing(kind):
