@@ -23,8 +23,8 @@ SHAPES = {
     "decide": [MOVES, BUDGET], "least": ["L", BUDGET], "first": [MOVES, BUDGET], "play": [MOVES, BUDGET], "keep": [MOVES, NAME, BUDGET],
     "check": [NAME, BUDGET], "resume": [NAME, BUDGET], "drill": [SEED, COUNT], "arith": [BUDGET], "show": [],
 }
-# The commands that take no position text.
-WITHOUT_TEXT = {"check", "resume", "drill", "arith"}
+# The commands that are the script's own.
+OF_SCRIPT = ["help", "version", "cost", "unproved"]
 LIMITS = {MOVES: (0, 20), "L": (0, 20), BUDGET: (1, 200000), SEED: (0, 2**64 - 1), COUNT: (0, 100)}
 SAID = {MOVES: "the number of moves", "L": "the number of moves", BUDGET: "the budget", SEED: "the seed", COUNT: "the number of positions"}
 DEFAULT_BUDGET, MOST_BUDGET = 50000, 200000
@@ -108,14 +108,20 @@ def of_words(why, words):
 def of_unknown(command, words):
     if any("\udc80" <= letter <= "\udcff" for word in words for letter in word):
         return said("unknown / bytes")
+    near = near_to(command, OF_SCRIPT)
     later = [it for it in words[1:] if it in SHAPES]
-    if later:
+    if later and not near:
         return said("unknown / order", word=command, mended=" ".join([later[0], *[it for it in words if it != later[0]]]))
     if is_file(command):
         return said("unknown / file", word=command)
-    known = [*SHAPES, "help", "version", "cost", "unproved"]
-    near = difflib.get_close_matches(command.lower(), known, 1, 0.5) or [it for it in known if command and it.startswith(command.lower())]
-    return said("unknown / near", word=command, near=near[0]) if near else said("unknown", word=command)
+    near = near_to(command, [*SHAPES, *OF_SCRIPT])
+    return said("unknown / near", word=command, near=near) if near else said("unknown", word=command)
+
+
+def near_to(word, known):
+    """Returns the one of some words that a word is near to, or begins, or None."""
+    near = difflib.get_close_matches(word.lower(), known, 1, 0.5) or [it for it in known if word and it.startswith(word.lower())]
+    return near[0] if near else None
 
 
 def of_number(command, behind, at, usage):
