@@ -73,11 +73,6 @@ def usage_of(command):
     return " ".join([command, *words])
 
 
-def example_of(command):
-    """Returns words that are an order of this command, for an example."""
-    return " ".join([command, *[{NAME: "ladder", SEED: "7", COUNT: "10"}.get(it, "1") for it in SHAPES[command] if it != BUDGET]])
-
-
 def of_words(why, words):
     """Returns the sentence on words that are refused."""
     if why == "no command":
