@@ -76,11 +76,21 @@ pub struct Rows<'a> {
 }
 
 /// What one row leaves to the next: which nodes are done, and room for the nodes that it passes and for answers.
-#[derive(Drop)]
 pub struct Kept {
     done: Done,
     passed: Vec<Node>,
     pub memo: RoundMemo,
+}
+
+impl Drop for Kept {
+    /// Lets the tables go. Written out, so that a body that lets what is kept go has a call here in place of its fields' drops.
+    fn drop(self) {
+        let Kept {
+            done: _,
+            passed: _,
+            memo: _,
+        } = self;
+    }
 }
 
 impl Kept {
