@@ -23,3 +23,5 @@ pub mod WithMemo
 pub mod PartLemmas
 pub mod Pairs
 pub mod Operands
+pub mod Shorts
+pub mod ShortTables

@@ -31,7 +31,7 @@ and_left : (a b : Bool) → (a && b) ≡ true → a ≡ true
 and_left true b h = refl
 and_left false b h = cc
 
-no_member : (xs : List ℕ) → nat_eq (length xs) 0 ≡ true → xs ≡ []
+pub no_member : (xs : List ℕ) → nat_eq (length xs) 0 ≡ true → xs ≡ []
 no_member [] h = refl
 no_member (x ∷ xs) h = absurd (grind arith)
 

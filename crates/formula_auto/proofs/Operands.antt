@@ -7,7 +7,7 @@ use Rattle.track_word.specs.Tracks.{with_vars}
 use Rattle.auto_bool.specs.declared.operand.Operand.{Operand}
 use Rattle.auto_bool.specs.declared.operand.Operand.TheVariants.{Left, Right}
 use Rattle.auto_bool.specs.Words.{AcceptsBy, StepExceeds}
-use Rattle.auto_bool.specs.Operands.{operand_of, IsAtHand, IsOperand, IsNoneOf, IsProductWithin, IsNothingLeft}
+use Rattle.auto_bool.specs.Operands.{operand_of, IsAtHand, IsOperand, IsProductWithin, IsNothingLeft}
 use Rattle.lin_formula.specs.SetOf.{SetOf, members}
 use Rattle.lin_formula.specs.TreeOf.{tree_of}
 use Rattle.formula_auto.specs.Connected.{connected}
@@ -26,7 +26,7 @@ use Rattle.auto_bool.specs.declared.connective.Connective.TheVariants.{And, Or, 
 use Rattle.formula_auto.specs.declared.pair.Pair.{Pair}
 use Rattle.formula_auto.specs.declared.course.Course.{Course}
 use Rattle.formula_auto.specs.declared.part.Part.{Part}
-use Rattle.formula_auto.specs.declared.part.Part.TheVariants.{Fresh, Kept, Paired, Named}
+use Rattle.formula_auto.specs.declared.part.Part.TheVariants.{Fresh, Kept, Paired, Named, Shared}
 use Rattle.formula_auto.specs.declared.part.Remembered.{Remembered}
 use Rattle.formula_auto.specs.declared.shortcut.Shortcut.{Shortcut}
 use Rattle.formula_auto.specs.declared.shortcut.Shortcut.TheVariants as shortcut
@@ -49,18 +49,23 @@ part-same_place m l (Fresh a) (Fresh c) b same has = absurd same
 part-same_place m l (Fresh a) (Kept place) b same has = absurd same
 part-same_place m l (Fresh a) (Paired place) b same has = absurd same
 part-same_place m l (Fresh a) (Named set) b same has = absurd same
+part-same_place m l (Fresh a) (Shared auto) b same has = absurd same
 part-same_place m l (Kept place) (Fresh c) b same has = absurd same
 part-same_place m l (Kept place) (Kept other) b same has = (has.0, subst (λ n. slice_get m.entries n ≡ Some (has.0, b)) (sym same) has.1)
 part-same_place m l (Kept place) (Paired other) b same has = absurd same
 part-same_place m l (Kept place) (Named set) b same has = absurd same
+part-same_place m l (Kept place) (Shared auto) b same has = absurd same
 part-same_place m l (Paired place) (Fresh c) b same has = absurd same
 part-same_place m l (Paired place) (Kept other) b same has = absurd same
 part-same_place m l (Paired place) (Paired other) b same has = (has.0, subst (λ n. slice_get l.pairs n ≡ Some (has.0, b)) (sym same) has.1)
 part-same_place m l (Paired place) (Named set) b same has = absurd same
+part-same_place m l (Paired place) (Shared auto) b same has = absurd same
 part-same_place m l (Named set) (Fresh c) b same has = absurd same
 part-same_place m l (Named set) (Kept other) b same has = absurd same
 part-same_place m l (Named set) (Paired other) b same has = absurd same
 part-same_place m l (Named set) (Named other) b same has = subst (λ n. slice_get l.sets n ≡ Some b) (sym same) has
+part-same_place m l (Named set) (Shared auto) b same has = absurd same
+part-same_place m l (Shared auto) right b same has = absurd same
 
 -- so that what serves an automaton and itself serves both parts there
 serves-itself : (connective : Connective) (a : Automaton) (budget : ℕ) → IsProductWithin a a And budget a → IsProductWithin a a Or budget a

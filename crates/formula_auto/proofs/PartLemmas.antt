@@ -20,7 +20,7 @@ use Rattle.formula_auto.specs.Remembered.{IsRemembered}
 use Rattle.formula_auto.specs.PartOf.{IsPart, IsRememberedPart}
 use Rattle.formula_auto.specs.declared.course.Course.{Course}
 use Rattle.formula_auto.specs.declared.part.Part.{Part}
-use Rattle.formula_auto.specs.declared.part.Part.TheVariants.{Fresh, Kept, Paired, Named}
+use Rattle.formula_auto.specs.declared.part.Part.TheVariants.{Fresh, Kept, Paired, Named, Shared}
 use Rattle.formula_auto.specs.declared.part.Remembered.{Remembered}
 use Rattle.formula_auto.proofs.MemoLemmas.{known-at}
 use Rattle.formula_auto.proofs.PlainLemmas.{some_step}
@@ -39,6 +39,7 @@ one_automaton m l (Kept place) a b left right =
 one_automaton m l (Paired place) a b left right =
     ap (λ (entry : Formula × Automaton). entry.1) (same_Some (left.0, a) (right.0, b) (sym left.1 ∙ right.1))
 one_automaton m l (Named set) a b left right = same_Some a b (sym left ∙ right)
+one_automaton m l (Shared auto) a b left right = sym left ∙ right
 
 -- entries are only added
 pub part-after : {old new : MemoState} {fs : List Tree} {l k : LevelState} (part : Part) (a : Automaton) → IsPart old l part a → IsMemoAfter old new fs → LevelGrows l k → IsPart new k part a
@@ -52,6 +53,7 @@ part-after {old} {new} {fs} {l} {k} (Paired place) a has after grows = (
   subst (λ pairs. slice_get pairs place ≡ Some (has.0, a)) (sym grows.pairs) (get-append l.pairs grows.added place (has.0, a) has.1),
 )
 part-after {old} {new} {fs} {l} {k} (Named set) a has after grows = subst (λ sets. slice_get sets set.0 ≡ Some a) (sym grows.sets) has
+part-after {old} {new} {fs} {l} {k} (Shared auto) a has after grows = has
 
 pub same_few : {n m : ℕ} (a : Automaton) → n ≡ m → length a.accept ≤ n → length a.accept ≤ m
 same_few a same = subst (λ n. length a.accept ≤ n) same

@@ -27,4 +27,6 @@ pub mod Shortcuts
 pub mod Joints
 pub mod EntryOf
 pub mod LevelState
+pub mod Short
+pub mod ShortTable
 pub mod Codes

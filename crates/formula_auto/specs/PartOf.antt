@@ -13,15 +13,16 @@ use Rattle.formula_auto.specs.Remembered.{IsRemembered, IsInterrupted}
 use Rattle.formula_auto.specs.declared.course.Course.{Course}
 use Rattle.formula_auto.specs.declared.errors.CompileError.{CompileError}
 use Rattle.formula_auto.specs.declared.part.Part.{Part}
-use Rattle.formula_auto.specs.declared.part.Part.TheVariants.{Fresh, Kept, Paired, Named}
+use Rattle.formula_auto.specs.declared.part.Part.TheVariants.{Fresh, Kept, Paired, Named, Shared}
 use Rattle.formula_auto.specs.declared.part.Remembered.{Remembered}
 
--- the part's own automaton, that at its place in the memo or in the level, or that of a name
+-- the part's own automaton, or a shared one, that at its place in the memo or in the level, or that of a name
 abbrev pub IsPart : MemoState → LevelState → Part → Automaton → Type 0
 IsPart m l (Fresh a) b = a ≡ b
 IsPart m l (Kept place) b = (f : Formula) × (slice_get m.entries place ≡ Some (f, b))
 IsPart m l (Paired place) b = (f : Formula) × (slice_get l.pairs place ≡ Some (f, b))
 IsPart m l (Named set) b = slice_get l.sets set.0 ≡ Some b
+IsPart m l (Shared auto) b = auto.value ≡ b
 
 -- the same entry of the memo, the same pair of the level or the same set of the table
 abbrev pub IsSamePlace : Part → Part → Type 0

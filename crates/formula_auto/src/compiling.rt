@@ -18,6 +18,7 @@ ghost use Rattle.formula_auto.specs.PlainParts.{plain_parts};
 ghost use Rattle.formula_auto.specs.Recalled.{is_recalled, recalled_parts, start, MayBeOneStep};
 ghost use Rattle.formula_auto.specs.LevelState.{LevelGrows};
 ghost use Rattle.formula_auto.specs.LevelState as level_state;
+ghost use Rattle.formula_auto.specs.Short as short;
 ghost use Rattle.formula_auto.specs.MemoState.{IsMemoAfter, IsMemoStopped, IsKnown};
 ghost use Rattle.formula_auto.specs.PartOf.{IsPart, IsRememberedOn, IsInterruptedOn};
 ghost use Rattle.formula_auto.specs.Joints.{IsJointOf, FitTogether, TogetherExceed};
@@ -29,7 +30,7 @@ use crate::level::Level;
 use crate::memo::Memo;
 use crate::pair::Pair;
 use crate::part::{Part, Remembered};
-use crate::plain::{has_step, is_pair, is_plain, steps_of};
+use crate::plain::{has_step, is_pair, is_plain, is_short, steps_of};
 use crate::shortcut::Shortcut;
 use crate::steps::{comparison, complement, joined, projection, value_of};
 use crate::table::SetTable;
@@ -218,6 +219,9 @@ impl Memo {
         if is_looked_up(f, course.recall) {
             return self.recalled(alloc, f, level, course);
         }
+        if is_short(f) {
+            return self.shared(alloc, f, level, course);
+        }
         if is_pair(f) {
             return self.paired(alloc, f, level, course);
         }
@@ -278,6 +282,38 @@ impl Memo {
         let made = self.from_parts(alloc, f, level, alone)?;
         let auto = self.taken(alloc, level, made.part)?;
         let part = self.enter(alloc, f, auto)?;
+        Ok(Remembered {
+            part,
+            done: made.done,
+        })
+    }
+
+    /// The automaton of a short formula that the memo is not asked for: shared by the table of these, or made and put there.
+    #[cycle(compiled)]
+    fn shared(
+        &mut self,
+        alloc: Global,
+        f: &Formula,
+        level: &mut Level,
+        course: Course,
+    ) -> Result<Remembered, CompileError>
+        requires not_recalled { is_recalled course.recall (tree_of f.now) ≡ false }
+        requires short { short.is_short (tree_of f.now) ≡ true }
+        requires same_budget { level.old.budget ≡ self.old.budget }
+        requires ready { IsReady (tree_of f.now) level.old.sets }
+        requires room { course.before + length (steps (tree_of f.now)) < 2 ^ 32 }
+        ensures ok { IfOk result (IsRememberedOn (tree_of f.now) course self.old self.new level.old level.new) }
+        ensures err { IfErr result (IsInterruptedOn (tree_of f.now) course self.old self.new level.old) }
+        ensures grows { LevelGrows level.old level.new }
+    {
+        if let Some(auto) = self.find_short(f) {
+            return Ok(Remembered {
+                part: Part::Shared(auto),
+                done: course.before + steps_of(f),
+            });
+        }
+        let made = self.from_parts(alloc, f, level, course)?;
+        let part = self.keep_short(alloc, f, level, made.part)?;
         Ok(Remembered {
             part,
             done: made.done,

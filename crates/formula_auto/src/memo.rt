@@ -6,12 +6,14 @@ ghost use Rattle.lin_formula.specs.TreeOf.{tree_of};
 ghost use Rattle.formula_auto.specs.MemoState.{IsMemo, IsMemoAfter, IsEntry, IsEntryAt, IsKnown, counted};
 ghost use Rattle.formula_auto.specs.LevelState.{LevelState};
 ghost use Rattle.formula_auto.specs.PartOf.{IsPart};
+ghost use Rattle.formula_auto.specs.Short.{IsShort, IsShortPart};
 ghost use Rattle.formula_auto.specs.Shortcuts.{IsShortcutOf, IsSeen};
 ghost use Rattle.formula_auto.specs.Nodes.{AcceptSame, IsNoLarger};
 
 use crate::entry::{Entry, place_of};
 use crate::level::Level;
 use crate::part::{Part, same_place};
+use crate::short_table::ShortTable;
 use crate::shortcut::Shortcut;
 use crate::steps::reduced;
 use crate::table::SetTable;
@@ -21,12 +23,13 @@ use limits::Budget;
 use lin_formula::{Formula, copy};
 use std::alloc::{AllocError, Global};
 use std::marker::Model;
+use std::rc::Rc;
 
 /// A table of plain formulas, which name no set and have a step, and of their automata, for one budget.
 /// It is searched from its start, formula by formula.
 #[derive(Drop)]
 pub struct Memo {
-    budget: Budget,
+    shorts: ShortTable,
     entries: Vec<Entry>,
     found: u64,
 }
@@ -41,10 +44,10 @@ impl Model for Memo {
 
     ghost coded = { coded_state };
 
-    ghost view = { λ m. record { budget = m.budget; entries = map entry_of m.entries.items; found = m.found } };
+    ghost view = { λ m. record { budget = m.shorts; entries = map entry_of m.entries.items; found = m.found } };
 
     ghost invariant = { λ m.
-        IsMemo (record { budget = m.budget; entries = map entry_of m.entries.items; found = m.found }) };
+        IsMemo (record { budget = m.shorts; entries = map entry_of m.entries.items; found = m.found }) };
 }
 
 impl Memo {
@@ -55,7 +58,7 @@ impl Memo {
         ensures found { result.found ≡ 0 }
     {
         Memo {
-            budget,
+            shorts: ShortTable::new(alloc, budget),
             entries: Vec::new(alloc),
             found: 0,
         }
@@ -81,7 +84,7 @@ impl Memo {
         ensures is { result ≡ self.now.budget }
         ensures valid { IsMemo self.now }
     {
-        self.budget
+        self.shorts.budget()
     }
 
     /// A table of sets, lent, for what is compiled over it one formula after another.
@@ -89,7 +92,7 @@ impl Memo {
         ensures sets { result.sets ≡ sets.now }
         ensures budget { result.budget ≡ self.now.budget }
     {
-        Level::new(alloc, sets, self.budget)
+        Level::new(alloc, sets, self.budget())
     }
 
     /// The place of the entry of a formula.
@@ -110,6 +113,7 @@ impl Memo {
             Part::Kept(place) => &self.entries[*place].auto,
             Part::Paired(place) => level.automaton(*place),
             Part::Named(set) => level.named(*set),
+            Part::Shared(auto) => auto.as_ref(),
         }
     }
 
@@ -160,6 +164,7 @@ impl Memo {
             Part::Kept(place) => self.entries[place].auto.copy(),
             Part::Paired(place) => level.automaton(place).copy(),
             Part::Named(set) => level.named(set).copy(),
+            Part::Shared(auto) => auto.as_ref().copy(),
         }
     }
 
@@ -175,6 +180,7 @@ impl Memo {
             Part::Kept(place) => self.entries[place].auto.copy(),
             Part::Paired(place) => reduced(alloc, level.automaton(place)),
             Part::Named(set) => reduced(alloc, level.named(set)),
+            Part::Shared(auto) => reduced(alloc, auto.as_ref()),
         }
     }
 
@@ -208,5 +214,47 @@ impl Memo {
         };
         self.entries.push(entry)?;
         Ok(Part::Kept(kept as usize))
+    }
+
+    /// The automaton of a short formula, if the table of these has it.
+    pub(crate) fn find_short(&self, f: &Formula) -> Option<Rc<Auto>>
+        ensures { IfSome result (λ auto. IsShort self.now.budget (tree_of f.now) auto.value) }
+    {
+        self.shorts.find(f)
+    }
+
+    /// Puts the automaton of a short formula into the table of these, and shares it. No entry of the memo's own is added.
+    pub(crate) fn keep_short(
+        &mut self,
+        alloc: Global,
+        f: &Formula,
+        level: &Level,
+        part: Part,
+    ) -> Result<Part, AllocError>
+        requires { IsShortPart self.old level.now (tree_of f.now) part }
+        ensures same { self.new ≡ self.old }
+        ensures kept { IfOk result (IsShortPart self.new level.now (tree_of f.now)) }
+    {
+        let auto = self.settled(alloc, f, level, part)?;
+        let shared = Rc::new(alloc, auto)?;
+        self.shorts.put(alloc, f, shared.clone()?)?;
+        Ok(Part::Shared(shared))
+    }
+
+    /// The automaton of a short formula, to keep. That of Ex is reduced, since projections leave the most states too many.
+    fn settled(
+        &self,
+        alloc: Global,
+        f: &Formula,
+        level: &Level,
+        part: Part,
+    ) -> Result<Auto, AllocError>
+        requires { IsShortPart self.now level.now (tree_of f.now) part }
+        ensures { IfOk result (IsShort self.now.budget (tree_of f.now)) }
+    {
+        match f {
+            Formula::Ex { .. } => self.taken(alloc, level, part),
+            _ => self.given(level, part),
+        }
     }
 }

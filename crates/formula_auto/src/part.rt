@@ -4,6 +4,7 @@ ghost use Rattle.formula_auto.specs.PartOf.{IsSamePlace};
 
 use auto_core::Auto;
 use lin_formula::SetId;
+use std::rc::Rc;
 
 /// The automaton of a part of a formula.
 #[derive(Drop)]
@@ -16,6 +17,8 @@ pub enum Part {
     Paired(usize),
     /// It is a set of the level's table.
     Named(SetId),
+    /// It is of a short formula, and shared with the table of these.
+    Shared(Rc<Auto>),
 }
 
 /// Whether two parts have one automaton, at one place.

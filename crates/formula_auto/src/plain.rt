@@ -1,12 +1,16 @@
 //! Which formulas are plain: these name no set and have a step, so that what was made of one serves again. And which are And of two
-//! sets: what was made of one serves again over the same table.
-ghost use Rattle.std.specs.Prelude.{◌≡◌, ◌<◌, ◌^◌, nat_lt, length};
+//! sets: what was made of one serves again over the same table. And which are short: without a set, and with few steps if any.
+ghost use Rattle.std.specs.Prelude.{◌≡◌, ◌-◌, ◌<◌, ◌^◌, nat_lt, nat_le, length};
 ghost use Rattle.lin_formula.specs.Tree.{steps, symbols};
 ghost use Rattle.lin_formula.specs.TreeOf.{tree_of};
 ghost use Rattle.formula_auto.specs.PlainParts as plain_parts;
 ghost use Rattle.formula_auto.specs.LevelState as level_state;
+ghost use Rattle.formula_auto.specs.Short as short;
 
 use lin_formula::Formula;
+
+/// How many steps a short formula has at most.
+pub const MOST_SHORT_STEPS: u32 = 8;
 
 /// Whether a formula names no set and has a step. Goes down the formula, a call a level.
 pub fn is_plain(f: &Formula) -> bool
@@ -74,4 +78,35 @@ fn is_among(f: &Formula) -> bool
     ensures { result ≡ level_state.is_among (tree_of f.now) }
 {
     matches!(f, Formula::Among { .. })
+}
+
+/// Whether a formula names no set and has few steps, or none. Goes over few of its parts.
+pub fn is_short(f: &Formula) -> bool
+    ensures { result ≡ short.is_short (tree_of f.now) }
+{
+    has_few_steps(f) && !names_set(f)
+}
+
+fn has_few_steps(f: &Formula) -> bool
+    ensures { result ≡ nat_le (length (steps (tree_of f.now))) MOST_SHORT_STEPS }
+{
+    room_after(f, MOST_SHORT_STEPS + 1) > 0
+}
+
+/// What is left of the room once each step has taken one, or 0.
+fn room_after(f: &Formula, room: u32) -> u32
+    ensures { result ≡ room - length (steps (tree_of f.now)) }
+{
+    if room == 0 {
+        return 0;
+    }
+    match f {
+        Formula::Lin { .. } => room,
+        Formula::Value { .. } => room,
+        Formula::Among { .. } => room,
+        Formula::Not(g) => room_after(g, room),
+        Formula::And(g, h) => room_after(h, room_after(g, room - 1)),
+        Formula::Or(g, h) => room_after(h, room_after(g, room - 1)),
+        Formula::Ex { body, .. } => room_after(body, room - 1),
+    }
 }

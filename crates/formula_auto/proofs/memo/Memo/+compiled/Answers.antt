@@ -12,6 +12,7 @@ use Rattle.formula_auto.proofs.PartLemmas.{same_few, part-fresh, part-leaf, part
 use Rattle.formula_auto.proofs.MemoLemmas.{recalled-plain}
 use Rattle.formula_auto.proofs.Operands.{part-joint}
 use Rattle.formula_auto.proofs.Pairs.{pair_outside, pair_size, part-paired, may_remember, part-remembered}
+use Rattle.formula_auto.proofs.Shorts.{short_part, part-short, after-short}
 use Rattle.formula_auto.proofs.memo.Memo.+compiled.Goals as goal
 
 pub recalled-steps_of-requires : goal.recalled-steps_of-requires
@@ -230,3 +231,32 @@ paired-returns-in_err-place-clause-err t c =
 
 pub paired-returns-clause-ok : goal.paired-returns-clause-ok
 paired-returns-clause-ok t c = part-remembered (tree_of c.args.f.now) c.requires.pair c.in_ok-made.ensures.ok c.in_ok-auto.ensures c.in_ok-place.ensures.there
+
+pub shared-steps_of-requires : goal.shared-steps_of-requires
+shared-steps_of-requires t c = omega (arith, c.requires.room)
+
+pub shared-overflow_add-result : goal.shared-overflow_add-result
+shared-overflow_add-result t c = record { fits = omega (arith, c.requires.room, c.steps_of.ensures) }
+
+pub shared-returns-in-Some-clause-ok : goal.shared-returns-in-Some-clause-ok
+shared-returns-in-Some-clause-ok t c =
+    part-short (record { auto = c.in-Some.auto.value; has = refl; short = c.in-Some.ensures }) (ap (λ n. c.args.course.before + n) c.steps_of.ensures)
+    (after-short c.args.course.recall (tree_of c.args.f.now) c.args.self.now c.requires.short c.requires.not_recalled)
+
+pub shared-returns-in_err-made-clause-err : goal.shared-returns-in_err-made-clause-err
+shared-returns-in_err-made-clause-err t c =
+    let p = err_from_is_err_and c.from_residual.result c.from_residual.ensures.1 in
+    rw (p.1, p.2) c.in_err-made.ensures.err
+
+pub shared-keep_short-requires : goal.shared-keep_short-requires
+shared-keep_short-requires t c = short_part c.requires.short c.in_ok-made.ensures.ok
+
+pub shared-returns-in_err-part-clause-err : goal.shared-returns-in_err-part-clause-err
+shared-returns-in_err-part-clause-err t c =
+    let p = err_from_is_err_and c.from_residual-in_err-part.result c.from_residual-in_err-part.ensures.1 in
+    rw (p.1, c.keep_short.ensures.same) (interrupted_last c.in_ok-made.ensures.ok.remembered p.2)
+
+pub shared-returns-clause-ok : goal.shared-returns-clause-ok
+shared-returns-clause-ok t c =
+    let made = c.in_ok-made.ensures.ok.remembered in
+    part-short c.in_ok-part.ensures.kept made.counts (rw c.keep_short.ensures.same made.after)

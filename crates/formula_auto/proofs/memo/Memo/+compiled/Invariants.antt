@@ -12,6 +12,9 @@ decreases-recalled l = 5 * nodes (tree_of l.f.now) + 2
 abbrev pub decreases-entered : goal.decreases-entered
 decreases-entered l = 5 * nodes (tree_of l.f.now) + 1
 
+abbrev pub decreases-shared : goal.decreases-shared
+decreases-shared l = 5 * nodes (tree_of l.f.now) + 1
+
 abbrev pub decreases-paired : goal.decreases-paired
 decreases-paired l = 5 * nodes (tree_of l.f.now) + 1
 

@@ -1,0 +1,26 @@
+-- Short formulas without sets, whose automata serve again wherever the formula stands.
+use Rattle.std.specs.Prelude.{◌≡◌, ℕ, Bool, ◌&&◌, nat_eq, nat_le, [], length}
+use Rattle.auto_core.specs.Automaton.{Automaton}
+use Rattle.lin_formula.specs.Tree.{Tree, symbols, steps}
+use Rattle.lin_formula.specs.SetOf.{SetOf}
+use Rattle.formula_auto.specs.Compiled.{IsCompiledOn}
+use Rattle.formula_auto.specs.MemoState.{MemoState}
+use Rattle.formula_auto.specs.LevelState.{LevelState}
+use Rattle.formula_auto.specs.PartOf.{IsPart}
+use Rattle.formula_auto.specs.declared.part.Part.{Part}
+use Rattle.formula_auto.specs.declared.plain.TheConstants.{MOST_SHORT_STEPS}
+
+-- has few steps, or none, and names no set
+abbrev pub is_short : Tree → Bool
+is_short f = nat_le (length (steps f)) MOST_SHORT_STEPS && nat_eq (length (symbols f)) 0
+
+-- a formula that names no set, and an automaton as compiling it makes, whatever sets there are
+pub record IsShort (budget : ℕ) (f : Tree) (a : Automaton) : Type 0 where
+  pub no_set : symbols f ≡ []
+  pub compiled : (e : ℕ → SetOf) → IsCompiledOn f e 0 budget a
+
+-- the part has such an automaton
+pub record IsShortPart (m : MemoState) (l : LevelState) (f : Tree) (part : Part) : Type 0 where
+  pub auto : Automaton
+  pub has : IsPart m l part auto
+  pub short : IsShort m.budget f auto

@@ -1,0 +1,103 @@
+//! A table of short formulas and of their automata, found by a hash, which may forget.
+ghost use Rattle.std.specs.Prelude.{◌≡◌, IfSome, OnOk};
+ghost use Rattle.limits.specs.Budget.{IsBudget};
+ghost use Rattle.lin_formula.specs.TreeOf.{tree_of};
+ghost use Rattle.formula_auto.specs.Short.{IsShort};
+
+use crate::hash::hash_of;
+use auto_core::Auto;
+use limits::Budget;
+use lin_formula::{Formula, copy, same};
+use std::alloc::{AllocError, Global};
+use std::collections::HashMap;
+use std::marker::Model;
+use std::rc::Rc;
+
+/// How many formulas are in the table at most. One more, and it is begun anew.
+const MOST_ENTRIES: usize = 65_536;
+
+/// A formula and its automaton, which is shared with those who asked for it.
+#[derive(Drop)]
+pub struct ShortEntry {
+    pub formula: Formula,
+    pub auto: Rc<Auto>,
+}
+
+/// Short formulas with their automata, for one budget, by their hashes: of two formulas with one hash the later one is kept.
+pub struct ShortTable {
+    budget: Budget,
+    entries: HashMap<u64, ShortEntry>,
+}
+
+impl Drop for ShortTable {
+    /// Lets the table go. Written out, so that a body that lets it go has a call here.
+    fn drop(self) {
+        let ShortTable {
+            budget: _,
+            entries: _,
+        } = self;
+    }
+}
+
+impl Model for ShortTable {
+    ghost use Rattle.std.specs.Prelude.{ℕ};
+    ghost use Rattle.formula_auto.specs.ShortTable.{AreShort};
+
+    ghost Value = { ℕ };
+
+    ghost view = { λ t. t.budget };
+
+    ghost invariant = { λ t. AreShort t.budget t.entries };
+}
+
+impl ShortTable {
+    /// A table without entries.
+    pub fn new(alloc: Global, budget: Budget) -> ShortTable
+        ensures { result ≡ budget }
+    {
+        ShortTable {
+            budget,
+            entries: HashMap::new(alloc),
+        }
+    }
+
+    /// The greatest number of states that a step may need.
+    pub fn budget(&self) -> Budget
+        ensures { result ≡ self.now }
+    {
+        self.budget
+    }
+
+    /// The automaton of a formula, if it is there.
+    pub fn find(&self, f: &Formula) -> Option<Rc<Auto>>
+        ensures { IfSome result (λ auto. IsShort self.now (tree_of f.now) auto.value) }
+    {
+        let entry = self.entries.get(&hash_of(f))?;
+        if !same(&entry.formula, f) {
+            return None;
+        }
+        entry.auto.clone().ok()
+    }
+
+    /// Puts a formula and its automaton in.
+    pub fn put(&mut self, alloc: Global, f: &Formula, auto: Rc<Auto>) -> Result<(), AllocError>
+        requires { IsShort self.old (tree_of f.now) auto.value }
+        ensures { self.new ≡ self.old }
+    {
+        self.make_room();
+        let entry = ShortEntry {
+            formula: copy(alloc, f)?,
+            auto,
+        };
+        self.entries.insert(hash_of(f), entry)?;
+        Ok(())
+    }
+
+    fn make_room(&mut self)
+        ensures { self.new ≡ self.old }
+    {
+        if self.entries.len() >= MOST_ENTRIES {
+            self.entries.clear();
+        }
+    }
+}
