@@ -11,262 +11,22 @@ others wait for gets all processors but one, so that another can be proved besid
 
 The builder is a process apart, in a session of its own, and ends what it started when the one that ./mate became ends, however that ends.
 """
-import ctypes
-import fcntl
-import hashlib
 import os
-import re
-import select
 import shutil
 import signal
 import subprocess
 import sys
-import tempfile
 import time
-from dataclasses import dataclass, field
+from dataclasses import dataclass
 
-TOP = os.path.dirname(os.path.dirname(os.path.realpath(__file__)))
-OLDEST_KIT = "13b"
-# The parts of a crate that it is made from.
-PARTS = ("src", "specs", "proofs")
-MAIN = "mate_main"
-PROGRAM = f"{TOP}/crates/{MAIN}/out/{MAIN}"
-# What the program was built with: the kit, and a line for each file with its sum. Its time is when the sources were last known to be these.
-BUILT = f"{TOP}/crates/{MAIN}/out/mate.built"
-# The names of the files and folders that were looked at for it, for `find -files0-from`.
-WATCHED = f"{TOP}/crates/{MAIN}/out/mate.watched"
-ROOMS = f"{TOP}/out/rooms"
-UNPROVED = f"{TOP}/out/unproved"
-HOW_LONG = ". From nothing that takes about half an hour on four processors"
+from processes import end_process, in_builder, is_watched, started
+from rooms import ROOMS, clear, clear_all, furnish, hold, kept_key, key_of, part
+from sources import BUILT, MAIN, PROGRAM, TOP, Ended, check_kit, is_built, kit_in_path, note, now, say, sources_of, text_of
+from unproved import build_unproved, is_unproved_built
+
 # Seconds between two lines that tell how far a build is.
 BETWEEN = 60
-
-
-def say(text):
-    os.write(2, f"mate: {text}\n".encode())
-
-
-class Ended(Exception):
-    """There is no program; what has to be said is said."""
-
-
-def end(text):
-    say(text)
-    raise Ended
-
-
-# The sources
-
-
-@dataclass
-class Sources:
-    """The crates below a folder, with the libraries that the line of each in crates.txt names, and what was read of their files."""
-
-    top: str
-    named: dict
-    known: dict = field(default_factory=dict)
-
-    def below(self, name):
-        """Returns the crate and all that it stands on, lowest first."""
-        found = {}
-
-        def add(one):
-            if one in self.named and one not in found:
-                for it in self.named[one]:
-                    add(it)
-                found[one] = None
-
-        add(name)
-        return list(found)
-
-    def files_and_folders(self, name):
-        """Returns the crate's files and its folders, by their names from crates/ on."""
-        files, folders = [], [name]
-        for part in PARTS:
-            for at, _, names in os.walk(f"{self.top}/crates/{name}/{part}"):
-                here = os.path.relpath(at, f"{self.top}/crates")
-                folders.append(here)
-                files += [f"{here}/{it}" for it in names]
-        return sorted(files), folders
-
-    def lines(self, name):
-        """Returns the lines that fix what the crate is made from, without what it stands on: that of crates.txt, and the sum of each file."""
-        if name not in self.known:
-            lines = [" ".join([f"{name}:", *self.named[name]])]
-            for it in self.files_and_folders(name)[0]:
-                with open(f"{self.top}/crates/{it}", "rb") as file:
-                    lines.append(f"{hashlib.sha256(file.read()).hexdigest()} {it}")
-            self.known[name] = lines
-        return self.known[name]
-
-    def all_lines(self, name):
-        return [line for it in self.below(name) for line in self.lines(it)]
-
-    def size(self, name):
-        """Returns how many lines of code the crate has."""
-        files = [it for it in self.files_and_folders(name)[0] if it.endswith(".rt")]
-        return sum(open(f"{self.top}/crates/{it}", "rb").read().count(b"\n") for it in files)
-
-
-def sources_of(top):
-    named = {}
-    with open(f"{top}/crates.txt", encoding="utf-8") as it:
-        for line in it:
-            head, colon, uses = line.partition("#")[0].partition(":")
-            if colon:
-                named[head.split()[0]] = uses.split()
-    return Sources(top, named)
-
-
-def text_of(path):
-    try:
-        with open(path, encoding="utf-8") as it:
-            return it.read()
-    except OSError:
-        return ""
-
-
-def is_built(lines):
-    """Returns whether the program that is there was built from files with these lines."""
-    return os.access(PROGRAM, os.X_OK) and text_of(BUILT).splitlines()[1:] == lines
-
-
-def note(kit, lines, seen):
-    """Writes down what the program was built from. Each change from the moment that `seen` was made at is to be looked at."""
-    sources = sources_of(TOP)
-    watched = ["../crates.txt"]
-    for it in sources.below(MAIN):
-        files, folders = sources.files_and_folders(it)
-        watched += folders + files
-    with open(f"{WATCHED}.new", "w", encoding="utf-8") as it:
-        it.write("".join(f"{path}\0" for path in watched))
-    with open(f"{BUILT}.new", "w", encoding="utf-8") as it:
-        it.write("".join(f"{line}\n" for line in [kit, *lines]))
-    os.utime(f"{BUILT}.new", ns=(seen, seen))
-    os.replace(f"{WATCHED}.new", WATCHED)
-    os.replace(f"{BUILT}.new", BUILT)
-
-
-def now():
-    """Returns the time as the file system has it."""
-    os.makedirs(os.path.dirname(BUILT), exist_ok=True)
-    with open(f"{BUILT}.now", "w"):
-        made = os.stat(f"{BUILT}.now").st_mtime_ns
-    os.remove(f"{BUILT}.now")
-    return made
-
-
-# The kit
-
-
-def kit_in_path():
-    """Returns the line of `rt version`, or None where there is no rt."""
-    try:
-        return subprocess.run(["rt", "version"], stdin=subprocess.DEVNULL, stdout=subprocess.PIPE, stderr=subprocess.DEVNULL, text=True).stdout.strip()
-    except OSError:
-        return None
-
-
-def check_kit():
-    """Returns the kit's line, where it is not too old."""
-    kit = kit_in_path()
-    if kit is None:
-        end(f"there is no rt in PATH. The program is built by a Rattle kit: put the folder bin of kit {OLDEST_KIT} or a later one into PATH")
-    number = lambda it: (int(re.match(r"\d+", it)[0]), it.lstrip("0123456789"))
-    found = re.match(r"rattle-kit-(\d+[a-z]*)", kit)
-    if found and number(found[1]) < number(OLDEST_KIT):
-        end(f"the rt in PATH is of the Rattle kit {found[1]}, and this program needs kit {OLDEST_KIT} or a later one: put that kit's folder bin into PATH before it")
-    return kit
-
-
-# The folder
-
-
-def is_held(path):
-    """Returns whether another process has the lock of the file."""
-    try:
-        with open(path) as it:
-            fcntl.flock(it, fcntl.LOCK_SH | fcntl.LOCK_NB)
-    except BlockingIOError:
-        return True
-    except OSError:
-        pass
-    return False
-
-
-def hold(names):
-    """Takes the locks by which each rt keeps others out of a crate's folder. They are held until this process and its children end."""
-    for name in names:
-        try:
-            fcntl.flock(os.open(f"{TOP}/crates/{name}", os.O_RDONLY), fcntl.LOCK_EX | fcntl.LOCK_NB)
-        except BlockingIOError:
-            who = f"an rt works in crates/{name}"
-            if is_held(git_folder() + "/rt-ci.lock"):
-                who = "rt ci works in this folder and has put the program aside"
-            elif os.path.isdir(ROOMS):
-                who = "another ./mate builds the program in this folder"
-            end(f"{who}, and a program cannot be built beside it: call again when it has ended")
-        except OSError:
-            # Some file systems have no locks.
-            pass
-
-
-def git_folder():
-    done = subprocess.run(["git", "-C", TOP, "rev-parse", "--absolute-git-dir"], stdin=subprocess.DEVNULL, capture_output=True, text=True)
-    return done.stdout.strip()
-
-
-# The rooms
-
-
-def part(room, name, what):
-    return f"{room}/crates/{name}/{what}"
-
-
-def furnish(sources, name):
-    """Makes the room of a crate, with what an earlier build kept of it, and with the crates that it stands on as they were built."""
-    room, names = f"{ROOMS}/{name}", sources.below(name)
-    os.makedirs(room)
-    with open(f"{room}/crates.txt", "w", encoding="utf-8") as it:
-        it.write("".join(" ".join([f"{each}:", *sources.named[each]]) + "\n" for each in names))
-    made_from = [f"crates/{it}/{what}" for it in names for what in PARTS if os.path.isdir(part(TOP, it, what))]
-    subprocess.run(["cp", "-a", "--parents", "-t", room, *made_from], cwd=TOP, check=True)
-    libraries = [f"crates/{it}/out/rlib" for it in names[:-1]]
-    if libraries:
-        subprocess.run(["cp", "-al", "--parents", "-t", room, *libraries], cwd=TOP, check=True)
-    os.makedirs(part(TOP, name, "out"), exist_ok=True)
-    os.rename(part(TOP, name, "out"), part(room, name, "out"))
-    return room
-
-
-def clear(name):
-    """Puts what was built in a crate's room where it belongs."""
-    room = f"{ROOMS}/{name}"
-    if os.path.isdir(part(room, name, "out")):
-        if os.path.isdir(part(TOP, name, "out")):
-            shutil.rmtree(part(TOP, name, "out"))
-        os.rename(part(room, name, "out"), part(TOP, name, "out"))
-    subprocess.run(["rm", "-rf", room])
-
-
-def clear_all():
-    for name in os.listdir(ROOMS) if os.path.isdir(ROOMS) else []:
-        clear(name)
-    shutil.rmtree(ROOMS, ignore_errors=True)
-
-
-def key_of(kit, sources, name):
-    """Returns a sum of all that a crate is built from."""
-    return hashlib.sha256("\n".join([kit, *sources.all_lines(name)]).encode()).hexdigest()
-
-
-def kept_key(name):
-    """Returns the sum of what the library that is there was built from, or '' where there is none, or rt has built another since."""
-    key, _, stamp = text_of(part(TOP, name, "out/mate.key")).partition(" ")
-    return key if stamp and stamp == text_of(part(TOP, name, "out/rlib/stamp")) else ""
-
-
-# A build
+HOW_LONG = ". From nothing that takes about half an hour on four processors"
 
 
 @dataclass
@@ -283,21 +43,6 @@ class Running:
 def speed(jobs):
     """Returns how many times as fast a crate is proved with so many jobs, as it was measured."""
     return jobs**0.7
-
-
-def end_process(process):
-    """Ends an rt, which ends what it started."""
-    process.terminate()
-    try:
-        process.wait(10)
-    except subprocess.TimeoutExpired:
-        process.kill()
-        process.wait()
-
-
-def end_with_parent():
-    """Has the system end this process when the one that started it ends."""
-    ctypes.CDLL(None).prctl(1, signal.SIGTERM)
 
 
 class Build:
@@ -384,8 +129,7 @@ class Build:
             # The program is run once, on the text beside it.
             words, given = ["rt", "run", "--jobs", str(jobs), "--", "show"], part(TOP, MAIN, "stdin")
         with open(given, "rb") as text, open(part(room, name, "out/mate.log"), "wb") as log:
-            how = {"stdin": text, "stdout": log, "stderr": subprocess.STDOUT, "start_new_session": True, "preexec_fn": end_with_parent}
-            process = subprocess.Popen(words, cwd=f"{room}/crates/{name}", **how)
+            process = started(words, stdin=text, cwd=f"{room}/crates/{name}", stdout=log, stderr=subprocess.STDOUT)
         self.running[name] = Running(room, process, jobs, time.monotonic())
 
     def end_all(self):
@@ -465,121 +209,6 @@ def build(kit):
         return making.run()
     finally:
         making.stop()
-
-
-# Without proofs
-
-
-def started(words, **how):
-    return subprocess.Popen(words, stdin=subprocess.DEVNULL, start_new_session=True, preexec_fn=end_with_parent, **how)
-
-
-def module_in(folder):
-    """Returns the module of the whole program, where rt try has one in the folder, and its size."""
-    for at, _, names in os.walk(folder):
-        path = f"{at}/module.bc"
-        if "module.bc" in names and os.path.getsize(path) > 1 << 20:
-            return path, os.path.getsize(path)
-    return None
-
-
-def is_unproved_built(kit, sources):
-    lines = [kit, *sources.all_lines(MAIN)]
-    return os.access(f"{UNPROVED}/mate", os.X_OK) and text_of(f"{UNPROVED}/sums").splitlines() == lines
-
-
-def build_unproved(kit):
-    """Makes a program of the module that `rt try` makes of the sources, with the checks where proofs would stand, and returns whether it is made."""
-    sources = sources_of(TOP)
-    lines = [kit, *sources.all_lines(MAIN)]
-    os.makedirs(UNPROVED, exist_ok=True)
-    kit_folder = os.path.dirname(os.path.dirname(os.path.realpath(shutil.which("rt"))))
-    with tempfile.TemporaryDirectory(prefix="mate-unproved-") as folder:
-        module, made, log = f"{folder}/module", f"{folder}/mate", f"{folder}/log"
-        steps = [
-            [f"{kit_folder}/toolchain/bin/clang", "-x", "ir", "-O2", "-c", module, "-o", f"{made}.o"],
-            [f"{kit_folder}/bin/rattle-link", "--target", "x86_64-unknown-linux-gnu", "--toolchain", f"{kit_folder}/toolchain", "-o", made]
-            + [f"{made}.o", f"{kit_folder}/c/libos_c.a", f"{kit_folder}/c/liblibc_c.a"],
-        ]
-        with open(log, "wb") as file:
-            how = {"stdout": file, "stderr": subprocess.STDOUT, "env": {**os.environ, "TMPDIR": folder}}
-            trying = started(["rt", "try", "--", "help"], cwd=f"{TOP}/crates/{MAIN}", **how)
-            before, found = None, None
-            try:
-                # The module is whole when it no longer grows.
-                while trying.poll() is None and (found is None or found != before):
-                    before = found
-                    if not is_watched(0.5):
-                        return False
-                    found = module_in(folder)
-                if found:
-                    os.link(found[0], module)
-            finally:
-                end_process(trying)
-            for words in steps if found else []:
-                step = started(words, **how)
-                try:
-                    while step.poll() is None:
-                        if not is_watched(0.1):
-                            return False
-                finally:
-                    end_process(step)
-        if not os.path.isfile(made):
-            with open(log, "rb") as file:
-                os.write(2, b"".join(file.readlines()[-20:]))
-            end("rt try made no program of these sources; the lines above are the last that it wrote")
-        os.replace(shutil.move(made, f"{UNPROVED}/mate.new"), f"{UNPROVED}/mate")
-    with open(f"{UNPROVED}/sums", "w", encoding="utf-8") as it:
-        it.write("".join(f"{line}\n" for line in lines))
-    return True
-
-
-# The process that ./mate became
-
-
-def in_builder(make):
-    """Calls make in a process apart, and returns whether it returned true. It is stopped when this process is, by whatever signal."""
-    front = os.getpid()
-    builder = os.fork()
-    if not builder:
-        code = 1
-        try:
-            os.setsid()
-            signal.signal(signal.SIGTERM, stop)
-            end_with_parent()
-            if os.getppid() == front:
-                code = 0 if make() else 1
-        except (Ended, OSError):
-            pass
-        finally:
-            os._exit(code)
-    caught = []
-
-    def hand_on(number, _):
-        caught.append(number)
-        os.kill(builder, signal.SIGTERM)
-
-    for it in (signal.SIGINT, signal.SIGTERM, signal.SIGHUP, signal.SIGQUIT, signal.SIGPIPE):
-        # Python itself ignores the last one.
-        if signal.getsignal(it) != signal.SIG_IGN or it == signal.SIGPIPE:
-            signal.signal(it, hand_on)
-    _, status = os.waitpid(builder, 0)
-    if caught:
-        signal.signal(caught[0], signal.SIG_DFL)
-        os.kill(os.getpid(), caught[0])
-    return status == 0
-
-
-def stop(*_):
-    signal.signal(signal.SIGTERM, signal.SIG_IGN)
-    raise Ended
-
-
-def is_watched(seconds=0.3):
-    """Waits, and returns whether there is still somebody who reads what is said."""
-    watch = select.poll()
-    watch.register(2, 0)
-    return not watch.poll(seconds * 1000)
 
 
 def become(mate, words):
