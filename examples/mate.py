@@ -6,7 +6,7 @@
     [True, OverBudget('over budget at moves 1 ply 0 men 15 part image at 3'), False, ..]
 
 Men are lines of a position text, and "W" or "B" is to move. The first question has ./mate build the program where there is none of these
-sources. The text of an end is the line that the program wrote, and its code is that of docs/FORMATS.md.
+sources. The text of an end is the last line that the program wrote, and its code is that of docs/FORMATS.md.
 """
 import concurrent.futures
 import functools
@@ -54,9 +54,10 @@ def run(words, text="", budget=None, seconds=None):
         done = subprocess.run([program(), *words], input=text, stdout=subprocess.PIPE, text=True, timeout=seconds)
     except subprocess.TimeoutExpired:
         raise OutOfTime(f"no answer within {seconds} s") from None
+    lines = done.stdout.splitlines()
     if done.returncode:
-        raise ENDS.get(done.returncode, NoAnswer)(done.stdout.strip())
-    return done.stdout.splitlines()
+        raise ENDS.get(done.returncode, NoAnswer)(*lines[-1:])
+    return lines
 
 
 def text_of(men, turn):

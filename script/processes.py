@@ -57,6 +57,8 @@ def in_builder(make):
             signal.signal(it, hand_on)
     _, status = os.waitpid(builder, 0)
     if caught:
+        if caught[0] != signal.SIGPIPE:
+            say("stopped; what was made by now is kept for the next time")
         signal.signal(caught[0], signal.SIG_DFL)
         os.kill(os.getpid(), caught[0])
     return status == 0
