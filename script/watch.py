@@ -18,7 +18,13 @@ import explain  # noqa: E402
 
 # How much is read at a time: as much as the program itself may take behind its last line.
 AT_ONCE = 256
-REFUSALS = ("illegal", "unreadable")
+# Of so many replies that are refused it is said why.
+MOST_REFUSALS = 100
+REFUSALS = (b"illegal\n", b"unreadable\n")
+# Milliseconds without a word from either side, after which it is said what is waited for.
+SILENCE = 300
+TYPED = {"arith": "a formula, in one line", **dict.fromkeys(("decide", "least", "first", "keep", "show"), "a position, up to its line `end`")}
+REPLIES = "Black's replies, a line each: the man's number and the square that he goes to, as 4 0 0, or quit"
 WRITE_FAILED = 6
 
 
@@ -45,7 +51,7 @@ class Run:
     def __init__(self, program, words):
         self.words, self.is_live = words, is_live()
         self.given = bytearray() if self.is_live else explain.given()
-        self.told, self.has_failed = b"", False
+        self.told, self.has_failed, self.refusals = b"", False, 0
         given = subprocess.PIPE if self.is_live else None
         how = {"stdin": given, "stdout": subprocess.PIPE, "restore_signals": False, "preexec_fn": as_by_a_shell}
         self.process = subprocess.Popen([program, *words], **how)
@@ -69,30 +75,44 @@ class Run:
     def hand_on(self):
         """Hands on what the program wrote, and returns whether more can come."""
         data = os.read(self.process.stdout.fileno(), 1 << 16)
-        try:
-            at = 0
-            while at < len(data):
-                at += os.write(1, data[at:])
-        except OSError:
-            self.has_failed = True
-            return False
-        for line in data.decode().splitlines():
-            self.told += line.encode() + b"\n"
-            if line in REFUSALS:
+        for line in data.splitlines(keepends=True):
+            try:
+                at = 0
+                while at < len(line):
+                    at += os.write(1, line[at:])
+            except OSError:
+                self.has_failed = True
+                return False
+            self.told += line
+            if line in REFUSALS and self.refusals < MOST_REFUSALS:
+                self.refusals += 1
                 say(self.sentences(0, self.told.decode())[-1:])
         return bool(data)
 
+    def invite(self):
+        """Says what is waited for."""
+        if self.words[0] in ("play", "resume"):
+            has_text = self.words[0] == "resume" or not os.isatty(0)
+            say([f"reading {REPLIES}" if has_text else f"reading a position, up to its line `end`, and then {REPLIES}"])
+        elif os.isatty(0):
+            say([f"reading {TYPED[self.words[0]]}"])
+
     def go(self):
         """Runs the program to its end, and returns its status."""
-        waiting = select.poll()
+        waiting, is_invited = select.poll(), False
         waiting.register(self.process.stdout, select.POLLIN)
-        if self.is_live:
+        is_open = self.is_live
+        if is_open:
             waiting.register(0, select.POLLIN)
         while True:
-            ready = dict(waiting.poll())
+            ready = dict(waiting.poll(SILENCE if is_open and not is_invited else None))
+            if not ready:
+                is_invited = True
+                self.invite()
             if self.process.stdout.fileno() in ready and not self.hand_on():
                 break
             if 0 in ready and not self.take():
+                is_open = False
                 waiting.unregister(0)
         self.process.stdout.close()
         code = self.process.wait()
