@@ -91,11 +91,12 @@ class Run:
 
     def invite(self):
         """Says what is waited for."""
-        if self.words[0] in ("play", "resume"):
-            has_text = self.words[0] == "resume" or not os.isatty(0)
+        command = self.words[0] if self.words else None
+        if command in ("play", "resume"):
+            has_text = command == "resume" or not os.isatty(0)
             say([f"reading {REPLIES}" if has_text else f"reading a position, up to its line `end`, and then {REPLIES}"])
-        elif os.isatty(0):
-            say([f"reading {TYPED[self.words[0]]}"])
+        elif command in TYPED and os.isatty(0):
+            say([f"reading {TYPED[command]}"])
 
     def go(self):
         """Runs the program to its end, and returns its status."""
