@@ -3,7 +3,7 @@
     >>> least(["W K 0 -2", "W R 10 1", "W R 7 7", "B K 1 0"], "W", 3)
     2
     >>> side_by_side(lambda men: decide(men, "W", 1, seconds=60), many)
-    [True, OverBudget('over budget at moves 1 ply 0 men 15 part image at 3'), False, ..]
+    [True, OverBudget('over budget at moves 1 ply 0 men 31 part image at 3'), False, ..]
 
 Men are lines of a position text, and "W" or "B" is to move. The first question has ./mate build the program where there is none of these
 sources. The text of an end is the last line that the program wrote, and its code is that of docs/FORMATS.md.
@@ -47,9 +47,10 @@ def program():
     return f"{TOP}/crates/mate_main/out/mate_main"
 
 
-def run(words, text="", budget=None, seconds=None):
-    """Returns the lines that the program writes."""
-    words = [str(it) for it in [*words, budget] if it is not None]
+def run(words, men=(), turn="W", seconds=None, behind=()):
+    """Returns the lines that the program writes of the position, with these lines behind it."""
+    text = "".join(f"{it}\n" for it in ["infinite chess 1", f"turn {turn}", *men, "end", *behind])
+    words = [str(it) for it in words if it is not None]
     try:
         done = subprocess.run([program(), *words], input=text, stdout=subprocess.PIPE, text=True, timeout=seconds)
     except subprocess.TimeoutExpired:
@@ -60,39 +61,35 @@ def run(words, text="", budget=None, seconds=None):
     return lines
 
 
-def text_of(men, turn):
-    return "\n".join(["infinite chess 1", f"turn {turn}", *men, "end", ""])
-
-
 def decide(men, turn, n, budget=None, seconds=None):
     """Returns whether White can force mate within n moves."""
-    return run(["decide", n], text_of(men, turn), budget, seconds) == [f"mate in {n}"]
+    return run(["decide", n, budget], men, turn, seconds) == [f"mate in {n}"]
 
 
 def least(men, turn, most, budget=None, seconds=None):
     """Returns the least number of moves within which White can force mate, or None where it is greater than most."""
-    line = run(["least", most], text_of(men, turn), budget, seconds)[0]
-    return int(line.split()[1]) if line.startswith("least") else None
+    word, number = run(["least", most, budget], men, turn, seconds)[0].split()[:2]
+    return int(number) if word == "least" else None
 
 
 def first(men, turn, n, budget=None, seconds=None):
     """Returns White's first moves that mate within n moves, a line of the program for each ray."""
-    return run(["first", n], text_of(men, turn), budget, seconds)[:-1]
-
-
-def keep(men, turn, n, name, budget=None, seconds=None):
-    """Returns what decide does. Where White can, his strategy is then the file of this name in the working folder, whatever stood there."""
-    return run(["keep", n, name], text_of(men, turn), budget, seconds) == [f"mate in {n}"]
-
-
-def check(name, budget=None, seconds=None):
-    """Returns within how many moves the strategy of the file mates."""
-    return int(run(["check", name], "", budget, seconds)[0].split()[2])
+    return run(["first", n, budget], men, turn, seconds)[:-1]
 
 
 def play(men, turn, n, replies, budget=None, seconds=None):
     """Returns the lines of the game against these replies."""
-    return run(["play", n], text_of(men, turn) + "".join(f"{it}\n" for it in replies), budget, seconds)
+    return run(["play", n, budget], men, turn, seconds, replies)
+
+
+def keep(men, turn, n, name, budget=None, seconds=None):
+    """Returns what decide does. Where White can, his strategy is then the file of this name in the working folder, whatever stood there."""
+    return run(["keep", n, name, budget], men, turn, seconds) == [f"mate in {n}"]
+
+
+def check(name, budget=None, seconds=None):
+    """Returns within how many moves the strategy of the file mates."""
+    return int(run(["check", name, budget], seconds=seconds)[0].split()[2])
 
 
 def side_by_side(question, cases):

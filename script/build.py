@@ -26,7 +26,7 @@ from unproved import build_unproved, is_unproved_built
 
 # Seconds between two lines that tell how far a build is.
 BETWEEN = 60
-HOW_LONG = ". From nothing that takes about half an hour on four processors"
+HOW_LONG = "that takes about half an hour on four processors; ./mate unproved COMMAND.. takes two or three minutes, and is not proved"
 
 
 @dataclass
@@ -76,8 +76,10 @@ class Build:
 
     def greet(self):
         new = self.to_prove()
-        kept = f"{len(self.kept)} of {len(self.crates)} crates are kept of an earlier build"
-        say(f"{kept}; proving {self.all_size(new)} lines of code in {counted(len(new), 'crate')}" + HOW_LONG * (not self.kept))
+        kept = f"; {len(self.kept)} of {counted(len(self.crates), 'crate')} kept of an earlier build" if self.kept else ", none kept of an earlier build"
+        say(f"building the program first, with its proofs: {self.all_size(new)} lines of code in {counted(len(new), 'crate')}{kept}")
+        if not self.kept:
+            say(HOW_LONG)
 
     def tell(self):
         new = self.to_prove()
