@@ -11,6 +11,7 @@ others wait for gets all processors but one, so that another can be proved besid
 
 The builder is a process apart, in a session of its own, and ends what it started when the one that ./mate became ends, however that ends.
 """
+import contextlib
 import os
 import shutil
 import signal
@@ -19,9 +20,9 @@ import sys
 import time
 from dataclasses import dataclass
 
-from processes import end_process, in_builder, is_watched, started
+from processes import end_process, in_builder, pause, started
 from rooms import ROOMS, clear, clear_all, furnish, hold, kept_key, key_of, part
-from sources import BUILT, MAIN, PROGRAM, TOP, Ended, check_kit, is_built, kit_in_path, note, now, say, sources_of, text_of
+from sources import BUILT, MAIN, PROGRAM, TOP, Ended, check_kit, end, is_built, kit_in_path, note, now, say, sources_of, tell_end_of, text_of
 from unproved import build_unproved, is_unproved_built
 
 # Seconds between two lines that tell how far a build is.
@@ -56,7 +57,7 @@ class Build:
         self.kept = {it for it in self.crates if it != MAIN and kept_key(it) == key_of(kit, sources, it)}
         self.ordered = self.by_chain()
         self.processors = len(os.sched_getaffinity(0))
-        self.running, self.done, self.failed, self.lines = {}, set(self.kept), None, None
+        self.running, self.done, self.lines = {}, set(self.kept), None
         # Of the crates that this build has proved: their lines of code, and the seconds that they would take with one job.
         self.measured = []
         self.started = self.told = time.monotonic()
@@ -143,9 +144,11 @@ class Build:
             if it.process.returncode == 0:
                 self.measured.append((self.size[name], it.seconds() * speed(it.jobs)))
                 self.keep(name, sources_of(it.room))
-            elif not self.failed:
-                self.failed = name
             clear(name)
+            if name not in self.done:
+                log = f"crates/{name}/out/mate.log"
+                tell_end_of(f"{TOP}/{log}")
+                end(f"crate {name} was not built; the lines above are the last of {log}")
 
     def keep(self, name, sources):
         """Writes down what a crate was built from: what its room has, since a file can be changed meanwhile."""
@@ -166,30 +169,21 @@ class Build:
         clear_all()
 
     def run(self):
-        """Builds, and returns whether all is built. It stops where nobody reads any more what is said."""
+        """Builds all. It stops where nobody reads any more what is said."""
         seen = now()
         self.greet()
-        while MAIN not in self.done and not self.failed:
-            self.end_all()
-            if self.failed or MAIN in self.done:
-                break
+        while MAIN not in self.done:
             self.begin_all()
             if time.monotonic() - self.told >= BETWEEN:
                 self.told = time.monotonic()
                 self.tell()
-            if not is_watched():
-                return False
-        if self.failed:
-            log = f"crates/{self.failed}/out/mate.log"
-            os.write(2, b"".join(open(f"{TOP}/{log}", "rb").readlines()[-20:]))
-            say(f"crate {self.failed} was not built; the lines above are the last of {log}")
-            return False
-        # Putting what was built where it belongs has changed the crates' folders.
+            pause(0.3)
+            self.end_all()
+        # Putting what was built where it belongs has changed the folders of crates.
         seen_at_end = now()
         is_same = sources_of(TOP).all_lines(MAIN) == self.lines
         note(self.kit, self.lines, seen_at_end if is_same else seen)
         say(f"built with its proofs in {minutes(time.monotonic() - self.started)}")
-        return True
 
 
 def counted(number, noun):
@@ -208,7 +202,7 @@ def build(kit):
     os.makedirs(ROOMS)
     making = Build(kit, sources)
     try:
-        return making.run()
+        making.run()
     finally:
         making.stop()
 
@@ -223,13 +217,25 @@ def become(mate, words):
 
 def see_to_proved():
     """Returns whether there is a program of these sources, or one could be built."""
-    seen, sources = now(), sources_of(TOP)
-    lines = sources.all_lines(MAIN)
-    if is_built(lines):
-        note(text_of(BUILT).partition("\n")[0], lines, seen)
+    if os.path.isfile(PROGRAM) and is_still_built():
         return True
     kit = check_kit()
     return in_builder(lambda: build(kit))
+
+
+def is_still_built():
+    """Returns whether the program that is there was built from these sources, and writes down that it was found so now."""
+    seen = None
+    # Where nothing can be written, each run compares the sums.
+    with contextlib.suppress(OSError):
+        seen = now()
+    lines = sources_of(TOP).all_lines(MAIN)
+    if not is_built(lines):
+        return False
+    if seen is not None:
+        with contextlib.suppress(OSError):
+            note(text_of(BUILT).partition("\n")[0], lines, seen)
+    return True
 
 
 def see_to_unproved():

@@ -28,7 +28,7 @@ def started(words, stdin=subprocess.DEVNULL, **how):
 
 
 def in_builder(make):
-    """Calls make in a process apart, and returns whether it returned true. It is stopped when this process is, by whatever signal."""
+    """Calls make in a process apart, and returns whether it came to its end. It is stopped when this process is, by whatever signal."""
     front = os.getpid()
     builder = os.fork()
     if not builder:
@@ -38,7 +38,8 @@ def in_builder(make):
             signal.signal(signal.SIGTERM, stop)
             end_with_parent()
             if os.getppid() == front:
-                code = 0 if make() else 1
+                make()
+                code = 0
         except (Ended, BrokenPipeError):
             pass
         except Exception as why:
@@ -69,8 +70,9 @@ def stop(*_):
     raise Ended
 
 
-def is_watched(seconds=0.3):
-    """Waits, and returns whether there is still somebody who reads what is said."""
+def pause(seconds):
+    """Waits, and ends where nobody reads any more what is said."""
     watch = select.poll()
     watch.register(2, 0)
-    return not watch.poll(seconds * 1000)
+    if watch.poll(seconds * 1000):
+        raise Ended

@@ -40,7 +40,10 @@ def hold(names):
 
 
 def git_folder():
-    done = subprocess.run(["git", "-C", TOP, "rev-parse", "--absolute-git-dir"], stdin=subprocess.DEVNULL, capture_output=True, text=True)
+    try:
+        done = subprocess.run(["git", "-C", TOP, "rev-parse", "--absolute-git-dir"], stdin=subprocess.DEVNULL, capture_output=True, text=True)
+    except OSError:
+        return ""
     return done.stdout.strip()
 
 

@@ -66,8 +66,7 @@ class Sources:
         if name not in self.known:
             lines = [" ".join([f"{name}:", *self.named[name]])]
             for it in self.files_and_folders(name)[0]:
-                with open(f"{self.top}/crates/{it}", "rb") as file:
-                    lines.append(f"{hashlib.sha256(file.read()).hexdigest()} {it}")
+                lines.append(f"{hashlib.sha256(bytes_of(f'{self.top}/crates/{it}')).hexdigest()} {it}")
             self.known[name] = lines
         return self.known[name]
 
@@ -77,7 +76,7 @@ class Sources:
     def size(self, name):
         """Returns how many lines of code the crate has."""
         files = [it for it in self.files_and_folders(name)[0] if it.endswith(".rt")]
-        return sum(open(f"{self.top}/crates/{it}", "rb").read().count(b"\n") for it in files)
+        return sum(bytes_of(f"{self.top}/crates/{it}").count(b"\n") for it in files)
 
 
 def sources_of(top):
@@ -88,6 +87,16 @@ def sources_of(top):
             if colon:
                 named[head.split()[0]] = uses.split()
     return Sources(top, named)
+
+
+def bytes_of(path):
+    with open(path, "rb") as it:
+        return it.read()
+
+
+def tell_end_of(log):
+    """Writes the last lines of a log on standard error."""
+    os.write(2, b"".join(bytes_of(log).splitlines(keepends=True)[-20:]))
 
 
 def text_of(path):
@@ -104,28 +113,33 @@ def is_built(lines):
 
 
 def note(kit, lines, seen):
-    """Writes down what the program was built from. Each change from the moment that `seen` was made at is to be looked at."""
+    """Writes down what the program was built from. What changes from the moment `seen` on is looked at anew."""
     sources = sources_of(TOP)
     watched = ["../crates.txt"]
     for it in sources.below(MAIN):
         files, folders = sources.files_and_folders(it)
         watched += folders + files
-    with open(f"{WATCHED}.new", "w", encoding="utf-8") as it:
-        it.write("".join(f"{path}\0" for path in watched))
-    with open(f"{BUILT}.new", "w", encoding="utf-8") as it:
-        it.write("".join(f"{line}\n" for line in [kit, *lines]))
-    os.utime(f"{BUILT}.new", ns=(seen, seen))
-    os.replace(f"{WATCHED}.new", WATCHED)
-    os.replace(f"{BUILT}.new", BUILT)
+    write(WATCHED, "".join(f"{path}\0" for path in watched), seen)
+    write(BUILT, "".join(f"{line}\n" for line in [kit, *lines]), seen)
+
+
+def write(path, text, seen):
+    """Writes a file as a whole, as of the moment `seen`."""
+    made = f"{path}.{os.getpid()}"
+    with open(made, "w", encoding="utf-8") as it:
+        it.write(text)
+    os.utime(made, ns=(seen, seen))
+    os.replace(made, path)
 
 
 def now():
-    """Returns the time as the file system has it."""
-    os.makedirs(os.path.dirname(BUILT), exist_ok=True)
-    with open(f"{BUILT}.now", "w"):
-        made = os.stat(f"{BUILT}.now").st_mtime_ns
-    os.remove(f"{BUILT}.now")
-    return made
+    """Returns the time as the file system of the program has it."""
+    made = f"{BUILT}.{os.getpid()}"
+    os.makedirs(os.path.dirname(made), exist_ok=True)
+    with open(made, "w"):
+        seen = os.stat(made).st_mtime_ns
+    os.remove(made)
+    return seen
 
 
 def kit_in_path():
