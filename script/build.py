@@ -24,6 +24,7 @@ from processes import end_process, in_builder, pause, started
 from rooms import ROOMS, clear, clear_all, furnish, hold, kept_key, key_of, part
 from sources import BUILT, MAIN, PROGRAM, TOP, Ended, check_kit, end, is_built, kit_in_path, note, now, say, sources_of, tell_end_of, text_of
 from unproved import build_unproved, is_unproved_built
+from words import refuse
 
 # Seconds between two lines that tell how far a build is.
 BETWEEN = 60
@@ -215,10 +216,11 @@ def become(mate, words):
     os.execv(mate, [mate, *words])
 
 
-def see_to_proved():
+def see_to_proved(words):
     """Returns whether there is a program of these sources, or one could be built."""
     if os.path.isfile(PROGRAM) and is_still_built():
         return True
+    refuse(words)
     kit = check_kit()
     return in_builder(lambda: build(kit))
 
@@ -238,7 +240,8 @@ def is_still_built():
     return True
 
 
-def see_to_unproved():
+def see_to_unproved(words):
+    refuse(words)
     kit = check_kit()
     if is_unproved_built(kit, sources_of(TOP)):
         say("this run is not proved")
@@ -268,7 +271,8 @@ def main(words):
         return version()
     mate, *words = words
     try:
-        is_there = see_to_unproved() if words[:1] == ["unproved"] else see_to_proved()
+        behind = words[1:] if words[:1] in (["unproved"], ["cost"]) else words
+        is_there = see_to_unproved(behind) if words[:1] == ["unproved"] else see_to_proved(behind)
     except Ended:
         return 1
     if not is_there:
