@@ -149,7 +149,7 @@ class Build:
             if name not in self.done:
                 log = f"crates/{name}/out/mate.log"
                 tell_end_of(f"{TOP}/{log}")
-                end(f"crate {name} was not built; the lines above are the last of {log}")
+                end(f"crate {name} was not built; the lines above are from {log}")
 
     def keep(self, name, sources):
         """Writes down what a crate was built from: what its room has, since a file can be changed meanwhile."""

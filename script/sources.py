@@ -15,6 +15,8 @@ BUILT = f"{TOP}/crates/{MAIN}/out/mate.built"
 # The names of the files and folders that were looked at for it, for `find -files0-from`.
 WATCHED = f"{TOP}/crates/{MAIN}/out/mate.watched"
 OLDEST_KIT = "13b"
+# How much is told of a log.
+MOST_LINES, MOST_LETTERS = 20, 400
 
 
 def say(text):
@@ -95,8 +97,11 @@ def bytes_of(path):
 
 
 def tell_end_of(log):
-    """Writes the last lines of a log on standard error."""
-    os.write(2, b"".join(bytes_of(log).splitlines(keepends=True)[-20:]))
+    """Writes on standard error what a log tells of errors, or else its last lines."""
+    lines = bytes_of(log).decode(errors="replace").splitlines()
+    errors = [it for it in lines if re.search(r"\berror\b|: not proved", it)]
+    for it in errors[:MOST_LINES] or lines[-MOST_LINES:]:
+        os.write(2, f"{it[:MOST_LETTERS]}\n".encode())
 
 
 def text_of(path):

@@ -63,7 +63,7 @@ def build_unproved(kit):
             is_made = try_until_module(folder, how) and run(compiling, how) and run(linking, how)
         if not is_made:
             tell_end_of(f"{folder}/log")
-            end("rt try made no program of these sources; the lines above are the last that were written")
+            end("rt try made no program of these sources; the lines above say why")
         os.replace(shutil.move(f"{folder}/mate", f"{UNPROVED}/mate.{os.getpid()}"), f"{UNPROVED}/mate")
     with open(f"{UNPROVED}/sums", "w", encoding="utf-8") as it:
         it.write("".join(f"{line}\n" for line in lines))
