@@ -5,9 +5,9 @@ Called by ./mate. Sees to it that there is a program of the sources that stand t
 With the word `unproved` before the others the program is one that is built without its proofs, by `rt try`.
 
 A program is of these sources where their bytes have the same sums as those that it was built from, whatever their times are. Where it is not,
-each crate is proved and built in a room of its own, as soon as all that it stands on is built: rt works on one crate at a time of those in a
-folder that stand on a common one. A room has the sources of the crate and of those below it, and what was built of these. The crate that all
-others wait for gets all processors but one, so that another can be proved beside it.
+each crate is proved and built in a room, as soon as all that it stands on is built: rt works on one crate at a time of those in a folder that
+stand on a common one. A room has the sources of the crate and of those below it, and what was built of these. The crate that all others wait
+for gets all processors but one, so that another can be proved beside it.
 
 The builder is a process apart, in a session of its own, and ends what it started when the one that ./mate became ends, however that ends.
 """
@@ -21,7 +21,7 @@ import time
 from dataclasses import dataclass
 
 from processes import end_process, in_builder, pause, started
-from rooms import ROOMS, clear, clear_all, furnish, hold, kept_key, key_of, part
+from rooms import ROOMS, clear_all, furnish, hold, kept_key, key_of, part, take_back
 from sources import BUILT, MAIN, PROGRAM, TOP, Ended, check_kit, end, is_built, kit_in_path, note, now, say, sources_of, tell_end_of, text_of
 from unproved import build_unproved, is_unproved_built
 from words import refuse
@@ -58,6 +58,7 @@ class Build:
         self.kept = {it for it in self.crates if it != MAIN and kept_key(it) == key_of(kit, sources, it)}
         self.ordered = self.by_chain()
         self.processors = len(os.sched_getaffinity(0))
+        self.rooms = [f"{ROOMS}/{it}" for it in range(self.processors)]
         self.running, self.done, self.lines = {}, set(self.kept), None
         # Of the crates that this build has proved: their lines of code, and the seconds that they would take with one job.
         self.measured = []
@@ -127,7 +128,8 @@ class Build:
             self.begin(name, jobs)
 
     def begin(self, name, jobs):
-        room = furnish(self.sources, name)
+        room = next(it for it in self.rooms if it not in [other.room for other in self.running.values()])
+        furnish(self.sources, name, room)
         words, given = ["rt", "lib", "--jobs", str(jobs)], os.devnull
         if name == MAIN:
             # The program is run once, on the text beside it.
@@ -145,7 +147,7 @@ class Build:
             if it.process.returncode == 0:
                 self.measured.append((self.size[name], it.seconds() * speed(it.jobs)))
                 self.keep(name, sources_of(it.room))
-            clear(name)
+            take_back(name, it.room)
             if name not in self.done:
                 log = f"crates/{name}/out/mate.log"
                 tell_end_of(f"{TOP}/{log}")

@@ -1,8 +1,9 @@
-"""The rooms of a build: for each crate that is built a folder with the sources of the crate and of those below it, and with what was built of these."""
+"""The rooms of a build: folders with the sources of a crate and of those below it, and with what was built of these, in which one crate is built after
+another."""
 import fcntl
+import glob
 import hashlib
 import os
-import shutil
 import subprocess
 
 from sources import PARTS, TOP, end, text_of
@@ -51,36 +52,37 @@ def part(room, name, what):
     return f"{room}/crates/{name}/{what}"
 
 
-def furnish(sources, name):
-    """Makes the room of a crate, with what an earlier build kept of it, and with the crates that it stands on as they were built."""
-    room, names = f"{ROOMS}/{name}", sources.below(name)
-    os.makedirs(room)
+def furnish(sources, name, room):
+    """Has in the room what is needed to build a crate: the sources of those that it stands on, and these as they were built, where the room has
+    them not yet; and the crate itself, with what an earlier build kept of it."""
+    names = sources.below(name)
+    os.makedirs(f"{room}/crates", exist_ok=True)
     with open(f"{room}/crates.txt", "w", encoding="utf-8") as it:
         it.write("".join(" ".join([f"{each}:", *sources.named[each]]) + "\n" for each in names))
-    made_from = [f"crates/{it}/{what}" for it in names for what in PARTS if os.path.isdir(part(TOP, it, what))]
-    subprocess.run(["cp", "-a", "--parents", "-t", room, *made_from], cwd=TOP, check=True)
-    libraries = [f"crates/{it}/out/rlib" for it in names[:-1]]
-    if libraries:
-        subprocess.run(["cp", "-al", "--parents", "-t", room, *libraries], cwd=TOP, check=True)
+    new = [it for it in names if not os.path.isdir(f"{room}/crates/{it}")]
+    copy("-a", [f"crates/{it}/{what}" for it in new for what in PARTS if os.path.isdir(part(TOP, it, what))], room)
+    copy("-al", [f"crates/{it}/out/rlib" for it in names[:-1] if not os.path.isdir(part(room, it, "out/rlib"))], room)
     os.makedirs(part(TOP, name, "out"), exist_ok=True)
     os.rename(part(TOP, name, "out"), part(room, name, "out"))
-    return room
 
 
-def clear(name):
-    """Puts what was built in a crate's room where it belongs."""
-    room = f"{ROOMS}/{name}"
-    if os.path.isdir(part(room, name, "out")):
-        if os.path.isdir(part(TOP, name, "out")):
-            shutil.rmtree(part(TOP, name, "out"))
-        os.rename(part(room, name, "out"), part(TOP, name, "out"))
-    subprocess.run(["rm", "-rf", room])
+def copy(how, paths, room):
+    if paths:
+        subprocess.run(["cp", how, "--parents", "-t", room, *paths], cwd=TOP, check=True)
+
+
+def take_back(name, room):
+    """Puts what was built of a crate in the room where it belongs."""
+    os.rename(part(room, name, "out"), part(TOP, name, "out"))
 
 
 def clear_all():
-    for name in os.listdir(ROOMS) if os.path.isdir(ROOMS) else []:
-        clear(name)
-    shutil.rmtree(ROOMS, ignore_errors=True)
+    """Takes back what was built in rooms, and removes them. What has its place taken was lent to the room."""
+    for out in glob.glob(f"{glob.escape(ROOMS)}/*/crates/*/out"):
+        room, _, name = os.path.dirname(out).rpartition("/crates/")
+        if not os.path.isdir(part(TOP, name, "out")):
+            take_back(name, room)
+    subprocess.run(["rm", "-rf", ROOMS])
 
 
 def key_of(kit, sources, name):
