@@ -1,0 +1,129 @@
+#!/usr/bin/env python3
+"""usage: script/watch.py PROGRAM WORD..
+
+Called by ./mate at a terminal, for a game, and where the input is typed or piped, so that it cannot be read again. Runs the program, hands on what
+is read and what it writes as it comes, and says on standard error why a reply is refused, and behind the last line what it means. Ends with the
+program's status. What it says it asks of explain/explain.py.
+"""
+import os
+import select
+import signal
+import stat
+import subprocess
+import sys
+
+TOP = os.path.dirname(os.path.dirname(os.path.realpath(__file__)))
+sys.path.insert(0, f"{TOP}/explain")
+import explain  # noqa: E402
+
+# How much is read at a time: as much as the program itself may take behind its last line.
+AT_ONCE = 256
+# Of so many replies that are refused it is said why.
+MOST_REFUSALS = 100
+REFUSALS = (b"illegal\n", b"unreadable\n")
+# Milliseconds without a word from either side, after which it is said what is waited for.
+SILENCE = 300
+TYPED = {"arith": "a formula, in one line", **dict.fromkeys(("decide", "least", "first", "keep", "show"), "a position, up to its line `end`")}
+REPLIES = "Black's replies, a line each: the man's number and the square that he goes to, as 4 0 0, or quit"
+WRITE_FAILED = 6
+
+
+def say(sentences):
+    for it in sentences:
+        os.write(2, f"mate: {it}\n".encode())
+
+
+def is_live():
+    """Returns whether standard input is typed or piped."""
+    kind = os.fstat(0).st_mode
+    return os.isatty(0) or stat.S_ISFIFO(kind) or stat.S_ISSOCK(kind)
+
+
+def as_by_a_shell():
+    """Undoes what Python does to signals, but that a file at the limit of its size is a write that fails."""
+    signal.signal(signal.SIGPIPE, signal.SIG_DFL)
+    signal.signal(signal.SIGXFSZ, signal.SIG_IGN)
+
+
+class Run:
+    """A run of the program: what it was given, where that can be known, and what it has written."""
+
+    def __init__(self, program, words):
+        self.words, self.is_live = words, is_live()
+        self.given = bytearray() if self.is_live else explain.given()
+        self.told, self.has_failed, self.refusals = b"", False, 0
+        given = subprocess.PIPE if self.is_live else None
+        how = {"stdin": given, "stdout": subprocess.PIPE, "restore_signals": False, "preexec_fn": as_by_a_shell}
+        self.process = subprocess.Popen([program, *words], **how)
+
+    def sentences(self, code, told):
+        text = bytes(self.given) if self.is_live else self.given
+        return explain.sentences(code, told, self.words, text)
+
+    def take(self):
+        """Hands on what was typed or piped, and returns whether more can come."""
+        data = os.read(0, AT_ONCE)
+        self.given += data
+        try:
+            os.write(self.process.stdin.fileno(), data)
+        except BrokenPipeError:
+            return False
+        if not data:
+            self.process.stdin.close()
+        return bool(data)
+
+    def hand_on(self):
+        """Hands on what the program wrote, and returns whether more can come."""
+        data = os.read(self.process.stdout.fileno(), 1 << 16)
+        for line in data.splitlines(keepends=True):
+            try:
+                at = 0
+                while at < len(line):
+                    at += os.write(1, line[at:])
+            except OSError:
+                self.has_failed = True
+                return False
+            self.told += line
+            if line in REFUSALS and self.refusals < MOST_REFUSALS:
+                self.refusals += 1
+                say(self.sentences(0, self.told.decode())[-1:])
+        return bool(data)
+
+    def invite(self):
+        """Says what is waited for."""
+        command = self.words[0] if self.words else None
+        if command in ("play", "resume"):
+            has_text = command == "resume" or not os.isatty(0)
+            say([f"reading {REPLIES}" if has_text else f"reading a position, up to its line `end`, and then {REPLIES}"])
+        elif command in TYPED and os.isatty(0):
+            say([f"reading {TYPED[command]}"])
+
+    def go(self):
+        """Runs the program to its end, and returns its status."""
+        waiting, is_invited = select.poll(), False
+        waiting.register(self.process.stdout, select.POLLIN)
+        is_open = self.is_live
+        if is_open:
+            waiting.register(0, select.POLLIN)
+        while True:
+            ready = dict(waiting.poll(SILENCE if is_open and not is_invited else None))
+            if not ready:
+                is_invited = True
+                self.invite()
+            if self.process.stdout.fileno() in ready and not self.hand_on():
+                break
+            if 0 in ready and not self.take():
+                is_open = False
+                waiting.unregister(0)
+        self.process.stdout.close()
+        code = self.process.wait()
+        if self.has_failed and code == 0:
+            code = WRITE_FAILED
+        if code > 0:
+            say(self.sentences(code, self.told.decode().splitlines()[-1] if self.told else ""))
+        return code if code >= 0 else 128 - code
+
+
+if __name__ == "__main__":
+    signal.signal(signal.SIGINT, signal.SIG_DFL)
+    sys.exit(Run(sys.argv[1], sys.argv[2:]).go())
