@@ -11,7 +11,7 @@ use Rattle.arith_desk.specs.Truth.{IsTrueFormula, IsTruth}
 use Rattle.arith_desk.specs.declared.deciding.Truth.{Truth}
 use Rattle.arith_desk.specs.declared.deciding.Truth.TheVariants as truths
 use Rattle.arith_desk.proofs.OneAnswer.{asked_holds, one_truth}
-use Rattle.desk_arith.specs.Answer.{Answers, IsAskedFor, SaysTrue}
+use Rattle.desk_arith.specs.Answer.{Answers, IsAskedFar, IsAskedFor, SaysTrue, wide_line}
 use Rattle.desk_arith.specs.Arith.{truth_line, witness_line}
 
 -- the text of a number begins with a digit
@@ -51,7 +51,7 @@ no_wide_witness w p e =
 first_letter : (line : List ℕ) → SaysTrue line → get_or line 0 0 ≡ 116
 first_letter line (inl e) = ap (λ (l : List ℕ). get_or l 0 0) e
 first_letter line (inr (inl e)) = ap (λ (l : List ℕ). get_or l 0 0) e
-first_letter line (inr (inr (w, e))) = ap (λ (l : List ℕ). get_or l 0 0) e
+first_letter line (inr (inr (w, small, e))) = ap (λ (l : List ℕ). get_or l 0 0) e
 
 not_false : (line : List ℕ) → SaysTrue line → line ≡ codes "false\n" → ⊥
 not_false line says e = let letter : get_or line 0 0 ≡ 102 = ap (λ (l : List ℕ). get_or l 0 0) e in absurd (omega (arith, first_letter line says, letter))
@@ -64,7 +64,7 @@ module _ (f : Tree) where
   holds_of : (truth : Truth) → IsTruth f truth → SaysTrue (truth_line truth) ↔ IsTrueFormula f
   holds_of truths.False h = (λ says. absurd (says_false says), λ holds. absurd (h holds))
   holds_of truths.True h = (λ says. h.0, λ holds. inl refl)
-  holds_of (truths.Witness w) (x, g, asks, near, within) = (λ says. asked_holds w asks near.holds, λ holds. inr (inr (w, refl)))
+  holds_of (truths.Witness w) (x, g, asks, near, within) = (λ says. asked_holds w asks near.holds, λ holds. inr (inr (w, within, refl)))
   holds_of truths.WitnessWide (x, g, asks, wide) = (λ says. asked_holds wide.some.0 asks wide.some.1, λ holds. inr (inl refl))
 
   true_fails : (truth : Truth) → SaysTrue (truth_line truth) → IsTrueFormula f → (truth_line truth ≡ codes "false\n") ↔ (¬ IsTrueFormula f)
@@ -73,7 +73,7 @@ module _ (f : Tree) where
   fails_of : (truth : Truth) → IsTruth f truth → (truth_line truth ≡ codes "false\n") ↔ (¬ IsTrueFormula f)
   fails_of truths.False h = (λ e. h, λ fails. refl)
   fails_of truths.True h = true_fails truths.True (inl refl) h.0
-  fails_of (truths.Witness w) (x, g, asks, near, within) = true_fails (truths.Witness w) (inr (inr (w, refl))) (asked_holds w asks near.holds)
+  fails_of (truths.Witness w) (x, g, asks, near, within) = true_fails (truths.Witness w) (inr (inr (w, within, refl))) (asked_holds w asks near.holds)
   fails_of truths.WitnessWide (x, g, asks, wide) = true_fails truths.WitnessWide (inr (inl refl)) (asked_holds wide.some.0 asks wide.some.1)
 
   -- a number that is written is the one asked for
@@ -83,6 +83,13 @@ module _ (f : Tree) where
   written (truths.Witness v) (x, g, asks, near, within) w small e = subst (IsAskedFor f) (one_witness v w within small e) (x, g, asks, near)
   written truths.WitnessWide h w small e = absurd (no_wide_witness w small e)
 
+  -- and so is that it is too far
+  far_written : (truth : Truth) → IsTruth f truth → truth_line truth ≡ wide_line → IsAskedFar f
+  far_written truths.False h e = let letters : ◌≡◌ {A = ℕ} 102 116 = ap (λ (l : List ℕ). get_or l 0 0) e in absurd (omega arith)
+  far_written truths.True h e = let letters : ◌≡◌ {A = ℕ} 10 32 = ap (λ (l : List ℕ). get_or l 4 0) e in absurd (omega arith)
+  far_written (truths.Witness v) (x, g, asks, near, within) e = absurd (no_wide_witness v within (sym e))
+  far_written truths.WitnessWide h e = h
+
   pub answers : (truth : Truth) → IsTruth f truth → Answers f (truth_line truth)
   answers truth h = record {
     holds = holds_of truth h;
@@ -91,4 +98,5 @@ module _ (f : Tree) where
       written truth h w small,
       λ asked. ap truth_line (one_truth f truth (truths.Witness w) h (asked.0, asked.1, asked.2, asked.3, small)),
     );
+    wide = (far_written truth h, λ far. ap truth_line (one_truth f truth truths.WitnessWide h far));
   }

@@ -13,7 +13,7 @@ use Rattle.desk_base.specs.Lines.{IsLine, Lines, full, ended, cut, long}
 use Rattle.desk_report.specs.ByLines.{EndsByLines}
 use Rattle.desk_base.specs.declared.sink.Sink.{Ghosts as SinkModel}
 use Rattle.desk_base.specs.declared.source.Source.{Ghosts as SourceModel}
-use Rattle.desk_report.specs.Outcome.{NeverMisses, Report, Seen, done_with, refusal_as}
+use Rattle.desk_report.specs.Outcome.{FirstOver, NeverMisses, Report, Seen, done_with, refusal_as}
 use Rattle.desk_report.specs.Ports.{streams_seen}
 use Rattle.desk_text.specs.Text.{is_end, refusal_line}
 use Rattle.desk_report.specs.declared.status.Status.{Status}
@@ -42,9 +42,10 @@ step_line step = codes "over budget at arith " ++ decimal step ++ codes "\n"
 
 -- the first step of a formula that exceeds the budget, or whether the formula holds over all integers
 abbrev pub FormulaReports : (budget : ℕ) → Tree → Files → Report → Type 0
-FormulaReports budget f files report =
-    ((step : ℕ) × IsOver f budget (Over step) × (report ≡ refusal_as files is.Budget (step_line step) false))
-    ⊎ ((truth : Truth) × IsWithin f budget × IsTruth f truth × (report ≡ done_with files (truth_line truth)))
+FormulaReports budget f files =
+    FirstOver step_line (λ step. IsOver f budget (Over step))
+    (λ report.
+    IsWithin f budget × ((truth : Truth) × IsTruth f truth × (report ≡ done_with files (truth_line truth)))) files
 
 -- the first field of a line that cannot stand where it stands, or what is reported of the formula that the line is
 abbrev pub LineReports : (budget : ℕ) → (line : List ℕ) → Files → Report → Type 0

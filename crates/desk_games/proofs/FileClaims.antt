@@ -36,7 +36,7 @@ use Rattle.desk_games.specs.FileClaim.{Fetches, HasFileClaim, IsFetched, IsReadA
 use Rattle.desk_report.specs.Outcome.{Ends, NeverMisses, Report, Seen, Writes, WriteFailed, done_with, of_sink, of_streams, reported_on}
 use Rattle.desk_report.specs.ByLines.{EndsByLines}
 use Rattle.desk_games.specs.Resume.{GameReports, LacksBefore, ResumeEnds, ResumeReports, claimed_match}
-use Rattle.desk_solve.specs.Verdict.{mate_line}
+use Rattle.desk_verdict.specs.Verdict.{mate_line}
 use Rattle.desk_games.specs.declared.file_claim.NoClaim.{NoClaim}
 use Rattle.desk_games.specs.declared.file_claim.NoClaim.TheVariants.{Fault, Missing, TooLong, Cut, Byte, Extra, NotKept, Over, Memory}
 use Rattle.desk_report.specs.declared.status.Status.{Status}
@@ -105,12 +105,12 @@ module _ (reports : Claim → Report → Type 0) (budget : ℕ) (name : List ℕ
       (_, of_outcome _ r refl, record { reported = refl; written = wrote; files = go_same files (λ before after. after ≡ files) old.files new.files same kept refl })
   refused_ends (NotKept rule) may_lack old new (charts, r, finds) lack kept same failed wrote = (
     _,
-    of_outcome _ r (inl (rule, finds, refl)),
+    of_outcome _ r (inr (inl (rule, finds, refl))),
     record { reported = refl; written = wrote; files = go_same files (λ before after. after ≡ files) old.files new.files same kept refl },
   )
   refused_ends (Over step) may_lack old new (charts, r, over) lack kept same failed wrote = (
     _,
-    of_outcome _ r (inr (inl (step, over, refl))),
+    of_outcome _ r (inl (step, over, refl)),
     record { reported = refl; written = wrote; files = go_same files (λ before after. after ≡ files) old.files new.files same kept refl },
   )
 

@@ -1,3 +1,5 @@
 pub mod FileClaims
+pub mod OneFinding
 pub mod Playing
+pub mod Rows
 pub mod Shelves

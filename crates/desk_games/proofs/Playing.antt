@@ -29,7 +29,7 @@ use Rattle.desk_report.specs.Outcome.{DoesReport, Ends, NeverMisses, Report, See
 use Rattle.desk_report.specs.ByLines.{EndsByLines, IsDueBy}
 use Rattle.desk_games.specs.Play.{Finishes, PlayReports, as_played, first_match, status_of}
 use Rattle.desk_games.specs.Resume.{claimed_match}
-use Rattle.desk_solve.specs.Verdict.{FitsBudget}
+use Rattle.desk_verdict.specs.Verdict.{FitsBudget}
 use Rattle.desk_text.specs.declared.problem.Problem.{Problem}
 use Rattle.desk_report.specs.declared.status.Status.{Status}
 use Rattle.desk_text.proofs.TextSteps.{known_rest}

@@ -12,7 +12,7 @@ use Rattle.winning_sets.specs.Solve.{IsOf, Solution}
 use Rattle.desk_games.specs.FileClaim.{OnFiles}
 use Rattle.desk_games.specs.Keep.{FileReports, HasFileToKeep, IsFileToKeep}
 use Rattle.desk_report.specs.Outcome.{DoesReport, Ends, NeverMisses, Report, Seen, of_sink}
-use Rattle.desk_solve.specs.Verdict.{FitsBudget}
+use Rattle.desk_verdict.specs.Verdict.{FitsBudget}
 use Rattle.desk_text.specs.declared.problem.Problem.{Problem}
 use Rattle.desk_report.specs.declared.status.Status.{Status}
 use Rattle.desk_report.specs.declared.status.Status.TheVariants as is

@@ -8,7 +8,7 @@ use Rattle.desk_games.specs.FileClaim.{MissesFetch, OfFile, OnFiles}
 use Rattle.desk_report.specs.Outcome.{Ends, Report, done_with}
 use Rattle.desk_report.specs.Ports.{shelf_seen}
 use Rattle.desk_report.specs.declared.status.Status.{Status}
-use Rattle.desk_solve.specs.Verdict.{mate_line}
+use Rattle.desk_verdict.specs.Verdict.{mate_line}
 use Rattle.desk_text.specs.declared.problem.FileTask.{FileTask}
 
 -- within how many moves the claim of the file of the name mates, or the first reason why there is none

@@ -21,8 +21,9 @@ use Rattle.winning_sets.specs.Solve.{IsSolveError, Solution}
 use Rattle.winning_sets.specs.declared.names.SolveError.TheVariants as solve_error
 use Rattle.winning_sets.specs.declared.names.StepName.{StepName}
 use Rattle.winning_sets.specs.declared.origin.Origin.TheVariants as origin
-use Rattle.desk_report.specs.FaultLines.{budget_line, file_line, not_kept_line}
-use Rattle.desk_report.specs.Outcome.{Report, over_budget, refusal_as}
+use Rattle.desk_report.specs.Outcome.{FirstOver, Report, refusal_as}
+use Rattle.desk_verdict.specs.StepLines.{budget_line}
+use Rattle.desk_games.specs.FileLines.{file_line, not_kept_line}
 use Rattle.desk_games.specs.declared.file_claim.NoClaim.{NoClaim}
 use Rattle.desk_games.specs.declared.file_claim.NoClaim.TheVariants.{Fault, Missing, TooLong, Cut, Byte, Extra, NotKept, Over, Memory}
 use Rattle.desk_report.specs.declared.status.Status.{Status}
@@ -32,15 +33,18 @@ use Rattle.desk_report.specs.declared.status.Status.TheVariants as is
 abbrev pub file_refused : Files → List ℕ → Report
 file_refused files line = refusal_as files is.File line false
 
--- what is reported of a claim: the first rule that it does not keep, or the first step of the plan that checks it that
--- exceeds the budget, or else what `reports` says
-abbrev pub OfClaim : (Claim → Report → Type 0) → (budget : ℕ) → Files → Claim → Report → Type 0
-OfClaim reports budget files c report =
+-- what is reported of a claim that is checked: the first rule that it does not keep, or what `reports` says
+abbrev pub OfRules : (Claim → Report → Type 0) → (budget : ℕ) → Files → Claim → Report → Type 0
+OfRules reports budget files c report =
     ((failed : RuleAt) × plan.Ends (check_plan c) budget (Some failed)
     × (report ≡ file_refused files (not_kept_line failed)))
-    ⊎ ((step : StepName) × IsSolveError (check_plan c) c.moves budget (solve_error.Over step)
-    × (report ≡ over_budget files step))
     ⊎ (plan.Ends (check_plan c) budget None × reports c report)
+
+-- this, or the first step of the plan that checks the claim that exceeds the budget
+abbrev pub OfClaim : (Claim → Report → Type 0) → (budget : ℕ) → Files → Claim → Report → Type 0
+OfClaim reports budget files c =
+    FirstOver budget_line (λ step. IsSolveError (check_plan c) c.moves budget (solve_error.Over step))
+    (OfRules reports budget files c) files
 
 -- of what bytes are the file of: the reason why they are none, or what is reported of the claim
 abbrev pub OfOutcome : (Claim → Report → Type 0) → (budget : ℕ) → Files → Result Charts Refusal → Report → Type 0

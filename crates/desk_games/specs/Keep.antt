@@ -10,11 +10,10 @@ use Rattle.game_rules.specs.declared.men.Side.{Side}
 use Rattle.strategy_file.specs.KeptFile.{IsKeptFile, IsKeptTooLarge}
 use Rattle.strategy_file.specs.Written.{most_bytes}
 use Rattle.winning_sets.specs.Solve.{Solution}
-use Rattle.winning_sets.specs.declared.names.StepName.{StepName}
-use Rattle.desk_report.specs.FaultLines.{too_large_line}
-use Rattle.desk_report.specs.Outcome.{Ends, Report, done_with, over_budget, refusal_as}
+use Rattle.desk_report.specs.Outcome.{Ends, Report, done_with, refusal_as}
 use Rattle.desk_report.specs.Ports.{shelf_seen}
-use Rattle.desk_solve.specs.Verdict.{ExceedsAt, FitsBudget, HasSomeToPlay, mate_line, no_mate_line}
+use Rattle.desk_verdict.specs.Verdict.{FitsBudget, HasSomeToPlay, WithinBudget, mate_line, no_mate_line}
+use Rattle.desk_games.specs.FileLines.{too_large_line}
 use Rattle.desk_text.specs.declared.problem.Problem.{Problem}
 use Rattle.desk_text.specs.declared.problem.Task.{Task}
 use Rattle.desk_report.specs.declared.status.Status.{Status}
@@ -40,9 +39,7 @@ KeptReports n problem name files report =
 
 -- the same, or the first step that exceeds the budget
 abbrev pub KeepReports : (n budget : ℕ) → Problem → (name : List ℕ) → Files → Report → Type 0
-KeepReports n budget problem name files report =
-    ((step : StepName) × ExceedsAt problem budget n step × (report ≡ over_budget files step))
-    ⊎ (FitsBudget problem budget n × KeptReports n problem name files report)
+KeepReports n budget problem name files = WithinBudget n budget problem (KeptReports n problem name files) files
 
 -- There is a file to keep: the plan is within the budget, the winner mates within n moves of his own, and the file is
 -- not too large.

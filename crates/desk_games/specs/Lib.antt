@@ -1,4 +1,5 @@
 pub mod Check
+pub mod FileLines
 pub mod FileClaim
 pub mod Keep
 pub mod Play

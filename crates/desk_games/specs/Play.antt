@@ -14,11 +14,10 @@ use Rattle.game_report.specs.declared.play.Ending.{Ending}
 use Rattle.game_report.specs.declared.play.Ending.TheVariants.{Mated, Wide, Quit, NoLine, Many, CutAt, LongAt}
 use Rattle.game_report.specs.declared.play.GameError.{GameError}
 use Rattle.game_report.specs.declared.play.GameError.TheVariants.{Read, Write}
-use Rattle.winning_sets.specs.declared.names.StepName.{StepName}
 use Rattle.desk_report.specs.ByLines.{EndsByLines}
-use Rattle.desk_report.specs.Outcome.{NeverMisses, Report, Seen, Writes, done_with, over_budget}
+use Rattle.desk_report.specs.Outcome.{NeverMisses, Report, Seen, Writes, done_with}
 use Rattle.desk_report.specs.Ports.{streams_seen}
-use Rattle.desk_solve.specs.Verdict.{ExceedsAt, FitsBudget, HasNothingToPlay, no_mate_line}
+use Rattle.desk_verdict.specs.Verdict.{HasNothingToPlay, WithinBudget, no_mate_line}
 use Rattle.desk_text.specs.declared.problem.Problem.{Problem}
 use Rattle.desk_text.specs.declared.problem.Task.{Task}
 use Rattle.desk_report.specs.declared.status.Status.{Status}
@@ -68,9 +67,7 @@ PlayedReports n problem lines files report =
 
 -- the same, or the first step that exceeds the budget
 abbrev pub PlayReports : ℕ → ℕ → Problem → Lines → Files → Report → Type 0
-PlayReports n budget problem lines files report =
-    ((step : StepName) × ExceedsAt problem budget n step × (report ≡ over_budget files step))
-    ⊎ (FitsBudget problem budget n × PlayedReports n problem lines files report)
+PlayReports n budget problem lines files = WithinBudget n budget problem (PlayedReports n problem lines files) files
 
 -- where memory may be wanting: there is something to play, and nothing was taken
 pub record LacksAtFirst (n : ℕ) (problem : Problem) (bytes : List ℕ) : Type 0 where

@@ -5,8 +5,8 @@ ghost use Rattle.desk_games.specs.Check.{CheckEndsOn};
 use crate::file_claim::{fetch_claim, refuse_file};
 use desk_base::{Shelf, Sink};
 use desk_report::{Status, print};
-use desk_solve::decide::verdict_line;
 use desk_text::FileTask;
+use desk_verdict::verdict_line;
 use std::alloc::Global;
 
 /// Checks the claim of the file of a name, and writes within how many moves its winner mates.

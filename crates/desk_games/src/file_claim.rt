@@ -9,11 +9,13 @@ ghost use Rattle.desk_games.specs.FileClaim.{Fetches, IsFetched, OnFiles, TellsC
 ghost use Rattle.desk_report.specs.Outcome.{Writes};
 ghost use Rattle.desk_report.specs.Ports.{OnSink};
 
+use crate::file_line::{byte_line, cut_line, extra_line, not_kept_line};
 use chess_text::line_buffer::LineBuffer;
 use claim_check::{CheckError, check};
 use claim_plan::RuleAt;
 use desk_base::{FetchError, Shelf, Sink};
-use desk_report::{Status, budget_line, byte_line, cut_line, extra_line, not_kept_line, refuse};
+use desk_report::{Status, refuse};
+use desk_verdict::budget_line;
 use limits::{Budget, MOST_FILE_BYTES};
 use std::alloc::Global;
 use strategy_file::{ByteWhy, Claim, FileError, read_file};

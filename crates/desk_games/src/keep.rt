@@ -4,16 +4,16 @@ ghost use Rattle.std.specs.Prelude.{◌≡◌, ◌≤◌, length};
 ghost use Rattle.game_rules.specs.declared.men.Side.TheVariants.{White};
 ghost use Rattle.winning_sets.specs.declared.origin.Origin.TheVariants.{Plan};
 ghost use Rattle.desk_games.specs.Keep.{FileEndsOn, KeepEndsOn};
-ghost use Rattle.desk_solve.specs.Verdict.{IsTask};
+ghost use Rattle.desk_verdict.specs.Verdict.{IsTask};
 
+use crate::file_line::too_large_line;
 use desk_base::{KeepError, Shelf, Sink};
-use desk_report::{Status, print, print_error, refuse, too_large_line};
-use desk_solve::decide::verdict_line;
-use desk_solve::won;
+use desk_report::{Status, print, refuse};
 use desk_text::Task;
+use desk_verdict::{ProblemSolver, print_error, verdict_line};
 use std::alloc::Global;
 use strategy_file::{WriteFileError, write_file};
-use winning_sets::{Solved, Solver};
+use winning_sets::Solved;
 
 /// Keeps a file of the sets by which the winner mates within so many moves of his own, under the name, and writes that he does; or that he does
 /// not, and then no file is kept.
@@ -28,16 +28,11 @@ pub fn keep<K: Sink, H: Shelf>(
     requires white { task.now.problem.winner ≡ White }
     ensures ends { KeepEndsOn K.Sink H.Shelf task.now name.now result (sink, shelf) }
 {
-    let Task {
-        problem,
-        moves,
-        budget,
-    } = *task;
-    let mut solver = Solver::new(alloc, &problem.position, problem.winner, budget);
-    match won(&mut solver, &problem, moves) {
+    let mut solver = ProblemSolver::new(alloc, &task.problem, task.budget);
+    match solver.mates_within(task.moves) {
         Ok(Some(solved)) => keep_file(alloc, &solved, name, sink, shelf),
         Ok(None) => {
-            let line = verdict_line(false, moves);
+            let line = verdict_line(false, task.moves);
             print(sink, line.as_slice())
         }
         Err(error) => print_error(sink, error),

@@ -5,6 +5,7 @@
 
 pub mod check;
 mod file_claim;
+mod file_line;
 pub mod keep;
 pub mod play;
 pub mod resume;

@@ -6,18 +6,16 @@ ghost use Rattle.game_report.specs.Report.{ending_line};
 ghost use Rattle.desk_report.specs.Outcome.{Writes};
 ghost use Rattle.desk_report.specs.Ports.{OnSink};
 ghost use Rattle.desk_games.specs.Play.{Finishes, PlayEndsOn, status_of};
-ghost use Rattle.desk_solve.specs.Verdict.{IsTask};
+ghost use Rattle.desk_verdict.specs.Verdict.{IsTask};
 
 use chess_game::Frame;
 use desk_base::{LineReader, Sink, Source};
-use desk_report::{Status, print, print_error, refusal_line, refuse};
-use desk_solve::decide::verdict_line;
-use desk_solve::won;
+use desk_report::{Status, print, refusal_line, refuse};
 use desk_text::{LineWhy, Task};
+use desk_verdict::{ProblemSolver, print_error, verdict_line};
 use game_report::{Ending, GameError, play_game};
 use std::alloc::Global;
 use white_player::Session;
-use winning_sets::{Solved, Solver};
 
 /// Writes the game that the winner plays, whose replies are read behind the text, or that he does not mate within so many moves.
 /// All memory is taken before the first line.
@@ -34,16 +32,11 @@ pub fn play<S: Source, K: Sink>(
     requires lines { task.now.problem.lines ≤ 8 }
     ensures ends { PlayEndsOn S.Source K.Sink task.now result (reader, source, sink) }
 {
-    let Task {
-        problem,
-        moves,
-        budget,
-    } = *task;
-    let mut solver = Solver::new(alloc, &problem.position, problem.winner, budget);
-    match won(&mut solver, &problem, moves) {
+    let mut solver = ProblemSolver::new(alloc, &task.problem, task.budget);
+    match solver.mates_within(task.moves) {
         Ok(Some(solved)) => match Session::begin(alloc, solved, Frame::whole()) {
             Ok(mut session) => {
-                let played = play_game(&mut session, reader, source, sink, problem.lines);
+                let played = play_game(&mut session, reader, source, sink, task.problem.lines);
                 finish(played, sink)
             }
             Err(_) => {
@@ -52,7 +45,7 @@ pub fn play<S: Source, K: Sink>(
             }
         },
         Ok(None) => {
-            let line = verdict_line(false, moves);
+            let line = verdict_line(false, task.moves);
             print(sink, line.as_slice())
         }
         Err(error) => print_error(sink, error),

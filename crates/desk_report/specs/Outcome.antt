@@ -4,10 +4,6 @@ use Rattle.std.specs.Io.KnownBytes.{Appends}
 use Rattle.desk_base.specs.Faults.{HasRisen}
 use Rattle.desk_base.specs.Files.{Files, FilesStay, Go, OtherFilesStay}
 use Rattle.desk_base.specs.Moves.{AppendsFront}
-use Rattle.winning_sets.specs.declared.names.SolveError.{SolveError}
-use Rattle.winning_sets.specs.declared.names.SolveError.TheVariants.{Over}
-use Rattle.winning_sets.specs.declared.names.StepName.{StepName}
-use Rattle.desk_report.specs.FaultLines.{budget_line}
 use Rattle.desk_report.specs.declared.status.Status.{Status}
 use Rattle.desk_report.specs.declared.status.Status.TheVariants as is
 
@@ -31,17 +27,15 @@ refusal_as files status fault short = record { status = status; text = []; fault
 abbrev pub done_with : Files → List ℕ → Report
 done_with files text = record { status = is.Done; text = text; fault = []; short = false; files = files }
 
--- a run that names this step, which exceeds the budget, and leaves these files
-abbrev pub over_budget : Files → StepName → Report
-over_budget files step = refusal_as files is.Budget (budget_line step) false
-
 -- the run is done with this text
 abbrev pub IsDoneWith : List ℕ → Files → Report → Type 0
 IsDoneWith text files report = report ≡ done_with files text
 
--- the run names the step that exceeds the budget, where that is the error
-abbrev pub NamesStep : SolveError → Files → Report → Type 0
-NamesStep error files report = (step : StepName) × (error ≡ Over step) × (report ≡ over_budget files step)
+-- The first step that exceeds the budget is named, by its fault line, or else this is reported.
+abbrev pub FirstOver : {Step : Type 0} → (line_of : Step → List ℕ) → (Exceeds : Step → Type 0)
+    → (reports : Report → Type 0) → Files → Report → Type 0
+FirstOver {Step} line_of Exceeds reports files report =
+    ((step : Step) × Exceeds step × (report ≡ refusal_as files is.Budget (line_of step) false)) ⊎ reports report
 
 -- This text was written to a sink that goes from `old` to `new`, and then this fault line, of which a suffix may be
 -- missing where the sink has failed.

@@ -6,9 +6,6 @@ mod fault_line;
 mod output;
 mod status;
 
-pub use fault_line::{
-    budget_line, byte_line, cut_line, extra_line, not_kept_line, push_large, refusal_line, refuse,
-    too_large_line, unsound_line,
-};
-pub use output::{print, print_error};
+pub use fault_line::{push_large, refusal_line, refuse, unsound_line};
+pub use output::print;
 pub use status::Status;

@@ -1,4 +1,4 @@
--- How many of the positions of a seed are mates in one move, and that an input of `drill` has one report.
+-- How many of the positions of a seed are mates in one move, and that of a seed and a count one thing is reported.
 use Rattle.std.proofs.Common.{◌≡◌, ◌↔◌, ◌+◌, ℕ, zero, suc, Bool, true, false, cond, IsTrue, List, [], ◌∷◌, ◌++◌, length, Some, inl, inr, refl, sym, ap, subst, ◌∙◌, below_more, arith}
 use Rattle.std.specs.Prelude.{count_by, slice_get}
 use Rattle.std.proofs.lemmas.List.{length-append}
@@ -11,9 +11,11 @@ use Rattle.game_rules.specs.declared.men.Side.TheVariants.{White}
 use Rattle.chess_game.proofs.UnsoundnessLemmas.{number_cases}
 use Rattle.winning_sets.specs.declared.names.StepName.{StepName}
 use Rattle.desk_solve.specs.Drill.{AreVerdicts, DrillFinds, DrillReports, DrillStops, drill_line, drilled}
-use Rattle.desk_report.specs.Outcome.{Report, done_with, over_budget}
-use Rattle.desk_solve.specs.Verdict.{ExceedsAt, FitsBudget}
-use Rattle.desk_solve.proofs.OneStep.{exceeds_once, fits_exceeds}
+use Rattle.desk_report.specs.Outcome.{done_with}
+use Rattle.desk_report.proofs.One.{IsDueOf, IsOne, line_row, over_row}
+use Rattle.desk_verdict.specs.StepLines.{budget_line}
+use Rattle.desk_verdict.specs.Verdict.{ExceedsAt, FitsBudget}
+use Rattle.desk_verdict.proofs.OneStep.{exceeds_once, fits_exceeds}
 
 -- how many verdicts are that White mates
 abbrev won_of : List Bool → ℕ
@@ -84,9 +86,8 @@ once_stop seed count one other a b = elim (number_cases a.0 b.0) [
   | inr (inr more) ↦ absurd (fits_exceeds (drilled seed b.0) DEFAULT_STATES 1 other (a.2 b.0 more) b.3)
 ]
 
-pub once_drill : (files : Files) (one other : Report) (seed count : ℕ) → DrillReports seed count files one → DrillReports seed count files other → one ≡ other
-once_drill files one other seed count (inl (s, a, i)) (inl (t, b, j)) = i ∙ ap (over_budget files) (once_stop seed count s t a b) ∙ sym j
-once_drill files one other seed count (inl (s, a, i)) (inr (m, b, j)) = absurd (found_stops s b a)
-once_drill files one other seed count (inr (m, a, i)) (inl (t, b, j)) = absurd (found_stops t a b)
-once_drill files one other seed count (inr (m, a, i)) (inr (n, b, j)) =
-    i ∙ ap (λ mates. done_with files (drill_line mates count)) (once_found a b) ∙ sym j
+pub drill_row : (seed count : ℕ) (files : Files) → IsOne (DrillReports seed count files)
+drill_row seed count files =
+    over_row budget_line (DrillStops seed count) {rest = IsDueOf (DrillFinds seed count) (λ mates. done_with files (drill_line mates count))} files
+    (line_row (DrillFinds seed count) (λ mates. drill_line mates count) files (λ m n a b. ap (λ mates. drill_line mates count) (once_found a b)))
+    (λ s t a b. ap budget_line (once_stop seed count s t a b)) (λ step report stops right. found_stops step right.1 stops)

@@ -1,5 +1,5 @@
 pub mod Drilled
 pub mod Listing
-pub mod OneStep
+pub mod Passed
 pub mod Rooks
-pub mod Values
+pub mod Rows

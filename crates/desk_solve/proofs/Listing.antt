@@ -6,15 +6,15 @@ use Rattle.desk_base.specs.Files.{Files}
 use Rattle.game_rules.specs.Game.{Position, Value}
 use Rattle.game_rules.specs.declared.men.Side.{Side}
 use Rattle.game_laws.proofs.SoundLemmas.{side_or_other}
-use Rattle.game_report.specs.Report.{all_squares}
 use Rattle.game_session.specs.Aims.{HasRay}
 use Rattle.white_player.specs.Firsts.{Firsts}
 use Rattle.white_player.proofs.FirstLemmas.{firsts_ray, firsts_value, line_first, line_once}
 use Rattle.winning_sets.specs.Solve.{IsOf, Solution}
-use Rattle.desk_solve.specs.First.{Adds, AreLines, FirstReports, HasNoFirstMove, LinesReport, Listed, ManText, RayText, line_of}
-use Rattle.desk_report.specs.Outcome.{Report, done_with, over_budget}
+use Rattle.desk_solve.specs.First.{Adds, AreLines, FirstReports, HasNoFirstMove, Listed, ManText, RayText, line_of}
+use Rattle.desk_report.specs.Outcome.{done_with}
+use Rattle.desk_report.proofs.One.{IsOne, and_row, due_row, either_row, line_row}
 use Rattle.desk_text.specs.declared.problem.Problem.{Problem}
-use Rattle.desk_solve.proofs.OneStep.{exceeds_once, fits_exceeds}
+use Rattle.desk_verdict.proofs.Rows.{within_row}
 
 -- a list of texts, and one text more
 module _ (Of : ℕ → List ℕ → Type 0) where
@@ -106,15 +106,10 @@ lines_of_problem n problem s told of are =
     (subst (λ k. AreLines problem.winner k s.position told) of.moves_are (subst (λ w. AreLines w s.moves s.position told) of.winner_is are))
 
 -- of a problem one thing is reported
-module _ (files : Files) (one other : Report) (n budget : ℕ) (problem : Problem) where
-  once_lines : LinesReport n budget problem files one → LinesReport n budget problem files other → one ≡ other
-  once_lines (inl (s, a, i)) (inl (t, b, j)) = i ∙ ap (over_budget files) (exceeds_once problem budget n s t a b) ∙ sym j
-  once_lines (inl (s, a, i)) (inr (told, fits, are, j)) = absurd (fits_exceeds problem budget n s fits a)
-  once_lines (inr (told, fits, are, i)) (inl (t, b, j)) = absurd (fits_exceeds problem budget n t fits b)
-  once_lines (inr (told, fits, are, i)) (inr (also, within, so, j)) = i ∙ ap (done_with files) (lines_once problem.winner n problem.position told also are so) ∙ sym j
-
-  pub once_first : FirstReports n budget problem files one → FirstReports n budget problem files other → one ≡ other
-  once_first (inl (none, i)) (inl (also, j)) = i ∙ sym j
-  once_first (inl (none, i)) (inr (some, b)) = absurd (some none)
-  once_first (inr (some, a)) (inl (none, j)) = absurd (some none)
-  once_first (inr (some, a)) (inr (also, b)) = once_lines a b
+pub first_row : (n budget : ℕ) (problem : Problem) (files : Files) → IsOne (FirstReports n budget problem files)
+first_row n budget problem files =
+    either_row
+    (and_row (HasNoFirstMove n problem) (due_row (done_with files (codes "end\n")) (λ e. absurd (cc))))
+    (and_row (¬ HasNoFirstMove n problem) (within_row n budget problem files
+    (line_row (AreLines problem.winner n problem.position) (λ told. told) files (lines_once problem.winner n problem.position))))
+    (λ r s none some. some.0 none.0)

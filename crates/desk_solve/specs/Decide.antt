@@ -3,17 +3,17 @@ use Rattle.std.specs.Prelude.{◌≡◌, ◌↔◌, ◌⊎◌, ℕ, List, []}
 use Rattle.desk_base.specs.Files.{Files}
 use Rattle.game_rules.specs.Game.{Value}
 use Rattle.winning_sets.specs.declared.names.StepName.{StepName}
-use Rattle.desk_report.specs.FaultLines.{budget_line}
-use Rattle.desk_report.specs.Outcome.{Report, done_with, over_budget}
-use Rattle.desk_solve.specs.Verdict.{ExceedsAt, FitsBudget, IsVerdict, mate_line, no_mate_line}
+use Rattle.desk_report.specs.Outcome.{Report, done_with}
+use Rattle.desk_verdict.specs.StepLines.{budget_line}
+use Rattle.desk_verdict.specs.Verdict.{ExceedsAt, IsVerdict, WithinBudget, mate_line, no_mate_line}
 use Rattle.desk_text.specs.declared.problem.Problem.{Problem}
 use Rattle.desk_report.specs.declared.status.Status.TheVariants as is
 
 -- whether the winner mates within n moves of his own, or the first step that exceeds the budget
 abbrev pub DecideReports : ℕ → ℕ → Problem → Files → Report → Type 0
-DecideReports n budget problem files report =
-    ((step : StepName) × ExceedsAt problem budget n step × (report ≡ over_budget files step))
-    ⊎ ((line : List ℕ) × FitsBudget problem budget n × IsVerdict n problem line × (report ≡ done_with files line))
+DecideReports n budget problem files =
+    WithinBudget n budget problem
+    (λ report. (line : List ℕ) × IsVerdict n problem line × (report ≡ done_with files line)) files
 
 -- the run is done, and writes one of the two lines and no fault line
 pub record IsAnswered (n : ℕ) (report : Report) : Type 0 where

@@ -10,8 +10,9 @@ use Rattle.game_rules.specs.declared.men.Place.TheVariants.{At}
 use Rattle.game_rules.specs.declared.men.Side.TheVariants.{White, Black}
 use Rattle.game_laws.specs.Symmetry.{mapped, shift}
 use Rattle.winning_sets.specs.declared.names.StepName.{StepName}
-use Rattle.desk_report.specs.Outcome.{Report, done_with, over_budget}
-use Rattle.desk_solve.specs.Verdict.{ExceedsAt, FitsBudget}
+use Rattle.desk_report.specs.Outcome.{FirstOver, Report, done_with}
+use Rattle.desk_verdict.specs.StepLines.{budget_line}
+use Rattle.desk_verdict.specs.Verdict.{ExceedsAt, FitsBudget}
 use Rattle.desk_text.specs.declared.problem.Problem.{Problem}
 
 -- the state after this one
@@ -106,6 +107,6 @@ drill_line mates count = decimal mates ++ codes " of " ++ decimal count ++ codes
 
 -- from how many of the positions White mates in one move, or the first step that exceeds the budget
 abbrev pub DrillReports : (seed count : ℕ) → Files → Report → Type 0
-DrillReports seed count files report =
-    ((step : StepName) × DrillStops seed count step × (report ≡ over_budget files step))
-    ⊎ ((mates : ℕ) × DrillFinds seed count mates × (report ≡ done_with files (drill_line mates count)))
+DrillReports seed count files =
+    FirstOver budget_line (DrillStops seed count)
+    (λ report. (mates : ℕ) × DrillFinds seed count mates × (report ≡ done_with files (drill_line mates count))) files

@@ -4,17 +4,16 @@ use Rattle.std.specs.Fmt.{decimal, signed_decimal}
 use Rattle.auto_search.specs.declared.few.Few.{Few}
 use Rattle.auto_search.specs.declared.few.Few.TheVariants.{One}
 use Rattle.desk_base.specs.Files.{Files}
-use Rattle.game_report.specs.Report.{all_squares}
 use Rattle.game_rules.specs.Game.{Position, other}
 use Rattle.game_rules.specs.declared.men.Side.{Side}
+use Rattle.game_session.specs.Squares.{all_squares}
 use Rattle.white_player.specs.Firsts.{Firsts, IsFirstLine}
 use Rattle.white_player.specs.Game.{HasRoom}
 use Rattle.white_player.specs.declared.first_line.FirstLine.{FirstLine}
 use Rattle.winning_sets.specs.Solve.{Solution}
-use Rattle.winning_sets.specs.declared.names.StepName.{StepName}
 use Rattle.winning_sets.specs.declared.origin.Origin.TheVariants.{Plan}
-use Rattle.desk_report.specs.Outcome.{Report, done_with, over_budget}
-use Rattle.desk_solve.specs.Verdict.{ExceedsAt, FitsBudget}
+use Rattle.desk_report.specs.Outcome.{Report, done_with}
+use Rattle.desk_verdict.specs.Verdict.{WithinBudget}
 use Rattle.desk_text.specs.declared.problem.Problem.{Problem}
 use Rattle.desk_text.specs.declared.problem.Task.{Task}
 
@@ -67,10 +66,9 @@ AreLines winner n p told = (text : List ℕ) × MenText winner n p text × (told
 
 -- these, or the first step that exceeds the budget
 abbrev pub LinesReport : ℕ → ℕ → Problem → Files → Report → Type 0
-LinesReport n budget problem files report =
-    ((step : StepName) × ExceedsAt problem budget n step × (report ≡ over_budget files step))
-    ⊎ ((told : List ℕ) × FitsBudget problem budget n × AreLines problem.winner n problem.position told
-    × (report ≡ done_with files told))
+LinesReport n budget problem files =
+    WithinBudget n budget problem
+    (λ report. (told : List ℕ) × AreLines problem.winner n problem.position told × (report ≡ done_with files told)) files
 
 -- the last line alone where the winner has no first move, and else what is reported of his first moves
 abbrev pub FirstReports : ℕ → ℕ → Problem → Files → Report → Type 0

@@ -1,11 +1,12 @@
 -- What is reported of `least`.
-use Rattle.std.specs.Prelude.{◌≡◌, ◌⊎◌, ℕ, ◌<◌, ◌≤◌, List, ◌++◌, Option, Some, None, codes, unwrap_or}
+use Rattle.std.specs.Prelude.{◌≡◌, ℕ, ◌<◌, ◌≤◌, List, ◌++◌, Option, Some, None, codes, unwrap_or}
 use Rattle.std.specs.Fmt.{decimal}
 use Rattle.desk_base.specs.Files.{Files}
 use Rattle.game_rules.specs.Game as game
 use Rattle.winning_sets.specs.declared.names.StepName.{StepName}
-use Rattle.desk_report.specs.Outcome.{Report, done_with, over_budget}
-use Rattle.desk_solve.specs.Verdict.{ExceedsAt, FitsBudget}
+use Rattle.desk_report.specs.Outcome.{FirstOver, Report, done_with}
+use Rattle.desk_verdict.specs.StepLines.{budget_line}
+use Rattle.desk_verdict.specs.Verdict.{ExceedsAt, FitsBudget}
 use Rattle.desk_text.specs.declared.problem.Problem.{Problem}
 
 -- the line that says within how few moves the winner mates, or that he does not within the limit
@@ -30,6 +31,7 @@ LeastFinds limit budget problem found =
 
 -- within how few moves the winner mates, or the first step that exceeds the budget
 abbrev pub LeastReports : ℕ → ℕ → Problem → Files → Report → Type 0
-LeastReports limit budget problem files report =
-    ((step : StepName) × LeastStops limit budget problem step × (report ≡ over_budget files step))
-    ⊎ ((found : Option ℕ) × LeastFinds limit budget problem found × (report ≡ done_with files (least_line limit found)))
+LeastReports limit budget problem files =
+    FirstOver budget_line (LeastStops limit budget problem)
+    (λ report. (found : Option ℕ) × LeastFinds limit budget problem found
+    × (report ≡ done_with files (least_line limit found))) files

@@ -2,4 +2,3 @@ pub mod Decide
 pub mod Drill
 pub mod First
 pub mod Least
-pub mod Verdict

@@ -5,18 +5,18 @@ ghost use Rattle.game_rules.specs.Game.{Sound, Value};
 ghost use Rattle.desk_solve.specs.Drill.{DrillFinds, DrillReports, DrillStops};
 ghost use Rattle.desk_solve.specs.Drill as specs;
 ghost use Rattle.desk_report.specs.Ports.{EndsOnSink};
-ghost use Rattle.desk_solve.specs.Verdict.{ExceedsAt, FitsBudget, IfOver};
+ghost use Rattle.desk_verdict.specs.Verdict.{ExceedsAt, FitsBudget, IfOver};
 
 use crate::drill_positions::{Generator, problem_of};
-use crate::mates::won;
 use chess_text::line_buffer::LineBuffer;
 use desk_base::Sink;
-use desk_report::{Status, print, print_error};
+use desk_report::{Status, print};
 use desk_text::Problem;
+use desk_verdict::{ProblemSolver, print_error};
 use desk_words::DEFAULT_STATES;
 use limits::Budget;
 use std::alloc::Global;
-use winning_sets::{SolveError, Solver};
+use winning_sets::SolveError;
 
 /// Writes from how many of so many positions, which follow from the seed, White mates in one move.
 pub fn drill<K: Sink>(alloc: Global, seed: u64, count: u8, sink: &mut K) -> Status
@@ -55,13 +55,8 @@ fn is_mate_in_one(alloc: Global, problem: &Problem) -> Result<bool, SolveError>
     ensures fits { OnOk result (FitsBudget problem.now DEFAULT_STATES 1) }
     ensures step { IfOver result (ExceedsAt problem.now DEFAULT_STATES 1) }
 {
-    let mut solver = Solver::new(
-        alloc,
-        &problem.position,
-        problem.winner,
-        Budget::new(DEFAULT_STATES),
-    );
-    Ok(won(&mut solver, problem, 1)?.is_some())
+    let mut solver = ProblemSolver::new(alloc, problem, Budget::new(DEFAULT_STATES));
+    Ok(solver.mates_within(1)?.is_some())
 }
 
 /// The line that says from how many of so many positions White mates in one move.

@@ -5,19 +5,19 @@ ghost use Rattle.winning_sets.specs.declared.origin.Origin.TheVariants.{Plan};
 ghost use Rattle.desk_solve.specs.First.{Adds, AreLines, FirstReports, HasNoFirstMove, IsServed, ManText, MayMoveFirst, MenText, OfSolved, RayText, line_of};
 ghost use Rattle.desk_solve.specs.First as specs;
 ghost use Rattle.desk_report.specs.Ports.{EndsOnSink};
-ghost use Rattle.desk_solve.specs.Verdict.{IsTask, OfTask};
+ghost use Rattle.desk_verdict.specs.Verdict.{IsTask, OfTask};
 
-use crate::mates::won;
 use auto_search::{Few, Search};
 use chess_game::Frame;
 use chess_text::line_buffer::LineBuffer;
 use desk_base::Sink;
-use desk_report::{Status, print, print_error, push_large};
+use desk_report::{Status, print, push_large};
 use desk_text::Task;
+use desk_verdict::{ProblemSolver, print_error};
 use game_session::has_ray;
 use std::alloc::{AllocError, Global};
 use white_player::{FirstLine, first_moves};
-use winning_sets::{SolveError, Solved, Solver};
+use winning_sets::{SolveError, Solved};
 
 /// The most rays that a kind has.
 const RAYS: u8 = 8;
@@ -31,13 +31,8 @@ pub fn first<K: Sink>(alloc: Global, task: &Task, sink: &mut K) -> Status
     if has_no_first_move(task) {
         return print(sink, b"end\n");
     }
-    let Task {
-        problem,
-        moves,
-        budget,
-    } = *task;
-    let mut solver = Solver::new(alloc, &problem.position, problem.winner, budget);
-    match won(&mut solver, &problem, moves) {
+    let mut solver = ProblemSolver::new(alloc, &task.problem, task.budget);
+    match solver.mates_within(task.moves) {
         Ok(Some(solved)) => match first_lines(alloc, &solved) {
             Ok(text) => print(sink, text.as_slice()),
             Err(_) => print_error(sink, SolveError::Memory),

@@ -4,15 +4,15 @@ ghost use Rattle.std.specs.Prelude.{◌≡◌, Err, IfOk};
 ghost use Rattle.desk_solve.specs.Least.{LeastFinds, LeastReports, LeastStops};
 ghost use Rattle.desk_solve.specs.Least as specs;
 ghost use Rattle.desk_report.specs.Ports.{EndsOnSink};
-ghost use Rattle.desk_solve.specs.Verdict.{HasSomeToPlay, IfOver, IsTask, OfTask};
+ghost use Rattle.desk_verdict.specs.Verdict.{HasSomeToPlay, IfOver, IsTask, OfTask};
 
-use crate::mates::{number_line, won};
 use chess_text::line_buffer::LineBuffer;
 use desk_base::Sink;
-use desk_report::{Status, print, print_error};
+use desk_report::{Status, print};
 use desk_text::Task;
+use desk_verdict::{ProblemSolver, number_line, print_error};
 use std::alloc::Global;
-use winning_sets::{SolveError, Solver};
+use winning_sets::SolveError;
 
 /// Writes within how few moves of his own the winner mates, if he does within so many.
 pub fn least<K: Sink>(alloc: Global, task: &Task, sink: &mut K) -> Status
@@ -35,14 +35,10 @@ fn least_moves(alloc: Global, task: &Task) -> Result<Option<u8>, SolveError>
     ensures step { IfOver result (OfTask LeastStops task.now) }
     ensures memory { result ≡ Err SolveError.Memory → HasSomeToPlay task.now }
 {
-    let Task {
-        problem,
-        moves: limit,
-        budget,
-    } = *task;
-    let mut solver = Solver::new(alloc, &problem.position, problem.winner, budget);
+    let limit = task.moves;
+    let mut solver = ProblemSolver::new(alloc, &task.problem, task.budget);
     for moves in 0..=limit {
-        if won(&mut solver, &problem, moves)?.is_some() {
+        if solver.mates_within(moves)?.is_some() {
             return Ok(Some(moves));
         }
     }

@@ -1,3 +1,4 @@
+pub mod MoreLines
 pub mod OneText
 pub mod RoundTrip
 pub mod TextSteps

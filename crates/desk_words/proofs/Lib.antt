@@ -1,3 +1,3 @@
-pub mod Commands
+pub mod Names
 pub mod OneOrder
 pub mod Words

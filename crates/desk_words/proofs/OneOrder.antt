@@ -1,15 +1,10 @@
 -- Words are one order, or none for one reason.
-use Rattle.std.proofs.Common.{◌≡◌, ℕ, List, [], ◌∷◌, Option, Some, None, Result, Ok, Err, inl, inr, refl, sym, ap, subst, ◌∙◌, arith}
-use Rattle.limits.specs.declared.numbers.TheConstants.{MOST_MOVES, MOST_STATES}
-use Rattle.desk_words.specs.declared.order.TheConstants.{DEFAULT_STATES}
-use Rattle.desk_words.specs.Order.{ReadsNumber, FromNumber, WithName, WithNumber, ArithOrdered, DrillOrdered, FileOrdered, KeepOrdered, MovesOrdered, ReadsFile, ReadsMoves, ShowOrdered, Ordered, OrderedBehind, file_order_for, order_for, most_positions, most_seed}
-use Rattle.desk_words.specs.declared.order.Command.{Command}
-use Rattle.desk_words.specs.declared.order.Command.TheVariants as commands
+use Rattle.std.proofs.Common.{◌≡◌, ℕ, Bool, true, false, List, [], ◌∷◌, Result, Ok, Err, inl, inr, refl, sym, ap, subst, ◌∙◌, arith}
+use Rattle.limits.specs.declared.numbers.TheConstants.{MOST_STATES}
+use Rattle.desk_words.specs.Order.{Asks, FromNumber, IfSoMany, Ordered, OrderedBy, OrdersAs, ReadsNumber, ReadsWords, Row, WithName, WithNumber, Words, End, Numeral, Named, Budgeted, are_so_many, order_for, rows}
 use Rattle.desk_words.specs.declared.order.Order.{Order}
-use Rattle.desk_words.specs.declared.order.Order.TheVariants.{Decide, Least, First, Play, Keep, Check, Resume, Drill, Arith}
 use Rattle.desk_words.specs.declared.order.UsageWhy.{UsageWhy}
 use Rattle.desk_words.specs.declared.order.UsageWhy.TheVariants.{NoCommand, Unknown, Count, Number, Limit, Name}
-use Rattle.desk_words.proofs.Commands.{once_command}
 
 -- a word is one number, or none for one reason
 once_number : (word : List ℕ) (low high : ℕ) (one other : Result ℕ UsageWhy) → ReadsNumber word low high one → ReadsNumber word low high other → one ≡ other
@@ -57,83 +52,39 @@ with_name one other word F G once (inl (no_name, a)) (inr (named, b)) = absurd (
 with_name one other word F G once (inr (named, a)) (inl (no_name, b)) = absurd (no_name named)
 with_name one other word F G once (inr (named, a)) (inr (also, b)) = once a b
 
-module _ (one other : Result ℕ UsageWhy) where
-  once_file_budget : (words : List (List ℕ)) → ReadsFile words one → ReadsFile words other → one ≡ other
-  once_file_budget [] a b = a ∙ sym b
-  once_file_budget (name ∷ []) a b = with_name one other name (one ≡ Ok DEFAULT_STATES) (other ≡ Ok DEFAULT_STATES) (λ x y. x ∙ sym y) a b
-  once_file_budget (name ∷ budget ∷ []) a b =
-      with_name one other name (WithNumber budget 1 MOST_STATES one (λ k. one ≡ Ok k)) (WithNumber budget 1 MOST_STATES other (λ k. other ≡ Ok k))
-      (λ x y. with_number one other budget 1 MOST_STATES (λ k. one ≡ Ok k) (λ k. other ≡ Ok k) (λ k u v. u ∙ sym v) x y) a b
-  once_file_budget (name ∷ budget ∷ word ∷ words) a b = a ∙ sym b
+-- words ask one thing, or nothing for one reason
+module _ {A : Type 0} (one other : Result A UsageWhy) where
+  once_read : (may : Words A) (words : List (List ℕ)) → ReadsWords may words one → ReadsWords may words other → one ≡ other
+  once_read (End asked) words a b = a ∙ sym b
+  once_read (Numeral low high next) [] a b = a ∙ sym b
+  once_read (Numeral low high next) (word ∷ words) a b =
+      with_number one other word low high (λ n. ReadsWords (next n) words one) (λ n. ReadsWords (next n) words other) (λ n x y. once_read (next n) words x y) a b
+  once_read (Named next) [] a b = a ∙ sym b
+  once_read (Named next) (word ∷ words) a b =
+      with_name one other word (ReadsWords next words one) (ReadsWords next words other) (λ x y. once_read next words x y) a b
+  once_read (Budgeted asked) [] a b = a ∙ sym b
+  once_read (Budgeted asked) (word ∷ words) a b =
+      with_number one other word 1 MOST_STATES (λ k. one ≡ Ok (asked k)) (λ k. other ≡ Ok (asked k)) (λ k u v. u ∙ sym v) a b
 
-module _ (one other : Result (ℕ × ℕ) UsageWhy) where
-  once_moves : (words : List (List ℕ)) → ReadsMoves words one → ReadsMoves words other → one ≡ other
-  once_moves [] a b = a ∙ sym b
-  once_moves (moves ∷ []) a b =
-      with_number one other moves 0 MOST_MOVES (λ n. one ≡ Ok (n, DEFAULT_STATES)) (λ n. other ≡ Ok (n, DEFAULT_STATES)) (λ n x y. x ∙ sym y) a b
-  once_moves (moves ∷ budget ∷ []) a b =
-      with_number one other moves 0 MOST_MOVES (λ n. WithNumber budget 1 MOST_STATES one (λ k. one ≡ Ok (n, k))) (λ n. WithNumber budget 1 MOST_STATES other (λ k. other ≡ Ok (n, k)))
-      (λ n x y. with_number one other budget 1 MOST_STATES (λ k. one ≡ Ok (n, k)) (λ k. other ≡ Ok (n, k)) (λ k u v. u ∙ sym v) x y)
-      a b
-  once_moves (moves ∷ budget ∷ word ∷ words) a b = a ∙ sym b
+  once_so_many : (many : Bool) (F G : Type 0) → (F → G → one ≡ other) → IfSoMany many one F → IfSoMany many other G → one ≡ other
+  once_so_many true F G once a b = once a b
+  once_so_many false F G once a b = a ∙ sym b
+
+once_asked : {A : Type 0} (may : Words A) (words : List (List ℕ)) (one other : Result A UsageWhy) → Asks may words one → Asks may words other → one ≡ other
+once_asked may words one other a b =
+    once_so_many one other (are_so_many may words) (ReadsWords may words one) (ReadsWords may words other) (once_read one other may words) a b
 
 module _ (one other : Result Order UsageWhy) where
-  once_ordered : (order : ℕ → ℕ → Order) (words : List (List ℕ)) → MovesOrdered order words one → MovesOrdered order words other → one ≡ other
-  once_ordered order words a b = a.2 ∙ ap (order_for order) (once_moves a.0 b.0 words a.1 b.1) ∙ sym b.2
+  once_ordered : {A : Type 0} (may : Words A) (order : A → Order) (words : List (List ℕ)) → OrdersAs may order words one → OrdersAs may order words other → one ≡ other
+  once_ordered may order words a b = a.2 ∙ ap (order_for order) (once_asked may words a.0 b.0 a.1 b.1) ∙ sym b.2
 
-  once_keeping : (words : List (List ℕ)) → KeepOrdered words one → KeepOrdered words other → one ≡ other
-  once_keeping [] a b = a ∙ sym b
-  once_keeping (moves ∷ []) a b = a ∙ sym b
-  once_keeping (moves ∷ name ∷ []) a b =
-      with_number one other moves 0 MOST_MOVES (λ n. WithName name one (one ≡ Ok (Keep n DEFAULT_STATES))) (λ n. WithName name other (other ≡ Ok (Keep n DEFAULT_STATES)))
-      (λ n x y. with_name one other name (one ≡ Ok (Keep n DEFAULT_STATES)) (other ≡ Ok (Keep n DEFAULT_STATES)) (λ u v. u ∙ sym v) x y) a b
-  once_keeping (moves ∷ name ∷ budget ∷ []) a b =
-      with_number one other moves 0 MOST_MOVES
-      (λ n. WithName name one (WithNumber budget 1 MOST_STATES one (λ k. one ≡ Ok (Keep n k))))
-      (λ n. WithName name other (WithNumber budget 1 MOST_STATES other (λ k. other ≡ Ok (Keep n k))))
-      (λ n x y. with_name one other name (WithNumber budget 1 MOST_STATES one (λ k. one ≡ Ok (Keep n k))) (WithNumber budget 1 MOST_STATES other (λ k. other ≡ Ok (Keep n k)))
-      (λ u v. with_number one other budget 1 MOST_STATES (λ k. one ≡ Ok (Keep n k)) (λ k. other ≡ Ok (Keep n k)) (λ k p q. p ∙ sym q) u v) x y) a b
-  once_keeping (moves ∷ name ∷ budget ∷ word ∷ words) a b = a ∙ sym b
-
-  once_of_file : (order : ℕ → Order) (words : List (List ℕ)) → FileOrdered order words one → FileOrdered order words other → one ≡ other
-  once_of_file order words a b = a.2 ∙ ap (file_order_for order) (once_file_budget a.0 b.0 words a.1 b.1) ∙ sym b.2
-
-  once_show : (words : List (List ℕ)) → ShowOrdered words one → ShowOrdered words other → one ≡ other
-  once_show [] a b = a ∙ sym b
-  once_show (word ∷ words) a b = a ∙ sym b
-
-  once_drilled : (words : List (List ℕ)) → DrillOrdered words one → DrillOrdered words other → one ≡ other
-  once_drilled [] a b = a ∙ sym b
-  once_drilled (seed ∷ []) a b = a ∙ sym b
-  once_drilled (seed ∷ count ∷ []) a b =
-      with_number one other seed 0 most_seed
-      (λ s. WithNumber count 0 most_positions one (λ k. one ≡ Ok (Drill s k)))
-      (λ s. WithNumber count 0 most_positions other (λ k. other ≡ Ok (Drill s k)))
-      (λ s x y. with_number one other count 0 most_positions (λ k. one ≡ Ok (Drill s k)) (λ k. other ≡ Ok (Drill s k)) (λ k u v. u ∙ sym v) x y)
-      a b
-  once_drilled (seed ∷ count ∷ word ∷ words) a b = a ∙ sym b
-
-  once_asked : (words : List (List ℕ)) → ArithOrdered words one → ArithOrdered words other → one ≡ other
-  once_asked [] a b = a ∙ sym b
-  once_asked (budget ∷ []) a b =
-      with_number one other budget 1 MOST_STATES (λ k. one ≡ Ok (Arith k)) (λ k. other ≡ Ok (Arith k)) (λ k u v. u ∙ sym v) a b
-  once_asked (budget ∷ word ∷ words) a b = a ∙ sym b
-
-  once_behind : (command : Option Command) (words : List (List ℕ)) → OrderedBehind command words one → OrderedBehind command words other → one ≡ other
-  once_behind (Some commands.Decide) words a b = once_ordered (λ moves budget. Decide moves budget) words a b
-  once_behind (Some commands.Least) words a b = once_ordered (λ limit budget. Least limit budget) words a b
-  once_behind (Some commands.First) words a b = once_ordered (λ moves budget. First moves budget) words a b
-  once_behind (Some commands.Play) words a b = once_ordered (λ moves budget. Play moves budget) words a b
-  once_behind (Some commands.Keep) words a b = once_keeping words a b
-  once_behind (Some commands.Check) words a b = once_of_file (λ budget. Check budget) words a b
-  once_behind (Some commands.Resume) words a b = once_of_file (λ budget. Resume budget) words a b
-  once_behind (Some commands.Show) words a b = once_show words a b
-  once_behind (Some commands.Drill) words a b = once_drilled words a b
-  once_behind (Some commands.Arith) words a b = once_asked words a b
-  once_behind None words a b = a ∙ sym b
+  once_named : (commands : List Row) (name : List ℕ) (words : List (List ℕ)) → OrderedBy commands name words one → OrderedBy commands name words other → one ≡ other
+  once_named [] name words a b = a ∙ sym b
+  once_named (first ∷ others) name words (inl (is, a)) (inl (so, b)) = once_ordered first.words first.order words a b
+  once_named (first ∷ others) name words (inl (is, a)) (inr (not, b)) = absurd (not is)
+  once_named (first ∷ others) name words (inr (not, a)) (inl (so, b)) = absurd (not so)
+  once_named (first ∷ others) name words (inr (not, a)) (inr (also, b)) = once_named others name words a b
 
   pub once_words : (words : List (List ℕ)) → Ordered words one → Ordered words other → one ≡ other
   once_words [] a b = a ∙ sym b
-  once_words (word ∷ words) a b =
-      let P : Option Command → Type 0 = λ command. OrderedBehind command words other in
-      once_behind a.0 words a.2 (subst P (sym (once_command word a.0 b.0 a.1 b.1)) b.2)
+  once_words (word ∷ words) a b = once_named rows word words a b

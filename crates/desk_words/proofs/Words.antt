@@ -1,5 +1,5 @@
 -- Words that are numbers, and words behind a command.
-use Rattle.std.proofs.Common.{◌≡◌, ◌≢◌, ℕ, ◌<◌, ◌≤◌, ◌^◌, List, [], ◌∷◌, length, get_or, drop, map, Option, Result, Err, inl, inr, subst, take, ◌-◌, arith}
+use Rattle.std.proofs.Common.{◌≡◌, ◌≢◌, ℕ, ◌<◌, ◌≤◌, ◌^◌, List, [], ◌∷◌, length, get_or, drop, map, Result, Err, inl, inr, subst, take, ◌-◌, arith}
 use Rattle.std.specs.Char.{IsAsciiDigit}
 use Rattle.std.specs.List.{All}
 use Rattle.std.specs.Str.Parse.{AllDigits, digits_value, ParsesUnsigned}
@@ -7,8 +7,7 @@ use Rattle.std.proofs.lemmas.Str.Parse.{IsNumeralModel, numerals_by_value, tells
 use Rattle.std.proofs.lemmas.List.Elements.{All-head, All-tail}
 use Rattle.std.proofs.lemmas.List.{take_rest}
 use Rattle.limits.specs.declared.numbers.TheConstants.{MOST_MOVES}
-use Rattle.desk_words.specs.Order.{IsCommand, IsNaturalText, KeepOrdered, Ordered, OrderedBehind, ReadsNumber}
-use Rattle.desk_words.specs.declared.order.Command.{Command}
+use Rattle.desk_words.specs.Order.{IsNaturalText, Asks, Ordered, OrderedBy, ReadsNumber, moves_name_and_budget, rows}
 use Rattle.desk_words.specs.declared.order.Order.{Order}
 use Rattle.desk_words.specs.declared.order.UsageWhy.{UsageWhy}
 
@@ -33,22 +32,22 @@ no_number word why text parsed small =
     let shape = natural_digits word text in
     parse_plain digits_model 64 word (Err why) parsed shape.2 (shape.0, shape.1, small)
 
--- what the words order whose first names this command, or none
-pub behind : {A : Type 0} (f : A → List ℕ) (answer : Result Order UsageWhy) (command : Option Command) (words : List A) (first : A) → 1 ≤ length words
-    → first ≡ get_or words 0 first → IsCommand (f first) command → OrderedBehind command (map f (take (length words - 1) (drop 1 words))) answer
-    → Ordered (map f words) answer
-behind f answer command [] first some at is says = absurd (omega arith)
-behind {A} f answer command (head ∷ words) first some at is says =
-    let P : List A → Type 0 = λ rest. OrderedBehind command (map f rest) answer in
-    let Q : A → Type 0 = λ word. IsCommand (f word) command in (command, subst Q at is, subst P (take_rest (head ∷ words) 1) says)
+-- what words order is what they order behind the first of them
+pub behind : {A : Type 0} (f : A → List ℕ) (answer : Result Order UsageWhy) (words : List A) (first : A) → 1 ≤ length words
+    → first ≡ get_or words 0 first → OrderedBy rows (f first) (map f (take (length words - 1) (drop 1 words))) answer → Ordered (map f words) answer
+behind f answer [] first some at says = absurd (omega arith)
+behind {A} f answer (head ∷ words) first some at says =
+    let P : List A → Type 0 = λ rest. OrderedBy rows (f head) (map f rest) answer in
+    let Q : A → Type 0 = λ word. OrderedBy rows (f word) (map f (take (length (head ∷ words) - 1) (drop 1 (head ∷ words)))) answer in
+    subst P (take_rest (head ∷ words) 1) (subst Q at says)
 
--- three words behind `keep` whose first is no number of moves
-pub keep_refused : {A : Type 0} (f : A → List ℕ) (answer : Result Order UsageWhy) (why : UsageWhy) (words : List A) (first : A) → 3 ≤ length words
+-- three words of which the first is to be a number of moves, and is none
+pub moves_refused : {A : Type 0} (f : A → List ℕ) (answer : Result (ℕ × ℕ) UsageWhy) (why : UsageWhy) (words : List A) (first : A) → 3 ≤ length words
     → length words < 4 → first ≡ get_or words 0 first → ReadsNumber (f first) 0 MOST_MOVES (Err why) → answer ≡ Err why
-    → KeepOrdered (map f words) answer
-keep_refused f answer why [] first low high at reads is = absurd (omega arith)
-keep_refused f answer why (a ∷ []) first low high at reads is = absurd (omega arith)
-keep_refused f answer why (a ∷ b ∷ []) first low high at reads is = absurd (omega arith)
-keep_refused {A} f answer why (a ∷ b ∷ c ∷ []) first low high at reads is =
+    → Asks moves_name_and_budget (map f words) answer
+moves_refused f answer why [] first low high at reads is = absurd (omega arith)
+moves_refused f answer why (a ∷ []) first low high at reads is = absurd (omega arith)
+moves_refused f answer why (a ∷ b ∷ []) first low high at reads is = absurd (omega arith)
+moves_refused {A} f answer why (a ∷ b ∷ c ∷ []) first low high at reads is =
     let P : A → Type 0 = λ w. ReadsNumber (f w) 0 MOST_MOVES (Err why) in (Err why, subst P at reads, is)
-keep_refused f answer why (a ∷ b ∷ c ∷ d ∷ words) first low high at reads is = absurd (omega arith)
+moves_refused f answer why (a ∷ b ∷ c ∷ d ∷ words) first low high at reads is = absurd (omega arith)

@@ -1,13 +1,13 @@
 -- What words order.
-use Rattle.std.specs.Prelude.{◌≡◌, ◌≢◌, ◌⊎◌, ℕ, ◌-◌, ◌^◌, ◌≤◌, List, [], ◌∷◌, length, Option, Some, None, Result, Ok, Err, String, codes, map, slice_get, string_bytes}
+use Rattle.std.specs.Prelude.{◌≡◌, ◌≢◌, ◌⊎◌, ℕ, ◌-◌, ◌^◌, ◌≤◌, Bool, true, false, List, [], ◌∷◌, length, Option, Some, None, Result, Ok, Err, String, codes, map, slice_get, string_bytes}
 use Rattle.std.specs.Char.{IsAsciiDigit}
 use Rattle.std.specs.declared.alloc.Global.{Global}
 use Rattle.std.specs.List.{All}
 use Rattle.std.specs.Str.Parse.{digits_value}
 use Rattle.limits.specs.declared.numbers.TheConstants.{MOST_MOVES, MOST_STATES}
 use Rattle.desk_words.specs.declared.order.TheConstants.{DEFAULT_STATES}
-use Rattle.desk_words.specs.declared.order.Command.{Command}
-use Rattle.desk_words.specs.declared.order.Command.TheVariants as commands
+use Rattle.desk_words.specs.declared.order.Asked.{Asked}
+use Rattle.desk_words.specs.declared.order.Asked.TheVariants as asked
 use Rattle.desk_words.specs.declared.order.Order.{Order}
 use Rattle.desk_words.specs.declared.order.Order.TheVariants.{Decide, Least, First, Play, Keep, Check, Resume, Show, Drill, Arith}
 use Rattle.desk_words.specs.declared.order.TextOrder.{TextOrder}
@@ -53,24 +53,6 @@ abbrev pub WithNumber : {A : Type 0} → List ℕ → ℕ → ℕ → Result A U
 WithNumber word low high answer go_on =
     (number : Result ℕ UsageWhy) × ReadsNumber word low high number × FromNumber number answer go_on
 
--- the number of moves that the first word is, and the budget that the second is, if there is one
-abbrev pub ReadsMoves : List (List ℕ) → Result (ℕ × ℕ) UsageWhy → Type 0
-ReadsMoves [] asked = asked ≡ Err Count
-ReadsMoves (moves ∷ []) asked = WithNumber moves 0 MOST_MOVES asked (λ n. asked ≡ Ok (n, DEFAULT_STATES))
-ReadsMoves (moves ∷ budget ∷ []) asked =
-    WithNumber moves 0 MOST_MOVES asked (λ n. WithNumber budget 1 MOST_STATES asked (λ b. asked ≡ Ok (n, b)))
-ReadsMoves (moves ∷ budget ∷ word ∷ words) asked = asked ≡ Err Count
-
--- the order for a number of moves and a budget, or the reason why there is none
-abbrev pub order_for : (ℕ → ℕ → Order) → Result (ℕ × ℕ) UsageWhy → Result Order UsageWhy
-order_for order (Ok (moves, budget)) = Ok (order moves budget)
-order_for order (Err why) = Err why
-
--- what the words behind a command order that takes a number of moves and a budget
-abbrev pub MovesOrdered : (ℕ → ℕ → Order) → List (List ℕ) → Result Order UsageWhy → Type 0
-MovesOrdered order words answer =
-    (asked : Result (ℕ × ℕ) UsageWhy) × ReadsMoves words asked × (answer ≡ order_for order asked)
-
 -- a small letter, a digit, or _
 abbrev pub IsNameByte : ℕ → Type 0
 IsNameByte byte = ((97 ≤ byte) × (byte ≤ 122)) ⊎ IsAsciiDigit byte ⊎ (byte ≡ 95)
@@ -90,105 +72,126 @@ ReadsName word (Err why) = (¬ IsName word) × (why ≡ Name)
 abbrev pub WithName : {A : Type 0} → List ℕ → Result A UsageWhy → (go_on : Type 0) → Type 0
 WithName word answer go_on = ((¬ IsName word) × (answer ≡ Err Name)) ⊎ (IsName word × go_on)
 
--- what the words behind `keep` order: a number of moves, a name, and a budget, if there is one
-abbrev pub KeepOrdered : List (List ℕ) → Result Order UsageWhy → Type 0
-KeepOrdered [] answer = answer ≡ Err Count
-KeepOrdered (moves ∷ []) answer = answer ≡ Err Count
-KeepOrdered (moves ∷ name ∷ []) answer =
-    WithNumber moves 0 MOST_MOVES answer (λ n. WithName name answer (answer ≡ Ok (Keep n DEFAULT_STATES)))
-KeepOrdered (moves ∷ name ∷ budget ∷ []) answer =
-    WithNumber moves 0 MOST_MOVES answer
-    (λ n. WithName name answer (WithNumber budget 1 MOST_STATES answer (λ b. answer ≡ Ok (Keep n b))))
-KeepOrdered (moves ∷ name ∷ budget ∷ word ∷ words) answer = answer ≡ Err Count
+-- What may stand behind a command, word by word from the left, and what the words ask.
+pub data Words (A : Type 0) : Type 0 where
+  -- no further word
+  End : A → Words A
+  -- a number within these limits, and what may stand behind it
+  Numeral : (low high : ℕ) → (ℕ → Words A) → Words A
+  -- the name of a file, and what may stand behind it
+  Named : Words A → Words A
+  -- a budget, or no further word
+  Budgeted : (ℕ → A) → Words A
 
--- the budget behind the name that the first word is: the second word, if there is one
-abbrev pub ReadsFile : List (List ℕ) → Result ℕ UsageWhy → Type 0
-ReadsFile [] asked = asked ≡ Err Count
-ReadsFile (name ∷ []) asked = WithName name asked (asked ≡ Ok DEFAULT_STATES)
-ReadsFile (name ∷ budget ∷ []) asked = WithName name asked (WithNumber budget 1 MOST_STATES asked (λ b. asked ≡ Ok b))
-ReadsFile (name ∷ budget ∷ word ∷ words) asked = asked ≡ Err Count
+-- so many words may stand there
+abbrev pub are_so_many : {A : Type 0} → Words A → List (List ℕ) → Bool
+are_so_many (End a) [] = true
+are_so_many (End a) (word ∷ words) = false
+are_so_many (Numeral low high next) [] = false
+are_so_many (Numeral low high next) (word ∷ words) = are_so_many (next low) words
+are_so_many (Named next) [] = false
+are_so_many (Named next) (word ∷ words) = are_so_many next words
+are_so_many (Budgeted asked) [] = true
+are_so_many (Budgeted asked) (word ∷ []) = true
+are_so_many (Budgeted asked) (word ∷ other ∷ words) = false
 
--- the order for a budget, or the reason why there is none
-abbrev pub file_order_for : (ℕ → Order) → Result ℕ UsageWhy → Result Order UsageWhy
-file_order_for order (Ok budget) = Ok (order budget)
-file_order_for order (Err why) = Err why
+-- what the words ask, or the first reason from the left why they ask nothing
+abbrev pub ReadsWords : {A : Type 0} → Words A → List (List ℕ) → Result A UsageWhy → Type 0
+ReadsWords (End a) words answer = answer ≡ Ok a
+ReadsWords (Numeral low high next) [] answer = answer ≡ Err Count
+ReadsWords (Numeral low high next) (word ∷ words) answer =
+    WithNumber word low high answer (λ n. ReadsWords (next n) words answer)
+ReadsWords (Named next) [] answer = answer ≡ Err Count
+ReadsWords (Named next) (word ∷ words) answer = WithName word answer (ReadsWords next words answer)
+ReadsWords (Budgeted asked) [] answer = answer ≡ Ok (asked DEFAULT_STATES)
+ReadsWords (Budgeted asked) (word ∷ words) answer =
+    WithNumber word 1 MOST_STATES answer (λ b. answer ≡ Ok (asked b))
 
--- what the words behind a command order that takes a name and a budget
-abbrev pub FileOrdered : (ℕ → Order) → List (List ℕ) → Result Order UsageWhy → Type 0
-FileOrdered order words answer =
-    (asked : Result ℕ UsageWhy) × ReadsFile words asked × (answer ≡ file_order_for order asked)
+abbrev pub IfSoMany : Bool → {A : Type 0} → Result A UsageWhy → (reads : Type 0) → Type 0
+IfSoMany true answer reads = reads
+IfSoMany false answer reads = answer ≡ Err Count
 
--- what the words behind `show` order
-abbrev pub ShowOrdered : List (List ℕ) → Result Order UsageWhy → Type 0
-ShowOrdered [] answer = answer ≡ Ok Show
-ShowOrdered (word ∷ words) answer = answer ≡ Err Count
+-- what the words ask, where so many may stand there
+abbrev pub Asks : {A : Type 0} → Words A → List (List ℕ) → Result A UsageWhy → Type 0
+Asks may words answer = IfSoMany (are_so_many may words) answer (ReadsWords may words answer)
 
--- what the words behind `drill` order
-abbrev pub DrillOrdered : List (List ℕ) → Result Order UsageWhy → Type 0
-DrillOrdered [] answer = answer ≡ Err Count
-DrillOrdered (seed ∷ []) answer = answer ≡ Err Count
-DrillOrdered (seed ∷ count ∷ []) answer =
-    WithNumber seed 0 most_seed answer (λ s. WithNumber count 0 most_positions answer (λ k. answer ≡ Ok (Drill s k)))
-DrillOrdered (seed ∷ count ∷ word ∷ words) answer = answer ≡ Err Count
+-- the order for what is asked, or the reason why nothing is
+abbrev pub order_for : {A : Type 0} → (A → Order) → Result A UsageWhy → Result Order UsageWhy
+order_for order (Ok asked) = Ok (order asked)
+order_for order (Err why) = Err why
 
--- what the words behind `arith` order: a budget, if there is one
-abbrev pub ArithOrdered : List (List ℕ) → Result Order UsageWhy → Type 0
-ArithOrdered [] answer = answer ≡ Ok (Arith DEFAULT_STATES)
-ArithOrdered (budget ∷ []) answer = WithNumber budget 1 MOST_STATES answer (λ b. answer ≡ Ok (Arith b))
-ArithOrdered (budget ∷ word ∷ words) answer = answer ≡ Err Count
+-- a number of moves, and a budget
+abbrev pub moves_and_budget : Words (ℕ × ℕ)
+moves_and_budget = Numeral 0 MOST_MOVES (λ moves. Budgeted (λ budget. (moves, budget)))
 
--- the name of a command
-abbrev pub name_of : Command → List ℕ
-name_of commands.Decide = codes "decide"
-name_of commands.Least = codes "least"
-name_of commands.First = codes "first"
-name_of commands.Play = codes "play"
-name_of commands.Keep = codes "keep"
-name_of commands.Check = codes "check"
-name_of commands.Resume = codes "resume"
-name_of commands.Show = codes "show"
-name_of commands.Drill = codes "drill"
-name_of commands.Arith = codes "arith"
+-- a number of moves, a name, and a budget
+abbrev pub moves_name_and_budget : Words (ℕ × ℕ)
+moves_name_and_budget = Numeral 0 MOST_MOVES (λ moves. Named (Budgeted (λ budget. (moves, budget))))
 
--- the command that the word names, or that it names none
-abbrev pub IsCommand : List ℕ → Option Command → Type 0
-IsCommand word (Some command) = word ≡ name_of command
-IsCommand word None = (command : Command) → word ≢ name_of command
+-- a name, and a budget
+abbrev pub name_and_budget : Words ℕ
+name_and_budget = Named (Budgeted (λ budget. budget))
 
--- what the words behind a command order
-abbrev pub OrderedBy : Command → List (List ℕ) → Result Order UsageWhy → Type 0
-OrderedBy commands.Decide words answer = MovesOrdered (λ moves budget. Decide moves budget) words answer
-OrderedBy commands.Least words answer = MovesOrdered (λ limit budget. Least limit budget) words answer
-OrderedBy commands.First words answer = MovesOrdered (λ moves budget. First moves budget) words answer
-OrderedBy commands.Play words answer = MovesOrdered (λ moves budget. Play moves budget) words answer
-OrderedBy commands.Keep words answer = KeepOrdered words answer
-OrderedBy commands.Check words answer = FileOrdered (λ budget. Check budget) words answer
-OrderedBy commands.Resume words answer = FileOrdered (λ budget. Resume budget) words answer
-OrderedBy commands.Show words answer = ShowOrdered words answer
-OrderedBy commands.Drill words answer = DrillOrdered words answer
-OrderedBy commands.Arith words answer = ArithOrdered words answer
+-- a budget alone
+abbrev pub budget_alone : Words ℕ
+budget_alone = Budgeted (λ budget. budget)
 
-abbrev pub OrderedBehind : Option Command → List (List ℕ) → Result Order UsageWhy → Type 0
-OrderedBehind (Some command) words answer = OrderedBy command words answer
-OrderedBehind None words answer = answer ≡ Err Unknown
+-- no word
+abbrev pub no_words : Words (Unit {0})
+no_words = End tt
+
+-- a seed, and a number of positions
+abbrev pub seed_and_count : Words (ℕ × ℕ)
+seed_and_count = Numeral 0 most_seed (λ seed. Numeral 0 most_positions (λ count. End (seed, count)))
+
+-- a command: its name, what may stand behind it, and what is ordered so
+pub record Row : Type 1 where
+  pub name : List ℕ
+  pub Told : Type 0
+  pub words : Words Told
+  pub order : Told → Order
+
+abbrev pub row : List ℕ → {A : Type 0} → Words A → (A → Order) → Row
+row name {A} words order = record { name = name; Told = A; words = words; order = order }
+
+-- the commands, a row each
+abbrev pub rows : List Row
+rows =
+    row (codes "decide") moves_and_budget (λ asked. Decide asked.0 asked.1)
+    ∷ row (codes "least") moves_and_budget (λ asked. Least asked.0 asked.1)
+    ∷ row (codes "first") moves_and_budget (λ asked. First asked.0 asked.1)
+    ∷ row (codes "play") moves_and_budget (λ asked. Play asked.0 asked.1)
+    ∷ row (codes "keep") moves_name_and_budget (λ asked. Keep asked.0 asked.1)
+    ∷ row (codes "check") name_and_budget (λ budget. Check budget)
+    ∷ row (codes "resume") name_and_budget (λ budget. Resume budget)
+    ∷ row (codes "show") no_words (λ asked. Show)
+    ∷ row (codes "drill") seed_and_count (λ asked. Drill asked.0 asked.1)
+    ∷ row (codes "arith") budget_alone (λ budget. Arith budget)
+    ∷ []
+
+-- what words order, where they ask this
+abbrev pub OrdersAs : {A : Type 0} → Words A → (A → Order) → List (List ℕ) → Result Order UsageWhy → Type 0
+OrdersAs {A} may order words answer =
+    (asked : Result A UsageWhy) × Asks may words asked × (answer ≡ order_for order asked)
+
+-- what words order behind the name of one of these commands, or that it is the name of none
+abbrev pub OrderedBy : List Row → (name : List ℕ) → List (List ℕ) → Result Order UsageWhy → Type 0
+OrderedBy [] name words answer = answer ≡ Err Unknown
+OrderedBy (first ∷ others) name words answer =
+    ((name ≡ first.name) × OrdersAs first.words first.order words answer)
+    ⊎ ((name ≢ first.name) × OrderedBy others name words answer)
 
 -- what words order, or the first reason why they are no order
 abbrev pub Ordered : List (List ℕ) → Result Order UsageWhy → Type 0
 Ordered [] answer = answer ≡ Err NoCommand
-Ordered (word ∷ words) answer = (command : Option Command) × IsCommand word command × OrderedBehind command words answer
+Ordered (word ∷ words) answer = OrderedBy rows word words answer
 
 -- the name of the file that an order is of, if it is of one: the third of its words, or the second
 abbrev pub name_in : Order → (words : List (List ℕ)) → Option (List ℕ)
-name_in (Decide moves budget) words = None
-name_in (Least limit budget) words = None
-name_in (First moves budget) words = None
-name_in (Play moves budget) words = None
 name_in (Keep moves budget) words = slice_get words 2
 name_in (Check budget) words = slice_get words 1
 name_in (Resume budget) words = slice_get words 1
-name_in Show words = None
-name_in (Drill seed count) words = None
-name_in (Arith budget) words = None
+name_in order words = None
 
 -- an order of a text as an order
 abbrev pub as_order : TextOrder → Order
@@ -201,17 +204,26 @@ as_order text_orders.Show = Show
 
 -- the words have the name of an order of a text, if it has one
 abbrev pub HasName : TextOrder → (words : List (List ℕ)) → Type 0
-HasName (text_orders.Decide moves budget) words = Unit {0}
-HasName (text_orders.Least limit budget) words = Unit {0}
-HasName (text_orders.First moves budget) words = Unit {0}
-HasName (text_orders.Play moves budget) words = Unit {0}
 HasName (text_orders.Keep moves budget name) words = name_in (Keep moves budget) words ≡ Some name.now
-HasName text_orders.Show words = Unit {0}
+HasName order words = Unit {0}
 
 -- the words are that order
 pub record IsOrderOf (o : TextOrder) (words : List (List ℕ)) : Type 0 where
   pub ordered : Ordered words (Ok (as_order o))
   pub named : HasName o words
+
+-- the words are an order of the file of this name
+pub record IsOfFile (order : Order) (name : List ℕ) (words : List (List ℕ)) : Type 0 where
+  pub ordered : Ordered words (Ok order)
+  pub named : name_in order words ≡ Some name
+
+-- the words ask this
+abbrev pub IsAsked : Asked → (words : List (List ℕ)) → Type 0
+IsAsked (asked.Text order) words = IsOrderOf order words
+IsAsked (asked.Check name budget) words = IsOfFile (Check budget) name.now words
+IsAsked (asked.Resume name budget) words = IsOfFile (Resume budget) name.now words
+IsAsked (asked.Drill seed count) words = Ordered words (Ok (Drill seed count))
+IsAsked (asked.Arith budget) words = Ordered words (Ok (Arith budget))
 
 -- the numbers of an order are within their limits
 abbrev pub IsWithinLimits : Order → Type 0
@@ -220,11 +232,13 @@ IsWithinLimits (Least limit budget) = limit ≤ MOST_MOVES
 IsWithinLimits (First moves budget) = moves ≤ MOST_MOVES
 IsWithinLimits (Play moves budget) = moves ≤ MOST_MOVES
 IsWithinLimits (Keep moves budget) = moves ≤ MOST_MOVES
-IsWithinLimits (Check budget) = Unit {0}
-IsWithinLimits (Resume budget) = Unit {0}
-IsWithinLimits Show = Unit {0}
 IsWithinLimits (Drill seed count) = (seed ≤ most_seed) × (count ≤ most_positions)
-IsWithinLimits (Arith budget) = Unit {0}
+IsWithinLimits order = Unit {0}
+
+-- so are those of an order of a text
+abbrev pub IsAskedWithin : Asked → Type 0
+IsAskedWithin (asked.Text order) = IsWithinLimits (as_order order)
+IsAskedWithin other = Unit {0}
 
 -- the fault line of words that are no order
 abbrev pub usage_line : UsageWhy → List ℕ

@@ -3,6 +3,4 @@
 
 mod order;
 
-pub use order::{
-    DEFAULT_STATES, FILE_NAME, KEEP_NAME, Order, TextOrder, UsageWhy, order_of, word_at,
-};
+pub use order::{Asked, DEFAULT_STATES, Order, TextOrder, UsageWhy, order_of};

@@ -1,9 +1,9 @@
 //! The words of a command line.
 
-ghost use Rattle.std.specs.Prelude.{◌≡◌, ◌↔◌, ◌<◌, ◌≤◌, slice_get, length, Some, IsTrue, IfOk};
+ghost use Rattle.std.specs.Prelude.{◌≡◌, ◌↔◌, ◌<◌, ◌≤◌, slice_get, length, Ok, Some, IsTrue, IfOk};
 ghost use Rattle.std.specs.Char.{IsAsciiDigit};
 ghost use Rattle.std.specs.List.{All};
-ghost use Rattle.desk_words.specs.Order.{ArithOrdered, DrillOrdered, FileOrdered, IsCommand, IsName, IsNameByte, IsNaturalText, IsWithinLimits, KeepOrdered, MovesOrdered, Ordered, OrderedBy, ReadsFile, ReadsMoves, ReadsName, ReadsNumber, ShowOrdered, most_seed, texts, usage_line};
+ghost use Rattle.desk_words.specs.Order.{Asks, IsAsked, IsAskedWithin, IsName, IsNameByte, IsNaturalText, IsWithinLimits, Ordered, OrderedBy, OrdersAs, ReadsName, ReadsNumber, budget_alone, most_seed, moves_and_budget, moves_name_and_budget, name_and_budget, no_words, rows, seed_and_count, texts, usage_line};
 
 use limits::{Budget, MOST_MOVES, MOST_STATES};
 
@@ -17,10 +17,10 @@ const MOST_POSITIONS: u64 = 100;
 const MOST_NAME_BYTES: usize = 32;
 
 /// Where the name stands among the words of `keep`, counted from 0.
-pub const KEEP_NAME: usize = 2;
+const KEEP_NAME: usize = 2;
 
 /// Where it stands among those of `check` and of `resume`.
-pub const FILE_NAME: usize = 1;
+const FILE_NAME: usize = 1;
 
 /// What is to be done.
 #[derive(Clone, Copy, PartialEq, Eq)]
@@ -74,6 +74,57 @@ pub enum TextOrder<'a> {
     Show,
 }
 
+/// An order, with the name that its words have, by what it is of.
+#[derive(Clone, Copy)]
+pub enum Asked<'a> {
+    /// Of the position text at the front of the input.
+    Text(TextOrder<'a>),
+    /// That the file of the name be checked.
+    Check { name: &'a str, budget: Budget },
+    /// That the game be played by the file of the name.
+    Resume { name: &'a str, budget: Budget },
+    /// Of positions that follow from the seed.
+    Drill { seed: u64, count: u8 },
+    /// Of the formula that the first line is.
+    Arith { budget: Budget },
+}
+
+impl Order {
+    /// What the words ask, which are this order.
+    pub fn asked(self, words: &Vec<String>) -> Asked
+        requires ordered { Ordered (texts words.now.items) (Ok self) }
+        requires within { IsWithinLimits self }
+        ensures asked { IsAsked result (texts words.now.items) }
+        ensures within { IsAskedWithin result }
+    {
+        match self {
+            Order::Decide { moves, budget } => Asked::Text(TextOrder::Decide { moves, budget }),
+            Order::Least { limit, budget } => Asked::Text(TextOrder::Least { limit, budget }),
+            Order::First { moves, budget } => Asked::Text(TextOrder::First { moves, budget }),
+            Order::Play { moves, budget } => Asked::Text(TextOrder::Play { moves, budget }),
+            Order::Keep { moves, budget } => {
+                let name = word_at(words, KEEP_NAME);
+                Asked::Text(TextOrder::Keep {
+                    moves,
+                    budget,
+                    name,
+                })
+            }
+            Order::Check { budget } => {
+                let name = word_at(words, FILE_NAME);
+                Asked::Check { name, budget }
+            }
+            Order::Resume { budget } => {
+                let name = word_at(words, FILE_NAME);
+                Asked::Resume { name, budget }
+            }
+            Order::Show => Asked::Text(TextOrder::Show),
+            Order::Drill { seed, count } => Asked::Drill { seed, count },
+            Order::Arith { budget } => Asked::Arith { budget },
+        }
+    }
+}
+
 /// Why words are no order. Words are looked at from the left.
 #[derive(Clone, Copy, PartialEq, Eq)]
 pub enum UsageWhy {
@@ -114,87 +165,33 @@ pub fn order_of(words: &Vec<String>) -> Result<Order, UsageWhy>
 {
     match words.as_slice() {
         [] => Err(UsageWhy::NoCommand),
-        [word, rest @ ..] => match command_named(word.as_str()) {
-            Some(command) => order_behind(command, rest),
-            None => Err(UsageWhy::Unknown),
-        },
+        [word, rest @ ..] => order_named(word.as_str(), rest),
     }
 }
 
-/// What a first word can be.
-#[derive(Clone, Copy, PartialEq, Eq)]
-enum Command {
-    Decide,
-    Least,
-    First,
-    Play,
-    Keep,
-    Check,
-    Resume,
-    Show,
-    Drill,
-    Arith,
-}
-
-/// The command of this name.
-fn command_named(word: &str) -> Option<Command>
-    ensures { IsCommand word.now result }
-{
-    if word == "decide" {
-        return Some(Command::Decide);
-    }
-    if word == "least" {
-        return Some(Command::Least);
-    }
-    if word == "first" {
-        return Some(Command::First);
-    }
-    if word == "play" {
-        return Some(Command::Play);
-    }
-    if word == "keep" {
-        return Some(Command::Keep);
-    }
-    if word == "check" {
-        return Some(Command::Check);
-    }
-    if word == "resume" {
-        return Some(Command::Resume);
-    }
-    if word == "show" {
-        return Some(Command::Show);
-    }
-    if word == "drill" {
-        return Some(Command::Drill);
-    }
-    if word == "arith" {
-        return Some(Command::Arith);
-    }
-    None
-}
-
-/// The order that the words behind the command are.
-fn order_behind(command: Command, words: &[String]) -> Result<Order, UsageWhy>
-    ensures ordered { OrderedBy command (texts words.now) result }
+/// The order that the words behind a name are, which is to be that of a command.
+fn order_named(name: &str, words: &[String]) -> Result<Order, UsageWhy>
+    ensures ordered { OrderedBy rows name.now (texts words.now) result }
     ensures within { IfOk result IsWithinLimits }
 {
-    match command {
-        Command::Decide => decide_order(words),
-        Command::Least => least_order(words),
-        Command::First => first_order(words),
-        Command::Play => play_order(words),
-        Command::Keep => keep_order(words),
-        Command::Check => check_order(words),
-        Command::Resume => resume_order(words),
-        Command::Show => show_order(words),
-        Command::Drill => drill_order(words),
-        Command::Arith => arith_order(words),
+    match name.as_bytes() {
+        b"decide" => decide_order(words),
+        b"least" => least_order(words),
+        b"first" => first_order(words),
+        b"play" => play_order(words),
+        b"keep" => keep_order(words),
+        b"check" => check_order(words),
+        b"resume" => resume_order(words),
+        b"show" => show_order(words),
+        b"drill" => drill_order(words),
+        b"arith" => arith_order(words),
+        _ => Err(UsageWhy::Unknown),
     }
 }
 
 /// The order that the words behind `decide` are.
 fn decide_order(words: &[String]) -> Result<Order, UsageWhy>
-    ensures ordered { MovesOrdered (λ moves budget. Order.Decide moves budget) (texts words.now) result }
+    ensures ordered { OrdersAs moves_and_budget (λ asked. Order.Decide asked.0 asked.1) (texts words.now) result }
     ensures within { IfOk result IsWithinLimits }
 {
     let (moves, budget) = read_moves_and_budget(words)?;
@@ -203,7 +200,7 @@ fn decide_order(words: &[String]) -> Result<Order, UsageWhy>
 
 /// The order that the words behind `least` are.
 fn least_order(words: &[String]) -> Result<Order, UsageWhy>
-    ensures ordered { MovesOrdered (λ limit budget. Order.Least limit budget) (texts words.now) result }
+    ensures ordered { OrdersAs moves_and_budget (λ asked. Order.Least asked.0 asked.1) (texts words.now) result }
     ensures within { IfOk result IsWithinLimits }
 {
     let (limit, budget) = read_moves_and_budget(words)?;
@@ -212,7 +209,7 @@ fn least_order(words: &[String]) -> Result<Order, UsageWhy>
 
 /// The order that the words behind `first` are.
 fn first_order(words: &[String]) -> Result<Order, UsageWhy>
-    ensures ordered { MovesOrdered (λ moves budget. Order.First moves budget) (texts words.now) result }
+    ensures ordered { OrdersAs moves_and_budget (λ asked. Order.First asked.0 asked.1) (texts words.now) result }
     ensures within { IfOk result IsWithinLimits }
 {
     let (moves, budget) = read_moves_and_budget(words)?;
@@ -221,7 +218,7 @@ fn first_order(words: &[String]) -> Result<Order, UsageWhy>
 
 /// The order that the words behind `play` are.
 fn play_order(words: &[String]) -> Result<Order, UsageWhy>
-    ensures ordered { MovesOrdered (λ moves budget. Order.Play moves budget) (texts words.now) result }
+    ensures ordered { OrdersAs moves_and_budget (λ asked. Order.Play asked.0 asked.1) (texts words.now) result }
     ensures within { IfOk result IsWithinLimits }
 {
     let (moves, budget) = read_moves_and_budget(words)?;
@@ -230,49 +227,93 @@ fn play_order(words: &[String]) -> Result<Order, UsageWhy>
 
 /// The order that the words behind `keep` are.
 fn keep_order(words: &[String]) -> Result<Order, UsageWhy>
-    ensures ordered { KeepOrdered (texts words.now) result }
+    ensures ordered { OrdersAs moves_name_and_budget (λ asked. Order.Keep asked.0 asked.1) (texts words.now) result }
     ensures within { IfOk result IsWithinLimits }
 {
-    match words {
-        [moves, name] => {
-            let moves = read_moves(moves.as_str())?;
-            read_name(name.as_str())?;
-            Ok(Order::Keep {
-                moves,
-                budget: default_budget(),
-            })
-        }
-        [moves, name, budget] => {
-            let moves = read_moves(moves.as_str())?;
-            read_name(name.as_str())?;
-            let budget = read_budget(budget.as_str())?;
-            Ok(Order::Keep { moves, budget })
-        }
-        _ => Err(UsageWhy::Count),
-    }
+    let (moves, budget) = read_moves_name_and_budget(words)?;
+    Ok(Order::Keep { moves, budget })
 }
 
 /// The order that the words behind `check` are.
 fn check_order(words: &[String]) -> Result<Order, UsageWhy>
-    ensures ordered { FileOrdered (λ budget. Order.Check budget) (texts words.now) result }
+    ensures ordered { OrdersAs name_and_budget (λ budget. Order.Check budget) (texts words.now) result }
     ensures within { IfOk result IsWithinLimits }
 {
-    let budget = read_file_budget(words)?;
+    let budget = read_name_and_budget(words)?;
     Ok(Order::Check { budget })
 }
 
 /// The order that the words behind `resume` are.
 fn resume_order(words: &[String]) -> Result<Order, UsageWhy>
-    ensures ordered { FileOrdered (λ budget. Order.Resume budget) (texts words.now) result }
+    ensures ordered { OrdersAs name_and_budget (λ budget. Order.Resume budget) (texts words.now) result }
     ensures within { IfOk result IsWithinLimits }
 {
-    let budget = read_file_budget(words)?;
+    let budget = read_name_and_budget(words)?;
     Ok(Order::Resume { budget })
 }
 
-/// The budget behind the name that the first word is, if there is one.
-fn read_file_budget(words: &[String]) -> Result<Budget, UsageWhy>
-    ensures { ReadsFile (texts words.now) result }
+/// The order that the words behind `show` are.
+fn show_order(words: &[String]) -> Result<Order, UsageWhy>
+    ensures ordered { OrdersAs no_words (λ asked. Order.Show) (texts words.now) result }
+    ensures within { IfOk result IsWithinLimits }
+{
+    read_no_words(words)?;
+    Ok(Order::Show)
+}
+
+/// The order that the words behind `drill` are.
+fn drill_order(words: &[String]) -> Result<Order, UsageWhy>
+    ensures ordered { OrdersAs seed_and_count (λ asked. Order.Drill asked.0 asked.1) (texts words.now) result }
+    ensures within { IfOk result IsWithinLimits }
+{
+    let (seed, count) = read_seed_and_count(words)?;
+    Ok(Order::Drill { seed, count })
+}
+
+/// The order that the words behind `arith` are.
+fn arith_order(words: &[String]) -> Result<Order, UsageWhy>
+    ensures ordered { OrdersAs budget_alone (λ budget. Order.Arith budget) (texts words.now) result }
+    ensures within { IfOk result IsWithinLimits }
+{
+    let budget = read_budget_alone(words)?;
+    Ok(Order::Arith { budget })
+}
+
+/// A number of moves, and a budget, if a word names one.
+fn read_moves_and_budget(words: &[String]) -> Result<(u8, Budget), UsageWhy>
+    ensures reads { Asks moves_and_budget (texts words.now) result }
+    ensures within { IfOk result (λ asked. asked.0 ≤ MOST_MOVES) }
+{
+    match words {
+        [moves] => Ok((read_moves(moves.as_str())?, default_budget())),
+        [moves, budget] => Ok((read_moves(moves.as_str())?, read_budget(budget.as_str())?)),
+        _ => Err(UsageWhy::Count),
+    }
+}
+
+/// A number of moves, a name, and a budget, if a word names one.
+fn read_moves_name_and_budget(words: &[String]) -> Result<(u8, Budget), UsageWhy>
+    ensures reads { Asks moves_name_and_budget (texts words.now) result }
+    ensures within { IfOk result (λ asked. asked.0 ≤ MOST_MOVES) }
+{
+    match words {
+        [moves, name] => {
+            let moves = read_moves(moves.as_str())?;
+            read_name(name.as_str())?;
+            Ok((moves, default_budget()))
+        }
+        [moves, name, budget] => {
+            let moves = read_moves(moves.as_str())?;
+            read_name(name.as_str())?;
+            Ok((moves, read_budget(budget.as_str())?))
+        }
+        _ => Err(UsageWhy::Count),
+    }
+}
+
+/// A name, and a budget, if a word names one.
+fn read_name_and_budget(words: &[String]) -> Result<Budget, UsageWhy>
+    ensures { Asks name_and_budget (texts words.now) result }
 {
     match words {
         [name] => {
@@ -287,57 +328,37 @@ fn read_file_budget(words: &[String]) -> Result<Budget, UsageWhy>
     }
 }
 
-/// The number of moves that the first word is, and the budget that the second is, if there is one.
-fn read_moves_and_budget(words: &[String]) -> Result<(u8, Budget), UsageWhy>
-    ensures reads { ReadsMoves (texts words.now) result }
-    ensures within { IfOk result (λ asked. asked.0 ≤ MOST_MOVES) }
+/// A budget, if a word names one.
+fn read_budget_alone(words: &[String]) -> Result<Budget, UsageWhy>
+    ensures { Asks budget_alone (texts words.now) result }
 {
     match words {
-        [moves] => Ok((read_moves(moves.as_str())?, default_budget())),
-        [moves, budget] => Ok((read_moves(moves.as_str())?, read_budget(budget.as_str())?)),
+        [] => Ok(default_budget()),
+        [budget] => read_budget(budget.as_str()),
         _ => Err(UsageWhy::Count),
     }
 }
 
-/// The order that the words behind `show` are.
-fn show_order(words: &[String]) -> Result<Order, UsageWhy>
-    ensures ordered { ShowOrdered (texts words.now) result }
-    ensures within { IfOk result IsWithinLimits }
+/// A seed, and a number of positions.
+fn read_seed_and_count(words: &[String]) -> Result<(u64, u8), UsageWhy>
+    ensures reads { Asks seed_and_count (texts words.now) result }
+    ensures seed { IfOk result (λ asked. asked.0 ≤ most_seed) }
+    ensures count { IfOk result (λ asked. asked.1 ≤ 100) }
+{
+    match words {
+        [seed, count] => Ok((read_seed(seed.as_str())?, read_count(count.as_str())?)),
+        _ => Err(UsageWhy::Count),
+    }
+}
+
+/// No word.
+fn read_no_words(words: &[String]) -> Result<(), UsageWhy>
+    ensures { Asks no_words (texts words.now) result }
 {
     if words.is_empty() {
-        Ok(Order::Show)
+        Ok(())
     } else {
         Err(UsageWhy::Count)
-    }
-}
-
-/// The order that the words behind `drill` are.
-fn drill_order(words: &[String]) -> Result<Order, UsageWhy>
-    ensures ordered { DrillOrdered (texts words.now) result }
-    ensures within { IfOk result IsWithinLimits }
-{
-    match words {
-        [seed, count] => Ok(Order::Drill {
-            seed: read_seed(seed.as_str())?,
-            count: read_count(count.as_str())?,
-        }),
-        _ => Err(UsageWhy::Count),
-    }
-}
-
-/// The order that the words behind `arith` are.
-fn arith_order(words: &[String]) -> Result<Order, UsageWhy>
-    ensures ordered { ArithOrdered (texts words.now) result }
-    ensures within { IfOk result IsWithinLimits }
-{
-    match words {
-        [] => Ok(Order::Arith {
-            budget: default_budget(),
-        }),
-        [budget] => Ok(Order::Arith {
-            budget: read_budget(budget.as_str())?,
-        }),
-        _ => Err(UsageWhy::Count),
     }
 }
 
@@ -447,7 +468,7 @@ fn is_name_byte(byte: u8) -> bool
 }
 
 /// The word at this place, counted from 0.
-pub fn word_at(words: &Vec<String>, index: usize) -> &str
+fn word_at(words: &Vec<String>, index: usize) -> &str
     requires { index < length words.now.items }
     ensures { slice_get (texts words.now.items) index ≡ Some result.now }
 {

@@ -14,7 +14,8 @@ use Rattle.game_session.specs.Choice.{Leads, Pick}
 use Rattle.game_session.specs.declared.choice.Choice.{Choice}
 use Rattle.white_player.specs.Game.{Game}
 use Rattle.game_report.specs.Laws.{seen, strategy_by}
-use Rattle.game_report.specs.Report.{AtLine, AtLines, AtLoser, AtTyped, AtWinner, ByClaim, IsReport, Match, Report, Unless, all_squares, most_lines}
+use Rattle.game_report.specs.Report.{AtLine, AtLines, AtLoser, AtTyped, AtWinner, ByClaim, IsReport, Match, Report, Unless, most_lines}
+use Rattle.game_session.specs.Squares.{all_squares}
 
 -- the game, where the winner plays by the claim
 abbrev pub by_claim : Claim → Match → Match

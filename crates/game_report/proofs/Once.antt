@@ -11,7 +11,8 @@ use Rattle.chess_text.specs.declared.replies.Typed.TheVariants as typed
 use Rattle.game_session.proofs.Once.{pick_once}
 use Rattle.game_session.specs.Choice.{target}
 use Rattle.game_session.specs.declared.choice.Choice.{Choice}
-use Rattle.game_report.specs.Report.{AtLine, AtLines, AtLoser, AtTyped, AtWinner, IsHeldBy, IsReport, IsTyped, Match, Report, Unless, all_squares, moved, most_lines, plays, writes}
+use Rattle.game_report.specs.Report.{AtLine, AtLines, AtLoser, AtTyped, AtWinner, IsHeldBy, IsReport, IsTyped, Match, Report, Unless, moved, most_lines, plays, writes}
+use Rattle.game_session.specs.Squares.{all_squares}
 
 typed_once : (line : List ℕ) (a b : Option Typed) → IsTyped line a → IsTyped line b → a ≡ b
 typed_once line None None h k = refl

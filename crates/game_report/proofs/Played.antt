@@ -17,7 +17,8 @@ use Rattle.game_session.specs.Choice.{target}
 use Rattle.white_player.specs.Game.{Game, Goes, IsGame, IsPicked, Plays, WinnerGoes, made_in, one_if_same, start_of}
 use Rattle.white_player.proofs.Games.{first_game, game_turn, game_within, held_reply, left_made, lost_in, picked_game, whole_game, winner_ply}
 use Rattle.game_report.specs.Laws.{first_seen, seen}
-use Rattle.game_report.specs.Report.{AtLine, AtLines, AtLoser, AtTyped, AtWinner, IsReport, Match, Report, Unless, all_squares, most_lines}
+use Rattle.game_report.specs.Report.{AtLine, AtLines, AtLoser, AtTyped, AtWinner, IsReport, Match, Report, Unless, most_lines}
+use Rattle.game_session.specs.Squares.{all_squares}
 use Rattle.game_report.specs.declared.play.Ending.TheVariants.{Mated}
 use Rattle.game_report.proofs.Strategies.{pick_told}
 

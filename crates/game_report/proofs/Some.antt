@@ -25,7 +25,8 @@ use Rattle.game_session.specs.declared.choice.Choice.{Choice}
 use Rattle.white_player.specs.Game.{Game, IsGame, moved_to}
 use Rattle.white_player.proofs.Games.{game_sound, held_move, held_next, held_reply, kept_set, next_held, table_of, winner_ply}
 use Rattle.game_report.specs.Laws.{seen}
-use Rattle.game_report.specs.Report.{AtLine, AtLines, AtLoser, AtTurn, AtTyped, AtWinner, IsReport, Match, Report, Unless, all_squares, ends, moved, most_lines, plays, writes}
+use Rattle.game_report.specs.Report.{AtLine, AtLines, AtLoser, AtTurn, AtTyped, AtWinner, IsReport, Match, Report, Unless, ends, moved, most_lines, plays, writes}
+use Rattle.game_session.specs.Squares.{all_squares}
 use Rattle.game_report.specs.declared.play.Ending.TheVariants.{CutAt, LongAt, Many, Mated, NoLine, Quit, Wide}
 use Rattle.game_report.proofs.Picking.{some_pick}
 use Rattle.game_report.proofs.Strategies.{pick_told}

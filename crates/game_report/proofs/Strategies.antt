@@ -10,7 +10,8 @@ use Rattle.game_session.specs.Choice.{Pick}
 use Rattle.game_session.specs.declared.choice.Choice.{Choice}
 use Rattle.white_player.specs.Game.{Game, WinPick}
 use Rattle.game_report.specs.Laws.{seen, strategy_by}
-use Rattle.game_report.specs.Report.{HeldPick, all_squares}
+use Rattle.game_report.specs.Report.{HeldPick}
+use Rattle.game_session.specs.Squares.{all_squares}
 
 pick_by : (o : Origin) (s : Solution) (p : Position) (ply : ℕ) (choice : Option Choice)
     → Pick (IsHeldOf o s (suc ply)) all_squares p choice

@@ -8,7 +8,8 @@ use Rattle.winning_sets.specs.Solve.{Solution}
 use Rattle.winning_sets.specs.declared.origin.Origin.{Origin}
 use Rattle.winning_sets.specs.declared.origin.Origin.TheVariants.{Plan, Claim as Claimed}
 use Rattle.white_player.specs.Game.{Game, IsGame, Plays, start_of}
-use Rattle.game_report.specs.Report.{AtLines, AtTurn, ByClaim, ByKept, IsReport, Match, Report, Strategy, all_squares}
+use Rattle.game_report.specs.Report.{AtLines, AtTurn, ByClaim, ByKept, IsReport, Match, Report, Strategy}
+use Rattle.game_session.specs.Squares.{all_squares}
 use Rattle.game_report.specs.declared.play.Ending.TheVariants.{Mated}
 
 -- by what the winner plays who has these sets

@@ -1,12 +1,11 @@
 -- What a run reports of a game whose winner plays, where each line that is read is a move of the other side.
-use Rattle.std.specs.Prelude.{◌≡◌, ◌⊎◌, ℕ, suc, ◌+◌, ◌-◌, ◌^◌, ◌==◌, List, [], ◌∷◌, ◌++◌, Bool, true, false, codes, Option, Some, None, pos, negsuc}
+use Rattle.std.specs.Prelude.{◌≡◌, ◌⊎◌, ℕ, suc, ◌+◌, ◌==◌, List, [], ◌∷◌, ◌++◌, Bool, true, false, codes, Option, Some, None}
 use Rattle.std.specs.Fmt.{decimal}
 use Rattle.desk_base.specs.Lines.{Lines, full, ended, cut, long}
 use Rattle.game_rules.specs.Game.{Position, Legal, Mate, other}
 use Rattle.game_rules.specs.declared.men.Side.{Side}
 use Rattle.game_rules.specs.declared.men.Side.TheVariants.{White, Black}
 use Rattle.chess_game.specs.declared.moves.Move.{Move}
-use Rattle.chess_game.specs.declared.way.Frame.{Frame}
 use Rattle.chess_text.specs.Replies.{IsReply, IsReplyRefusal, move_text}
 use Rattle.chess_text.specs.declared.replies.MoveWhy.{MoveWhy}
 use Rattle.chess_text.specs.declared.replies.Typed.{Typed}
@@ -14,6 +13,7 @@ use Rattle.chess_text.specs.declared.replies.Typed.TheVariants as typed
 use Rattle.mate_plan.specs.Claim.{Claim, IsClaimed}
 use Rattle.winning_sets.specs.Kept.{Kept}
 use Rattle.game_session.specs.Choice.{Pick, target}
+use Rattle.game_session.specs.Squares.{all_squares}
 use Rattle.game_session.specs.declared.choice.Choice.{Choice}
 use Rattle.game_report.specs.declared.play.Ending.{Ending}
 use Rattle.game_report.specs.declared.play.Ending.TheVariants.{Mated, Wide, Quit, NoLine, Many, CutAt, LongAt}
@@ -44,16 +44,6 @@ pub record Report : Type 0 where
 -- the most lines that are read in a game
 abbrev pub most_lines : ℕ
 most_lines = 10000
-
--- all squares whose coordinates are numbers of 64 bits
-abbrev pub all_squares : Frame
-all_squares =
-    record {
-      x_low = negsuc (2 ^ 63 - 1);
-      x_high = pos (2 ^ 63 - 1);
-      y_low = negsuc (2 ^ 63 - 1);
-      y_high = pos (2 ^ 63 - 1);
-    }
 
 -- the line that tells of an ending other than mate, apart from the text
 abbrev pub ending_line : Ending → List ℕ

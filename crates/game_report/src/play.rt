@@ -3,7 +3,8 @@ ghost use Rattle.std.specs.Prelude.{◌≡◌, ◌≤◌, ◌<◌, ◌+◌, ◌^
 ghost use Rattle.desk_base.specs.Faults.{HasRisen};
 ghost use Rattle.game_report.specs.Laws.{seen};
 ghost use Rattle.game_report.specs.Played.{IsPlayedOn, IsSettled};
-ghost use Rattle.game_report.specs.Report.{all_squares, most_lines};
+ghost use Rattle.game_report.specs.Report.{most_lines};
+ghost use Rattle.game_session.specs.Squares.{all_squares};
 
 use crate::turn::{open, reply};
 use desk_base::{Line, LineError, LineReader, Sink, Source};

@@ -5,7 +5,8 @@ ghost use Rattle.desk_base.specs.Faults.{HasRisen};
 ghost use Rattle.desk_base.specs.Moves.{AppendsFront};
 ghost use Rattle.game_report.specs.Laws.{seen};
 ghost use Rattle.game_report.specs.Report as reports;
-ghost use Rattle.game_report.specs.Report.{AtWinner, all_squares};
+ghost use Rattle.game_report.specs.Report.{AtWinner};
+ghost use Rattle.game_session.specs.Squares.{all_squares};
 ghost use Rattle.game_report.specs.Turns.{AtMove, AtStart, AtText, ComesOf, IsOpen};
 ghost use Rattle.white_player.specs.Game.{IsGame};
 

@@ -1,3 +1,4 @@
 pub mod Choice
 pub mod Along
 pub mod Aims
+pub mod Squares

@@ -14,9 +14,10 @@ use Rattle.desk_solve.specs.Decide.{DecideReports, IsExact}
 use Rattle.mate_desk.specs.Laws.{AnswersExactly, DecidesExactly, ReportsAnswer}
 use Rattle.desk_words.specs.Order.{Ordered}
 use Rattle.desk_report.specs.Outcome.{Report}
-use Rattle.mate_desk.specs.Report.{OfRead, OfSound, OfText, Reports, ReportsOrder, ReportsWords}
+use Rattle.mate_desk.specs.Command.{OfRead, OfSound, OfText}
+use Rattle.mate_desk.specs.Report.{Reports, ReportsOrder, ReportsWords}
 use Rattle.desk_text.specs.Text.{Text, TextAt, whole}
-use Rattle.desk_solve.specs.Verdict.{IsVerdict, mate_line, no_mate_line}
+use Rattle.desk_verdict.specs.Verdict.{IsVerdict, mate_line, no_mate_line}
 use Rattle.desk_words.specs.declared.order.Order.{Order}
 use Rattle.desk_words.specs.declared.order.Order.TheVariants.{Decide, Arith}
 use Rattle.desk_words.specs.declared.order.UsageWhy.{UsageWhy}
@@ -67,7 +68,7 @@ reports_exactly n budget problem files report (inl (step, over, is)) =
       mate = λ done. absurd (cc);
       no_mate = λ done. absurd (cc);
     })
-reports_exactly n budget problem files report (inr (line, fits, verdict, is)) =
+reports_exactly n budget problem files report (inr (fits, (line, verdict, is))) =
     let P : Report → Type 0 = λ r. IsExact n budget problem r in
     subst P (sym is) (record {
       cause = inl (record { status = refl; text = one_of_two n problem line verdict; fault = refl });
@@ -83,7 +84,7 @@ decides_exactly words bytes files n budget problem rest report ordered at sound 
 -- what is reported of a formula answers it
 formula_exactly : (budget : ℕ) (f : Tree) (files : Files) (report : Report) → FormulaReports budget f files report → ReportsAnswer budget f files report
 formula_exactly budget f files report (inl over) = inl over
-formula_exactly budget f files report (inr (truth, within, right, is)) = inr (truth_line truth, answers f truth right, is)
+formula_exactly budget f files report (inr (within, (truth, right, is))) = inr (truth_line truth, answers f truth right, is)
 
 line_exactly : (budget : ℕ) {line : List ℕ} {f : Tree} (files : Files) (report : Report) → IsFormulaLine line f → LineReports budget line files report → ReportsAnswer budget f files report
 line_exactly budget {line} {f} files report means (inl (number, fault, is)) = absurd (formula_is_not_refused line f number means fault)

@@ -11,7 +11,7 @@ use Rattle.mate_desk.specs.Laws.{DecideWrites, HasRun, LeastWrites}
 use Rattle.desk_solve.specs.Least.{LeastFinds, LeastReports, least_line}
 use Rattle.desk_report.specs.Outcome.{Report, Seen}
 use Rattle.desk_text.specs.Text.{TextAt, white_mates, whole}
-use Rattle.desk_solve.specs.Verdict.{mate_line, no_mate_line}
+use Rattle.desk_verdict.specs.Verdict.{mate_line, no_mate_line}
 use Rattle.desk_words.specs.declared.order.Order.{Order}
 use Rattle.desk_words.specs.declared.order.Order.TheVariants as orders
 use Rattle.desk_text.specs.declared.problem.Problem.{Problem}
@@ -20,7 +20,7 @@ use Rattle.mate_desk.proofs.Exact.{decides_exactly, of_text, of_words}
 use Rattle.desk_text.proofs.RoundTrip.{text_is_read}
 
 -- what was given is what the source told
-given_bytes : (before after : Option (List ℕ)) (bytes taken rest : List ℕ) → before ≡ Some bytes → Consumes before after taken
+pub given_bytes : (before after : Option (List ℕ)) (bytes taken rest : List ℕ) → before ≡ Some bytes → Consumes before after taken
     → IfSome after (λ told. told ≡ rest) → bytes ≡ taken ++ rest
 given_bytes None after bytes taken rest told consumed left = absurd (cc)
 given_bytes (Some xs) None bytes taken rest told consumed left = absurd consumed

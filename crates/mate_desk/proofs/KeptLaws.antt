@@ -17,16 +17,17 @@ use Rattle.strategy_file.specs.Claims.{claim_with}
 use Rattle.strategy_file.specs.KeptFile.{IsReadAsWon}
 use Rattle.strategy_file.specs.Layout.{Refusal}
 use Rattle.strategy_file.specs.StrategyFile.{Charts, File}
-use Rattle.winning_sets.specs.declared.names.StepName.{StepName}
+use Rattle.winning_sets.specs.Solve.{IsSolveError}
+use Rattle.winning_sets.specs.declared.names.SolveError.TheVariants as solve_error
 use Rattle.desk_games.specs.Check.{CheckReports}
-use Rattle.desk_games.specs.FileClaim.{OfClaim, OfFile, OfFound, OfOutcome}
+use Rattle.desk_games.specs.FileClaim.{IsReadAs, OfClaim, OfFile, OfFound, OfOutcome}
 use Rattle.desk_games.specs.Keep.{IsFileToKeep, KeepReports}
-use Rattle.mate_desk.specs.Laws.{CheckedAfterKeep, HasKept, ResumeKeeps, ResumesGame}
-use Rattle.desk_report.specs.Outcome.{Report, Seen, done_with, over_budget}
-use Rattle.mate_desk.specs.Report.{OfRead, OfSound}
+use Rattle.mate_desk.specs.Laws.{CheckedAfterKeep, HasKept, NamesCheckStep, ResumeKeeps, ResumesGame}
+use Rattle.desk_report.specs.Outcome.{Report, Seen, done_with}
+use Rattle.mate_desk.specs.Command.{OfRead, OfSound}
 use Rattle.desk_games.specs.Resume.{GameReports, ResumeReports}
 use Rattle.desk_text.specs.Text.{Text, whole, refused}
-use Rattle.desk_solve.specs.Verdict.{mate_line}
+use Rattle.desk_verdict.specs.Verdict.{mate_line}
 use Rattle.desk_words.specs.declared.order.Order.TheVariants.{Keep, Check, Resume}
 use Rattle.desk_text.specs.declared.problem.Problem.{Problem}
 use Rattle.desk_report.specs.declared.status.Status.TheVariants as is
@@ -42,8 +43,8 @@ module _ (one more : Claim → Report → Type 0) (budget : ℕ) (files : Files)
     → one (claim_with charts) report → more (claim_with charts) report) where
   outcome_more : (bytes : List ℕ) (outcome : Result Charts Refusal) → File bytes outcome → OfOutcome one budget files outcome report → OfOutcome more budget files outcome report
   outcome_more bytes (Err refusal) file right = right
-  outcome_more bytes (Ok charts) file (inl failed) = inl failed
-  outcome_more bytes (Ok charts) file (inr (inl over)) = inr (inl over)
+  outcome_more bytes (Ok charts) file (inl over) = inl over
+  outcome_more bytes (Ok charts) file (inr (inl failed)) = inr (inl failed)
   outcome_more bytes (Ok charts) file (inr (inr (keeps, right))) = inr (inr (keeps, says bytes charts file keeps right))
 
   found_more : (found : Option (List ℕ)) → OfFound one budget files found report → OfFound more budget files found report
@@ -134,24 +135,32 @@ module _ (words : List (List ℕ)) (n budget : ℕ) (name : List ℕ) (files : F
       text_leaves n budget name files given report (sym h.ends.ends.2.reported) wrote
       (kept_after old.files new.files h.before files report.files h.files_before h.files_after h.ends.ends.2.files) read.0 (subst Named h.named read.2)
 
--- the file is there, and its claim is won
-module _ (n other : ℕ) (name : List ℕ) (files given : Files) (l : Leaves n name files given) (report : Report) where
+-- the file is there, as it was kept, and its claim is won
+module _ (n other : ℕ) (name : List ℕ) (files kept given : Files) (l : Leaves n name kept given) (still : map.get files name ≡ map.get kept name) (report : Report) where
   won : IsReadAsWon l.problem.winner l.problem.position n l.bytes
   won = kept_file_is_claim l.problem.winner l.problem.position n l.bytes l.sound l.value l.file.file
 
   abbrev c : Claim
   c = claim_with won.charts
 
+  found : map.get files name ≡ Some l.bytes
+  found = still ∙ ap (λ f. map.get f name) l.left ∙ has_put given name l.bytes
+
+  is_read : IsReadAs name files (Ok won.charts)
+  is_read = record { bytes = l.bytes; found = found; short = l.file.small; file = won.read }
+
   abbrev Prints : Claim → Report → Type 0
   Prints d r = r ≡ done_with files (mate_line d.moves)
 
   abbrev Told : Type 0
-  Told = (report ≡ done_with files (mate_line n)) ⊎ ((step : StepName) × (report ≡ over_budget files step))
+  Told = (report ≡ done_with files (mate_line n)) ⊎ NamesCheckStep n other name files report
 
   claim_told : OfClaim Prints other files c report → Told
-  claim_told (inl (failed, ends, is')) =
+  claim_told (inl (step, over, is')) =
+      let Exceeds : ℕ → Type 0 = λ m. IsSolveError (check_plan c) m other (solve_error.Over step) in
+      inr (record { charts = won.charts; read = is_read; moves = won.moves_are; step = step; exceeds = subst Exceeds won.moves_are over; named = is' })
+  claim_told (inr (inl (failed, ends, is'))) =
       let none : Some failed ≡ None = (none_fails_where_won c (Some failed) won.claim (check_finds_first c ends.entries (Some failed) won.claim ends.takes)).1 won.won in absurd (cc)
-  claim_told (inr (inl (step, over, is'))) = inr (step, is')
   claim_told (inr (inr (keeps, is'))) = inl (is' ∙ ap (λ m. done_with files (mate_line m)) won.moves_are)
 
   bytes_told : OfFound Prints other files (Some l.bytes) report → Told
@@ -163,10 +172,10 @@ module _ (n other : ℕ) (name : List ℕ) (files given : Files) (l : Leaves n n
   file_told : CheckReports other name files report → Told
   file_told right =
       let P : Option (List ℕ) → Type 0 = λ o. OfFound Prints other files o report in
-      bytes_told (subst P (ap (λ f. map.get f name) l.left ∙ has_put given name l.bytes) right)
+      bytes_told (subst P found right)
 
 pub checked_after_keep : CheckedAfterKeep
-checked_after_keep words later n budget other name files old new bytes report h ordered named reports =
+checked_after_keep words later n budget other name kept files old new bytes report h still ordered named reports =
     let Named : Option (List ℕ) → Type 0 = λ o. IsSomeAnd o (λ name'. CheckReports other name' files report) in
-    file_told n other name files h.ends.given.files (leaves words n budget name files old new h) report
+    file_told n other name files kept h.ends.given.files (leaves words n budget name kept old new h) still report
     (subst Named named (of_words later bytes files (Check other) report ordered reports))

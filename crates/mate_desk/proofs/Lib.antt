@@ -1,9 +1,13 @@
 pub mod Exact
+pub mod FirstFault
 pub mod Following
 pub mod Headline
 pub mod KeptLaws
-pub mod OneReport
-pub mod PlayRuns
+pub mod Live
 pub mod ReadClaims
 pub mod Reporting
-pub mod Statuses
+pub mod Rows
+pub mod Shown
+pub mod StatusLaws
+pub mod TextRuns
+pub mod Told

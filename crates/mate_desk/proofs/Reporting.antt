@@ -1,5 +1,5 @@
 -- How a run ends, from how its parts do.
-use Rattle.std.proofs.Common.{◌≡◌, ◌≢◌, ◌<◌, ◌+◌, ◌++◌, ℕ, List, [], length, take, Option, Some, None, IfSome, Result, Ok, Err, false, inl, inr, refl, sym, ap, ◌∙◌, subst, append_assoc, arith}
+use Rattle.std.proofs.Common.{◌≡◌, ◌≢◌, ◌+◌, ◌++◌, ℕ, List, [], length, take, Option, Some, None, IfSome, Result, Ok, Err, false, inr, refl, sym, ap, ◌∙◌, subst, append_assoc, arith}
 use Rattle.std.specs.Prelude.{IsSomeAnd, codes, unwrap_or}
 use Rattle.std.specs.Io.KnownBytes.{Consumes}
 use Rattle.std.proofs.KnownBytes.{Consumes-nil}
@@ -12,26 +12,22 @@ use Rattle.chess_game.specs.Unsoundness.{IsFirstUnsoundness}
 use Rattle.chess_game.specs.declared.unsoundness.Unsound.{Unsound}
 use Rattle.chess_text.specs.PositionText.{text_of_lines}
 use Rattle.desk_text.specs.Taken.{TakesLines}
-use Rattle.desk_arith.specs.Arith.{ArithEnds, ArithReports, IsBehindLine}
 use Rattle.desk_games.specs.Check.{CheckReports}
-use Rattle.desk_solve.specs.Decide.{DecideReports}
-use Rattle.desk_solve.specs.Drill.{DrillReports}
 use Rattle.desk_report.specs.FaultLines.{unsound_line}
 use Rattle.desk_games.specs.FileClaim.{MissesFetch, OnFiles}
-use Rattle.desk_solve.specs.First.{FirstReports, HasNoFirstMove}
 use Rattle.desk_games.specs.Keep.{HasFileToKeep, KeepReports, MissesKeep}
-use Rattle.desk_solve.specs.Least.{LeastReports}
 use Rattle.desk_words.specs.Order.{Ordered, name_in, usage_line}
 use Rattle.desk_report.specs.Outcome.{Ends, Leaves, KeepsFiles, NeverMisses, Report, Seen, Writes, WriteFailed, of_shelf, of_sink, of_streams, refusal_as, reported_on}
-use Rattle.mate_desk.specs.Report.{IsBehindText, MayLackMemory, MayMissShelf, OfName, OfText, OrderMayLack, Reports, ReportsOrder, TakesMemory}
+use Rattle.desk_report.specs.ByLines.{EndsByLines}
+use Rattle.mate_desk.specs.Command.{IsBehindText, OfName, OfText}
+use Rattle.mate_desk.specs.Report.{MayLackMemory, MayMissShelf, OrderMayLack, Reports, ReportsOrder, TakesMemory}
 use Rattle.desk_games.specs.Resume.{ResumeEnds, ResumeReports}
 use Rattle.mate_desk.specs.Run.{Given, IsLineDue, RunEnds, Takes}
-use Rattle.mate_desk.specs.Show.{ShowReports}
 use Rattle.desk_text.specs.Text.{TextAt, whole, refused, is_end, refusal_line}
 use Rattle.desk_text.specs.TextRead.{IsMissing, IsShort, TextRead}
-use Rattle.desk_solve.specs.Verdict.{HasNothingToPlay}
+use Rattle.desk_verdict.specs.Verdict.{HasNothingToPlay}
 use Rattle.desk_words.specs.declared.order.Order.{Order}
-use Rattle.desk_words.specs.declared.order.Order.TheVariants.{Decide, Least, First, Play, Keep, Check, Resume, Show, Drill, Arith}
+use Rattle.desk_words.specs.declared.order.Order.TheVariants.{Keep, Check, Resume}
 use Rattle.desk_words.specs.declared.order.UsageWhy.{UsageWhy}
 use Rattle.desk_text.specs.declared.problem.Problem.{Problem}
 use Rattle.desk_report.specs.declared.status.Status.{Status}
@@ -40,64 +36,53 @@ use Rattle.desk_text.specs.declared.text.LineWhy.{LineWhy}
 use Rattle.desk_text.specs.declared.text.LineWhy.TheVariants.{Missing}
 use Rattle.desk_text.specs.declared.text.TextEnd.{TextEnd}
 use Rattle.desk_text.specs.declared.text.TextEnd.TheVariants.{Fault, Refused}
-use Rattle.mate_desk.proofs.Statuses.{IsOfText, arith_status, keep_status, not_usage, order_status, resume_status}
+use Rattle.desk_games.proofs.Rows.{keep_row, resume_row}
+use Rattle.desk_report.proofs.One.{IsNotUsage}
+use Rattle.mate_desk.proofs.Rows.{RefusesText, order_status, refuses_as}
 use Rattle.desk_games.proofs.Shelves.{files_of, known_files, same_kept}
 use Rattle.desk_text.proofs.TextSteps.{known_rest}
 use Rattle.desk_report.proofs.Writing.{at_files, at_sink, ends_as, no_read_fault, on_all, unchanged, with_source}
+
+-- where nothing that is reported has the status of words that are no order, the run has not
+pub not_usage : (status : Status) (reports : Report → Type 0) (may_lack : Type 0) (may_miss : Option (List ℕ) → Type 0) (old new : Seen)
+    → ((report : Report) → reports report → IsNotUsage report)
+    → Ends status reports may_lack may_miss old new → status ≢ is.Usage
+not_usage status reports may_lack may_miss old new not ends same =
+    let P : Status → Type 0 = λ s. Ends s reports may_lack may_miss old new in
+    let ended : Ends is.Usage reports may_lack may_miss old new = subst P same ends in
+    not ended.0 ended.1 (sym ended.2.reported)
 
 left_files : (told : Option Files) → Go told told (λ before after. after ≡ files_of told)
 left_files None = tt
 left_files (Some files) = refl
 
--- where the text is refused, each order of a text has that refusal
-refused_order : (order : Order) → IsOfText order → (words : List (List ℕ)) (bytes : List ℕ) (files : Files) (number : ℕ) (why : LineWhy)
-    → TextAt bytes (refused number why) → ReportsOrder order words bytes files (refusal_as files is.Text (refusal_line number why) (is_end why))
-refused_order (Decide n budget) of words bytes files number why at = (refused number why, at, refl)
-refused_order (Least limit budget) of words bytes files number why at = (refused number why, at, refl)
-refused_order (First n budget) of words bytes files number why at = (refused number why, at, refl)
-refused_order (Play n budget) of words bytes files number why at = (refused number why, at, refl)
-refused_order (Keep n budget) of words bytes files number why at = (refused number why, at, refl)
-refused_order (Check budget) of words bytes files number why at = absurd of
-refused_order (Resume budget) of words bytes files number why at = absurd of
-refused_order Show of words bytes files number why at = (refused number why, at, refl)
-refused_order (Drill seed count) of words bytes files number why at = absurd of
-refused_order (Arith budget) of words bytes files number why at = absurd of
-
 -- no line is taken
 no_lines : (IsDue : List (List ℕ) → Type 0) → TakesLines IsDue [] []
 no_lines IsDue = record { lines = []; are_lines = λ k d below. absurd (omega arith); due = λ k below. absurd (omega arith); bytes = refl; few = omega arith }
 
+takes_any : (words : List (List ℕ)) (files : Files) (status : Status) (taken pending : List ℕ) → (status ≡ is.Usage → taken ≡ [])
+    → TakesLines (IsLineDue words files) taken pending → Takes words files status taken
+takes_any words files is.Usage taken pending none t = none refl
+takes_any words files is.Done taken pending none t = (pending, t)
+takes_any words files is.Text taken pending none t = (pending, t)
+takes_any words files is.Unsound taken pending none t = (pending, t)
+takes_any words files is.ReadFault taken pending none t = (pending, t)
+takes_any words files is.WriteFault taken pending none t = (pending, t)
+takes_any words files is.ShelfFault taken pending none t = (pending, t)
+takes_any words files is.Budget taken pending none t = (pending, t)
+takes_any words files is.Wide taken pending none t = (pending, t)
+takes_any words files is.Memory taken pending none t = (pending, t)
+takes_any words files is.File taken pending none t = (pending, t)
+takes_any words files is.Ended taken pending none t = (pending, t)
+takes_any words files is.TooMany taken pending none t = (pending, t)
+
 takes_nothing : (words : List (List ℕ)) (files : Files) (status : Status) → Takes words files status []
-takes_nothing words files is.Usage = refl
-takes_nothing words files is.Done = ([], no_lines (IsLineDue words files))
-takes_nothing words files is.Text = ([], no_lines (IsLineDue words files))
-takes_nothing words files is.Unsound = ([], no_lines (IsLineDue words files))
-takes_nothing words files is.ReadFault = ([], no_lines (IsLineDue words files))
-takes_nothing words files is.WriteFault = ([], no_lines (IsLineDue words files))
-takes_nothing words files is.ShelfFault = ([], no_lines (IsLineDue words files))
-takes_nothing words files is.Budget = ([], no_lines (IsLineDue words files))
-takes_nothing words files is.Wide = ([], no_lines (IsLineDue words files))
-takes_nothing words files is.File = ([], no_lines (IsLineDue words files))
-takes_nothing words files is.Memory = ([], no_lines (IsLineDue words files))
-takes_nothing words files is.Ended = ([], no_lines (IsLineDue words files))
-takes_nothing words files is.TooMany = ([], no_lines (IsLineDue words files))
+takes_nothing words files status = takes_any words files status [] [] (λ usage. refl) (no_lines (IsLineDue words files))
 
 -- words that are an order take the lines that are due
 pub takes_lines : (words : List (List ℕ)) (files : Files) (status : Status) (taken pending : List ℕ) → status ≢ is.Usage
     → TakesLines (IsLineDue words files) taken pending → Takes words files status taken
-takes_lines words files is.Usage taken pending not t = absurd (not refl)
-takes_lines words files is.Done taken pending not t = (pending, t)
-takes_lines words files is.Text taken pending not t = (pending, t)
-takes_lines words files is.Unsound taken pending not t = (pending, t)
-takes_lines words files is.ReadFault taken pending not t = (pending, t)
-takes_lines words files is.WriteFault taken pending not t = (pending, t)
-takes_lines words files is.ShelfFault taken pending not t = (pending, t)
-takes_lines words files is.Budget taken pending not t = (pending, t)
-takes_lines words files is.Wide taken pending not t = (pending, t)
-takes_lines words files is.Memory taken pending not t = (pending, t)
-takes_lines words files is.File taken pending not t = (pending, t)
-takes_lines words files is.Ended taken pending not t = (pending, t)
-takes_lines words files is.TooMany taken pending not t = (pending, t)
+takes_lines words files status taken pending not t = takes_any words files status taken pending (λ usage. absurd (not usage)) t
 
 -- so a run of an order ends whose source has not failed
 pub run_ends : (words : List (List ℕ)) (status : Status) (old new : Seen) (given : Given old new) (pending : List ℕ)
@@ -144,22 +129,23 @@ module _ (words : List (List ℕ)) (old new : Seen) (same : new.files ≡ old.fi
   }
 
   -- a command that reads nothing, and has the sink alone
-  pub drill_ends : (seed count : ℕ) (status : Status) → Ordered words (Ok (Drill seed count)) → new.left ≡ old.left
-      → ((files : Files) → Ends status (DrillReports seed count files) (0 < count) NeverMisses (of_sink files old.written old.write_faults) (of_sink files new.written new.write_faults))
+  pub words_ends : (order : Order) (says : Files → Report → Type 0) (some : Type 0) (status : Status) → Ordered words (Ok order) → new.left ≡ old.left
+      → ((bytes : List ℕ) (files : Files) (report : Report) → says files report → ReportsOrder order words bytes files report) → (some → OrderMayLack order [])
+      → ((files : Files) → Ends status (says files) some NeverMisses (of_sink files old.written old.write_faults) (of_sink files new.written new.write_faults))
       → RunEnds words status old new
-  drill_ends seed count status ordered left ends =
+  words_ends order says some status ordered left more lacks ends =
       let files = files_of old.files in
       let bytes = reported_on status [] (unwrap_or old.left []) in
       record {
         given = given_nothing left;
         takes = takes_nothing words files status;
         ends =
-            ends_as status (DrillReports seed count files) (λ report. Reports words bytes files report) (0 < count) (MayLackMemory words []) NeverMisses (MayMissShelf words []) old new
-            (λ report right. (Ok (Drill seed count), ordered, right)) (λ some. (Drill seed count, ordered, (refl, some))) (λ keeping never. absurd never)
-            (at_sink files old new (known_files old.files) (unchanged old.files new.files same) status (DrillReports seed count files) (0 < count) (ends files));
+            ends_as status (says files) (λ report. Reports words bytes files report) some (MayLackMemory words []) NeverMisses (MayMissShelf words []) old new
+            (λ report right. (Ok order, ordered, more bytes files report right)) (λ is_some. (order, ordered, lacks is_some)) (λ keeping never. absurd never)
+            (at_sink files old new (known_files old.files) (unchanged old.files new.files same) status (says files) some (ends files));
       }
 
-  module _ (order : Order) (ordered : Ordered words (Ok order)) (of : IsOfText order) (pending : List ℕ) where
+  module _ (order : Order) (ordered : Ordered words (Ok order)) (refuses : RefusesText (ReportsOrder order words)) (pending : List ℕ) where
     abbrev files : Files
     files = files_of old.files
 
@@ -170,7 +156,7 @@ module _ (words : List (List ℕ)) (old new : Seen) (same : new.files ≡ old.fi
     pub line_due : (before : List (List ℕ)) → IsMissing before → IsLineDue words files before
     line_due before at =
         let number = length before + 1 in
-        (refusal_as files is.Text (refusal_line number Missing) (is_end Missing), (Ok order, ordered, refused_order order of words (text_of_lines before) files number Missing at), refl)
+        (refusal_as files is.Text (refusal_line number Missing) (is_end Missing), (Ok order, ordered, refuses.refused (text_of_lines before) files number Missing at), refl)
 
     lines_due : {bytes : List ℕ} → TakesLines IsMissing bytes pending → TakesLines (IsLineDue words files) bytes pending
     lines_due {bytes} t = record {
@@ -190,7 +176,7 @@ module _ (words : List (List ℕ)) (old new : Seen) (same : new.files ≡ old.fi
           takes = (pending, lines_due t.takes);
           ends = (
             refusal_as files is.Text (refusal_line number why) (is_end why),
-            (Ok order, ordered, refused_order order of words (t.bytes ++ t.rest) files number why (subst P (sym t.takes.bytes) t.reads)),
+            (Ok order, ordered, refuses.refused (t.bytes ++ t.rest) files number why (subst P (sym t.takes.bytes) t.reads)),
             record { reported = refl; written = wrote; files = leaves },
           );
         }
@@ -205,7 +191,7 @@ module _ (words : List (List ℕ)) (old new : Seen) (same : new.files ≡ old.fi
           takes = (pending, lines_due t.takes);
           ends = (
             refusal_as files is.Text (refusal_line short.number short.why) (is_end short.why),
-            (Ok order, ordered, refused_order order of words t.bytes files short.number short.why short.text),
+            (Ok order, ordered, refuses.refused t.bytes files short.number short.why short.text),
             record { failed = failed; short = short.short; written = wrote; files = keeps },
           );
         }
@@ -237,26 +223,13 @@ module _ (words : List (List ℕ)) (old new : Seen) (same : new.files ≡ old.fi
             few = t.takes.few;
           }
 
-      unsound_order : (x : Order) → IsOfText x → (why : Unsound) → IsFirstUnsoundness problem.position why
-          → ReportsOrder x words (t.bytes ++ t.rest) files (refusal_as files is.Unsound (unsound_line why) false)
-      unsound_order (Decide n budget) of_text why fault = (whole problem (lines_of (pending ++ t.rest)), is_whole, inl (why, fault, refl))
-      unsound_order (Least limit budget) of_text why fault = (whole problem (lines_of (pending ++ t.rest)), is_whole, inl (why, fault, refl))
-      unsound_order (First n budget) of_text why fault = (whole problem (lines_of (pending ++ t.rest)), is_whole, inl (why, fault, refl))
-      unsound_order (Play n budget) of_text why fault = (whole problem (lines_of (pending ++ t.rest)), is_whole, inl (why, fault, refl))
-      unsound_order (Keep n budget) of_text why fault = (whole problem (lines_of (pending ++ t.rest)), is_whole, inl (why, fault, refl))
-      unsound_order (Check budget) of_text why fault = absurd of_text
-      unsound_order (Resume budget) of_text why fault = absurd of_text
-      unsound_order Show of_text why fault = (whole problem (lines_of (pending ++ t.rest)), is_whole, inl (why, fault, refl))
-      unsound_order (Drill seed count) of_text why fault = absurd of_text
-      unsound_order (Arith budget) of_text why fault = absurd of_text
-
       pub unsound_ends : {why : Unsound} → IsFirstUnsoundness problem.position why → Writes [] (unsound_line why) old.written new.written (WriteFailed old new) → RunEnds words is.Unsound old new
       unsound_ends {why} fault wrote = record {
         given = given_text (Ok problem) t;
         takes = (pending, lines_due t.takes);
         ends = (
           refusal_as files is.Unsound (unsound_line why) false,
-          (Ok order, ordered, unsound_order order of why fault),
+          (Ok order, ordered, refuses.unsound (t.bytes ++ t.rest) files problem (lines_of (pending ++ t.rest)) why is_whole fault),
           record { reported = refl; written = wrote; files = leaves },
         );
       }
@@ -274,43 +247,22 @@ module _ (words : List (List ℕ)) (old new : Seen) (same : new.files ≡ old.fi
           (λ report right. (Ok order, ordered, says report right)) (λ lack. (order, ordered, lacks lack)) (λ keeping never. absurd never)
           (at_sink files old new (known_files old.files) (unchanged old.files new.files same) status reports may_lack ends))
 
--- so it is with each command
+-- so it is with each command that asks something of a problem alone
 module _ (words : List (List ℕ)) (old new : Seen) (same : new.files ≡ old.files) (pending : List ℕ) (problem : Problem)
     (t : TextRead (Ok problem) pending old.left new.left) (sound : Sound problem.position) (status : Status) where
   abbrev EndsWithSink : (Files → Report → Type 0) → Type 0 → Type 0
   EndsWithSink reports may_lack = (files : Files) → Ends status (reports files) may_lack NeverMisses (of_sink files old.written old.write_faults) (of_sink files new.written new.write_faults)
 
-  pub decide_ends : (n budget : ℕ) → Ordered words (Ok (Decide n budget)) → EndsWithSink (DecideReports n budget problem) (¬ HasNothingToPlay n problem) → RunEnds words status old new
-  decide_ends n budget ordered ends =
-      let order = Decide n budget in
+  pub text_ends : (order : Order) → Ordered words (Ok order) → (says : Problem → Files → Report → Type 0) (takes : Problem → Type 0)
+      → ((bytes : List ℕ) (files : Files) (report : Report) → OfText (λ p rest. says p files) files bytes report → ReportsOrder order words bytes files report)
+      → ((taken : List ℕ) → IsBehindText takes taken → OrderMayLack order taken)
+      → EndsWithSink (says problem) (takes problem) → RunEnds words status old new
+  text_ends order ordered says takes more lacks ends =
       let files = files_of old.files in
-      command_ends words old new same order ordered tt pending problem t status (DecideReports n budget problem files) (¬ HasNothingToPlay n problem)
-      (of_problem words old new same order ordered tt pending problem t (λ r rest. DecideReports n budget r files) sound)
-      (behind_text words old new same order ordered tt pending problem t (TakesMemory order) sound) (ends files)
-
-  pub least_ends : (limit budget : ℕ) → Ordered words (Ok (Least limit budget))
-      → EndsWithSink (LeastReports limit budget problem) (¬ HasNothingToPlay limit problem) → RunEnds words status old new
-  least_ends limit budget ordered ends =
-      let order = Least limit budget in
-      let files = files_of old.files in
-      command_ends words old new same order ordered tt pending problem t status (LeastReports limit budget problem files) (¬ HasNothingToPlay limit problem)
-      (of_problem words old new same order ordered tt pending problem t (λ r rest. LeastReports limit budget r files) sound)
-      (behind_text words old new same order ordered tt pending problem t (TakesMemory order) sound) (ends files)
-
-  pub first_ends : (n budget : ℕ) → Ordered words (Ok (First n budget)) → EndsWithSink (FirstReports n budget problem) (¬ HasNoFirstMove n problem) → RunEnds words status old new
-  first_ends n budget ordered ends =
-      let order = First n budget in
-      let files = files_of old.files in
-      command_ends words old new same order ordered tt pending problem t status (FirstReports n budget problem files) (¬ HasNoFirstMove n problem)
-      (of_problem words old new same order ordered tt pending problem t (λ r rest. FirstReports n budget r files) sound)
-      (behind_text words old new same order ordered tt pending problem t (TakesMemory order) sound) (ends files)
-
-  pub show_ends : Ordered words (Ok Show) → EndsWithSink (ShowReports problem.position) (Unit {0}) → RunEnds words status old new
-  show_ends ordered ends =
-      let files = files_of old.files in
-      command_ends words old new same Show ordered tt pending problem t status (ShowReports problem.position files) (Unit {0})
-      (of_problem words old new same Show ordered tt pending problem t (λ r rest. ShowReports r.position files) sound)
-      (behind_text words old new same Show ordered tt pending problem t (TakesMemory Show) sound) (ends files)
+      let refuses = refuses_as (λ p rest. says p) (ReportsOrder order words) more in
+      command_ends words old new same order ordered refuses pending problem t status (says problem files) (takes problem)
+      (λ report right. more (t.bytes ++ t.rest) files report (of_problem words old new same order ordered refuses pending problem t (λ p rest. says p files) sound report right))
+      (λ some. lacks t.bytes (behind_text words old new same order ordered refuses pending problem t takes sound some)) (ends files)
 
 -- `keep` has the shelf too
 module _ (words : List (List ℕ)) (old new : Seen) (pending : List ℕ) (problem : Problem)
@@ -326,6 +278,7 @@ module _ (words : List (List ℕ)) (old new : Seen) (pending : List ℕ) (proble
       → RunEnds words status old new
   keep_ends n budget name ordered named ends =
       let order = Keep n budget in
+      let refuses = refuses_as (λ r rest files. OfName (name_in order words) (λ name'. KeepReports n budget r name' files)) (ReportsOrder order words) (λ bytes files report right. right) in
       let files = files_of old.files in
       let before = of_shelf old.written old.files old.write_faults old.shelf_faults in
       let after = of_shelf new.written new.files new.write_faults new.shelf_faults in
@@ -335,21 +288,21 @@ module _ (words : List (List ℕ)) (old new : Seen) (pending : List ℕ) (proble
       let misses : Option (List ℕ) → Type 0 = MissesKeep name (HasFileToKeep n budget problem) in
       let ended : Ends status reports lacks misses before after = ends files (known_files old.files) in
       run_ends words status old new (record { taken = t.bytes; rest = t.rest; files = files; consumed = t.taken; left = t.left; kept = known_files old.files }) pending
-      (lines_due words old read refl order ordered tt pending t.takes)
-      (not_usage status reports lacks misses before after (λ report right. keep_status n budget problem name files report right) ended)
+      (lines_due words old read refl order ordered refuses pending t.takes)
+      (not_usage status reports lacks misses before after (λ report right. (keep_row n budget problem name files).not_usage report right) ended)
       (no_read_fault status reports lacks misses before after refl refl ended)
       (ends_as status reports (λ report. Reports words (t.bytes ++ t.rest) files report) lacks (MayLackMemory words t.bytes) misses (MayMissShelf words t.bytes) old new
       (λ report right. (
         Ok order,
         ordered,
-        of_problem words old read refl order ordered tt pending problem t (λ r rest. OfName order words (λ name'. KeepReports n budget r name' files)) sound report
+        of_problem words old read refl order ordered refuses pending problem t (λ r rest. OfName (name_in order words) (λ name'. KeepReports n budget r name' files)) sound report
             (subst (λ o. Named o report) (sym named) right),
       ))
-      (λ lack. (order, ordered, behind_text words old read refl order ordered tt pending problem t (TakesMemory order) sound lack))
+      (λ lack. (order, ordered, behind_text words old read refl order ordered refuses pending problem t (TakesMemory order) sound lack))
       (λ keeping miss. (
         order,
         ordered,
-        record { named = miss.1 ∙ sym named; text = behind_text words old read refl order ordered tt pending problem t (HasFileToKeep n budget) sound miss.0 },
+        record { named = miss.1 ∙ sym named; text = behind_text words old read refl order ordered refuses pending problem t (HasFileToKeep n budget) sound miss.0 },
       ))
       (with_source status reports lacks misses old new ended))
 
@@ -404,7 +357,7 @@ module _ (words : List (List ℕ)) (old new : Seen) (status : Status) where
         takes =
             takes_lines words files status p.bytes pending
             (not_usage status (ResumeReports budget (lines_of all) name files) (p.bytes ≡ []) (MissesFetch p.bytes) old new
-            (λ report right. resume_status budget (lines_of all) name files report right) p.ends)
+            (λ report right. (resume_row budget (lines_of all) name files).not_usage report right) p.ends)
             lines;
         ends =
             ends_as status (ResumeReports budget (lines_of all) name files) (λ report. Reports words all files report) (p.bytes ≡ [])
@@ -412,47 +365,56 @@ module _ (words : List (List ℕ)) (old new : Seen) (status : Status) where
             (λ report right. says all report right) (λ none. (order, ordered, none)) (λ keeping miss. (order, ordered, miss)) p.ends;
       }
 
--- `arith` has not the status of words that are no order
-pub arith_no_usage : (status : Status) (budget : ℕ) (left after written later : Option (List ℕ)) (reads reads_later writes writes_later : ℕ)
-    → ((files : Files) → (pending : List ℕ) × ArithEnds budget files status pending (of_streams files left written reads writes) (of_streams files after later reads_later writes_later))
+-- a command that reads lines has not the status of words that are no order
+pub lines_not_usage : (order : Order) (words : List (List ℕ)) (says : Lines → Files → Report → Type 0) (lack : List ℕ → Type 0) (status : Status)
+    → ((bytes : List ℕ) (files : Files) (report : Report) → says (lines_of bytes) files report → ReportsOrder order words bytes files report)
+    → (left after written later : Option (List ℕ)) (reads reads_later writes writes_later : ℕ)
+    → ((files : Files) → (pending : List ℕ) × EndsByLines (λ lines. says lines files) lack (λ bytes. NeverMisses) status [] pending
+    (of_streams files left written reads writes) (of_streams files after later reads_later writes_later))
     → status ≢ is.Usage
-arith_no_usage status budget left after written later reads reads_later writes writes_later ends =
+lines_not_usage order words says lack status more left after written later reads reads_later writes writes_later ends =
     let old = of_streams no_files left written reads writes in
     let new = of_streams no_files after later reads_later writes_later in
-    let p : ArithEnds budget no_files status (ends no_files).0 old new = (ends no_files).1 in
-    let all = lines_of (reported_on status p.bytes p.rest) in
-    not_usage status (ArithReports budget all no_files) (IsBehindLine p.bytes) NeverMisses old new (λ report right. arith_status budget all no_files report right) p.ends
+    let p : EndsByLines (λ lines. says lines no_files) lack (λ bytes. NeverMisses) status [] (ends no_files).0 old new = (ends no_files).1 in
+    let bytes = reported_on status p.bytes p.rest in
+    not_usage status (says (lines_of bytes) no_files) (lack p.bytes) NeverMisses old new
+    (λ report right. order_status order words bytes no_files report (more bytes no_files report right)) p.ends
 
--- it reads a line, and has the sink alone
-module _ (words : List (List ℕ)) (old new : Seen) (status : Status) (budget : ℕ) where
+-- a command that reads lines, and has the sink alone
+module _ (words : List (List ℕ)) (old new : Seen) (status : Status) where
   abbrev seen_in : Files → Seen → Seen
   seen_in files seen = of_streams files seen.left seen.written seen.read_faults seen.write_faults
 
-  abbrev EndsOnFiles : Type 0
-  EndsOnFiles = (files : Files) → (pending : List ℕ) × ArithEnds budget files status pending (seen_in files old) (seen_in files new)
+  abbrev EndsOnFiles : (Lines → Files → Report → Type 0) → (List ℕ → Type 0) → Type 0
+  EndsOnFiles says lack =
+      (files : Files) → (pending : List ℕ) × EndsByLines (λ lines. says lines files) lack (λ bytes. NeverMisses) status [] pending (seen_in files old) (seen_in files new)
 
-  pub arith_ends : Ordered words (Ok (Arith budget)) → new.files ≡ old.files → EndsOnFiles → RunEnds words status old new
-  arith_ends ordered same ends =
-      let order = Arith budget in
+  pub lines_ends : (order : Order) (says : Lines → Files → Report → Type 0) (lack : List ℕ → Type 0) → Ordered words (Ok order) → new.files ≡ old.files
+      → ((bytes : List ℕ) (files : Files) (report : Report) → says (lines_of bytes) files report → ReportsOrder order words bytes files report)
+      → ((taken : List ℕ) → lack taken → OrderMayLack order taken) → EndsOnFiles says lack → RunEnds words status old new
+  lines_ends order says lack ordered same more lacks ends =
       let files = files_of old.files in
       let pending = (ends files).0 in
-      let p : ArithEnds budget files status pending (seen_in files old) (seen_in files new) = (ends files).1 in
+      let p : EndsByLines (λ lines. says lines files) lack (λ bytes. NeverMisses) status [] pending (seen_in files old) (seen_in files new) = (ends files).1 in
       let all = reported_on status p.bytes p.rest in
       let lines : TakesLines (IsLineDue words files) p.bytes pending = record {
         lines = p.takes.lines;
         are_lines = p.takes.are_lines;
-        due = λ k below. let due = p.takes.due k below in (due.0, (Ok order, ordered, due.1), due.2);
+        due = λ k below.
+            let due = p.takes.due k below in
+            (due.0, (Ok order, ordered, more (text_of_lines (take k p.takes.lines)) files due.0 due.1), due.2);
         bytes = p.takes.bytes;
         few = p.takes.few;
       } in
-      let reports : Report → Type 0 = ArithReports budget (lines_of all) files in
+      let reports : Report → Type 0 = says (lines_of all) files in
       record {
         given = record { taken = p.bytes; rest = p.rest; files = files; consumed = p.taken; left = p.left; kept = known_files old.files };
         takes = takes_lines words files status p.bytes pending
-            (arith_no_usage status budget old.left new.left old.written new.written old.read_faults new.read_faults old.write_faults new.write_faults ends) lines;
+            (not_usage status reports (lack p.bytes) NeverMisses (seen_in files old) (seen_in files new)
+            (λ report right. order_status order words all files report (more all files report right)) p.ends) lines;
         ends =
-            ends_as status reports (λ report. Reports words all files report) (IsBehindLine p.bytes) (MayLackMemory words p.bytes) NeverMisses (MayMissShelf words p.bytes) old new
-            (λ report right. (Ok order, ordered, right)) (λ lack. (order, ordered, lack)) (λ keeping never. absurd never)
+            ends_as status reports (λ report. Reports words all files report) (lack p.bytes) (MayLackMemory words p.bytes) NeverMisses (MayMissShelf words p.bytes) old new
+            (λ report right. (Ok order, ordered, more all files report right)) (λ some. (order, ordered, lacks p.bytes some)) (λ keeping never. absurd never)
             (at_files files old new (known_files old.files) (unchanged old.files new.files same) old.left new.left old.read_faults new.read_faults
-            (λ risen. risen) status reports (IsBehindLine p.bytes) p.ends);
+            (λ risen. risen) status reports (lack p.bytes) p.ends);
       }

@@ -1,11 +1,13 @@
 -- Laws of what a run does.
-use Rattle.std.specs.Prelude.{◌≡◌, ◌≢◌, ◌↔◌, ◌⊎◌, ℕ, ◌+◌, ◌-◌, List, ◌++◌, false, Option, Some, Ok, Err, slice_get}
+use Rattle.std.specs.Prelude.{◌≡◌, ◌≢◌, ◌↔◌, ◌⊎◌, ℕ, ◌+◌, ◌-◌, ◌≤◌, List, [], ◌++◌, length, Option, Some, Ok, Err, codes, slice_get}
+use Rattle.std.specs.FinMap as map
+use Rattle.std.specs.Io.KnownBytes.{Consumes}
 use Rattle.desk_base.specs.Faults.{HasRisen}
 use Rattle.desk_base.specs.Files.{Files}
 use Rattle.desk_base.specs.Lines.{Lines, full, lines_of}
 use Rattle.game_rules.specs.Game.{Position, Least, Lost, Sound, Value}
 use Rattle.game_rules.specs.declared.men.Side.TheVariants.{White}
-use Rattle.chess_text.specs.PositionText.{IsWritable, position_text}
+use Rattle.chess_text.specs.PositionText.{IsWritable, position_lines, position_text}
 use Rattle.game_report.specs.Report.{IsReport, Match}
 use Rattle.game_report.specs.Report as game
 use Rattle.lin_formula.specs.Tree.{Tree}
@@ -18,16 +20,23 @@ use Rattle.mate_plan.specs.Claim.{Claim}
 use Rattle.winning_sets.specs.Reach.{Reach}
 use Rattle.winning_sets.specs.declared.names.StepName.{StepName}
 use Rattle.desk_solve.specs.Decide.{IsExact}
-use Rattle.desk_games.specs.FileClaim.{OfFile}
+use Rattle.claim_plan.specs.CheckPlan.{check_plan}
+use Rattle.strategy_file.specs.Claims.{claim_with}
+use Rattle.strategy_file.specs.StrategyFile.{Charts}
+use Rattle.winning_sets.specs.Solve.{IsSolveError}
+use Rattle.winning_sets.specs.declared.names.SolveError.TheVariants as solve_error
+use Rattle.desk_games.specs.FileClaim.{IsReadAs, OfFile}
 use Rattle.desk_solve.specs.Least.{least_line}
 use Rattle.desk_words.specs.Order.{Ordered, name_in}
-use Rattle.desk_report.specs.Outcome.{Report, Seen, WriteFailed, done_with, over_budget, refusal_as}
+use Rattle.desk_report.specs.Outcome.{FirstOver, Report, Seen, WriteFailed, done_with}
+use Rattle.desk_verdict.specs.StepLines.{budget_line, over_budget}
 use Rattle.desk_games.specs.Play.{as_played, first_match}
-use Rattle.mate_desk.specs.Report.{Reports, TakesMemory, UsesNoShelf}
+use Rattle.mate_desk.specs.Report.{IsOfText, MayLackMemory, Reports, TakesMemory, UsesNoShelf}
 use Rattle.desk_games.specs.Resume.{claimed_match}
 use Rattle.mate_desk.specs.Run.{RunEnds}
-use Rattle.desk_text.specs.Text.{TextAt, whole}
-use Rattle.desk_solve.specs.Verdict.{ExceedsAt, mate_line, no_mate_line}
+use Rattle.desk_text.specs.Text.{TextAt, refused, white_mates, whole}
+use Rattle.desk_text.specs.declared.text.LineWhy.{LineWhy}
+use Rattle.desk_verdict.specs.Verdict.{ExceedsAt, mate_line, no_mate_line}
 use Rattle.desk_words.specs.declared.order.Order.{Order}
 use Rattle.desk_words.specs.declared.order.Order.TheVariants as orders
 use Rattle.desk_words.specs.declared.order.UsageWhy.{UsageWhy}
@@ -81,32 +90,20 @@ UsageExactly =
     → RunEnds words status old new
     → (status ≡ is.Usage) ↔ ((why : UsageWhy) × Ordered words (Err why))
 
--- the order is of a file that was kept
-abbrev pub IsOfFile : Order → Type 0
-IsOfFile (orders.Decide n budget) = ⊥
-IsOfFile (orders.Least limit budget) = ⊥
-IsOfFile (orders.First n budget) = ⊥
-IsOfFile (orders.Play n budget) = ⊥
-IsOfFile (orders.Keep n budget) = ⊥
-IsOfFile (orders.Check budget) = Unit {0}
-IsOfFile (orders.Resume budget) = Unit {0}
-IsOfFile orders.Show = ⊥
-IsOfFile (orders.Drill seed count) = ⊥
-IsOfFile (orders.Arith budget) = ⊥
+-- What a run says whose memory was wanting: after these bytes of its source were taken it may be, by its words; and
+-- where the source told the text of a problem, and the words order something of a text, the problem's position is sound
+-- and what they order of it takes memory.
+pub record LacksSome (words : List (List ℕ)) (old new : Seen) : Type 0 where
+  pub taken : List ℕ
+  pub consumed : Consumes old.left new.left taken
+  pub lacks : MayLackMemory words taken
+  pub of_text : (order : Order) (bytes : List ℕ) (problem : Problem) (rest : Lines) → Ordered words (Ok order)
+      → IsOfText order → old.left ≡ Some bytes → TextAt bytes (whole problem rest)
+      → Sound problem.position × TakesMemory order problem
 
--- the order is of a formula that is typed as a line
-abbrev pub IsOfFormula : Order → Type 0
-IsOfFormula order = (budget : ℕ) × (order ≡ orders.Arith budget)
-
--- the words order something of a file that was kept, of a formula, or of a sound position, and there it takes memory
-abbrev pub OrdersSome : List (List ℕ) → Type 0
-OrdersSome words =
-    (order : Order) × Ordered words (Ok order)
-    × (IsOfFile order ⊎ IsOfFormula order ⊎ ((problem : Problem) × Sound problem.position × TakesMemory order problem))
-
--- want of memory comes only after such words
+-- want of memory comes only there
 abbrev pub MemoryLast : Type 0
-MemoryLast = (words : List (List ℕ)) (old new : Seen) → RunEnds words is.Memory old new → OrdersSome words
+MemoryLast = (words : List (List ℕ)) (old new : Seen) → RunEnds words is.Memory old new → LacksSome words old new
 
 -- a run of an order that uses no file has no fault of the shelf
 abbrev pub NoShelfFault : Type 0
@@ -142,22 +139,25 @@ DecidesExactly =
     → IsExact n budget problem report
 
 -- After the winner's move of this number, counted from 0, of a game that began with the problem: legal moves have led
--- to the position, and the winner still mates within the moves that he has left.
+-- to the position, the move is one of his n, and the loser is mated within those that he has left.
 pub record IsKeptGame (n : ℕ) (problem : Problem) (number : ℕ) (after : Match) : Type 0 where
   pub reached : Reach problem.position after.ply after.position
-  pub value : Value problem.winner (n - (number + 1)) after.position
+  pub few : number + 1 ≤ n
+  pub lost : Lost problem.winner (n - (number + 1)) after.position
 
 -- What `play` reports of a sound position: the first step that exceeds the budget, or that the winner does not mate
 -- within n moves of his own, or, where he does, the game with the lines behind the text, in which each of his moves is
 -- legal and keeps the count.
 abbrev pub PlaysGame : ℕ → ℕ → Problem → Lines → Files → Report → Type 0
-PlaysGame n budget problem lines files report =
-    ((step : StepName) × ExceedsAt problem budget n step × (report ≡ over_budget files step))
-    ⊎ (((Value problem.winner n problem.position → ⊥) × (report ≡ done_with files (no_mate_line n)))
+PlaysGame n budget problem lines files =
+    FirstOver budget_line (ExceedsAt problem budget n)
+    (λ report.
+    ((Value problem.winner n problem.position → ⊥) × (report ≡ done_with files (no_mate_line n)))
     ⊎ (Value problem.winner n problem.position
     × ((played : game.Report) × IsReport problem.lines lines (first_match n problem) played
     × (report ≡ as_played files played)
     × ((number : ℕ) (after : Match) → slice_get played.games number ≡ Some after → IsKeptGame n problem number after))))
+    files
 
 -- each report of `play` on the text of a sound position
 abbrev pub PlayKeeps : Type 0
@@ -171,9 +171,10 @@ PlayKeeps =
     → PlaysGame n budget problem rest files report
 
 -- After the winner's move of this number, counted from 0, of a game that began with the claim: legal moves have led to
--- the position, and the loser is mated within the moves that the winner has left.
+-- the position, the move is one of the claim's, and the loser is mated within those that the winner has left.
 pub record IsLostGame (c : Claim) (number : ℕ) (after : Match) : Type 0 where
   pub reached : Reach c.position after.ply after.position
+  pub few : number + 1 ≤ c.moves
   pub lost : Lost c.winner (c.moves - (number + 1)) after.position
 
 -- What `resume` reports of the claim of a file that keeps all rules: its winner mates within its moves, and in the game
@@ -207,23 +208,34 @@ pub record HasKept (words : List (List ℕ)) (n budget : ℕ) (name : List ℕ) 
   pub files_before : old.files ≡ Some before
   pub files_after : new.files ≡ Some files
 
--- After that each report of `check` of the name is that the claim mates within n moves, or names the first step that
--- exceeds its budget.
+-- The file of the name is of a claim of n moves, and the report names the first step of the plan that checks it that
+-- exceeds the budget.
+pub record NamesCheckStep (n budget : ℕ) (name : List ℕ) (files : Files) (report : Report) : Type 0 where
+  pub charts : Charts
+  pub read : IsReadAs name files (Ok charts)
+  pub moves : charts.moves ≡ n
+  pub step : StepName
+  pub exceeds : IsSolveError (check_plan (claim_with charts)) n budget (solve_error.Over step)
+  pub named : report ≡ over_budget files step
+
+-- After that, of a store whose file of the name is still that one, each report of `check` of the name is that the claim
+-- mates within n moves, or names the first step that exceeds its budget.
 abbrev pub CheckedAfterKeep : Type 0
 CheckedAfterKeep =
-    (words later : List (List ℕ)) (n budget other : ℕ) (name : List ℕ) (files : Files) (old new : Seen) (bytes : List ℕ)
-    (report : Report)
-    → HasKept words n budget name files old new
+    (words later : List (List ℕ)) (n budget other : ℕ) (name : List ℕ) (kept files : Files) (old new : Seen)
+    (bytes : List ℕ) (report : Report)
+    → HasKept words n budget name kept old new
+    → map.get files name ≡ map.get kept name
     → Ordered later (Ok (orders.Check other))
     → name_in (orders.Check other) later ≡ Some name
     → Reports later bytes files report
-    → (report ≡ done_with files (mate_line n)) ⊎ ((step : StepName) × (report ≡ over_budget files step))
+    → (report ≡ done_with files (mate_line n)) ⊎ NamesCheckStep n other name files report
 
 -- What `arith` reports of a formula: the first of its steps that exceeds the budget, or a line that answers it.
 abbrev pub ReportsAnswer : (budget : ℕ) → Tree → Files → Report → Type 0
-ReportsAnswer budget f files report =
-    ((step : ℕ) × IsOver f budget (Over step) × (report ≡ refusal_as files is.Budget (step_line step) false))
-    ⊎ ((line : List ℕ) × Answers f line × (report ≡ done_with files line))
+ReportsAnswer budget f files =
+    FirstOver step_line (λ step. IsOver f budget (Over step))
+    (λ report. (line : List ℕ) × Answers f line × (report ≡ done_with files line)) files
 
 -- each report of `arith` on a line that is a formula, whatever comes behind it
 abbrev pub AnswersExactly : Type 0
@@ -235,3 +247,77 @@ AnswersExactly =
     → IsFormulaLine line f
     → Reports words bytes files report
     → ReportsAnswer budget f files report
+
+-- The words are the order, and the source tells the text of the sound position, and what comes behind it.
+pub record IsTold (words : List (List ℕ)) (order : Order) (p : Position) (old : Seen) : Type 0 where
+  pub behind : List ℕ
+  pub ordered : Ordered words (Ok order)
+  pub writable : IsWritable p
+  pub sound : Sound p
+  pub input : old.left ≡ Some (position_text p ++ behind)
+
+-- Behind the bytes `out` stand this text and this fault line: the whole of them, unless the sink has failed.
+pub record IsWritten (text fault out all : List ℕ) (failed : Type 0) : Type 0 where
+  pub missing : List ℕ
+  pub front : all ++ missing ≡ out ++ (text ++ fault)
+  pub whole : (missing ≡ []) ⊎ failed
+
+-- What a run of `play` wrote: of the game of the text with the lines behind it, in which each move of the winner is
+-- legal and keeps the count, or that he does not mate, or the first step that exceeds the budget.
+pub record WritesGame (n budget : ℕ) (p : Position) (behind : List ℕ) (old new : Seen) (out : List ℕ) : Type 0 where
+  pub all : List ℕ
+  pub told : new.written ≡ Some all
+  pub files : Files
+  pub report : Report
+  pub plays : PlaysGame n budget (white_mates p (length (position_lines p))) (lines_of behind) files report
+  pub writes : IsWritten report.text report.fault out all (WriteFailed old new)
+
+-- What a run of `play` had to play whose source failed: the bytes that it took are a text cut short, and nothing is
+-- written of it; or they are the text of the position and some lines, and the game is that with those.
+abbrev pub PlaysTaken : (n budget : ℕ) → Problem → (taken : List ℕ) → Files → Report → Type 0
+PlaysTaken n budget problem taken files report =
+    ((number : ℕ) × (why : LineWhy) × TextAt taken (refused number why) × (report.text ≡ []))
+    ⊎ ((lines : Lines) × TextAt taken (whole problem lines) × PlaysGame n budget problem lines files report)
+
+-- What such a run wrote of an input: the text of that, and that the source has failed.
+pub record WritesTaken (n budget : ℕ) (p : Position) (input : List ℕ) (old new : Seen) (out : List ℕ) : Type 0 where
+  pub taken : List ℕ
+  pub rest : List ℕ
+  pub input_is : input ≡ taken ++ rest
+  pub all : List ℕ
+  pub told : new.written ≡ Some all
+  pub files : Files
+  pub report : Report
+  pub plays : PlaysTaken n budget (white_mates p (length (position_lines p))) taken files report
+  pub writes : IsWritten report.text (codes "read fault\n") out all (WriteFailed old new)
+
+-- So it is with each run of `play` that has memory.
+pub record PlayWrites : Type 0 where
+  pub game : (words : List (List ℕ)) (n budget : ℕ) (p : Position) (status : Status) (old new : Seen) (out : List ℕ)
+      → (told : IsTold words (orders.Play n budget) p old)
+      → old.written ≡ Some out → status ≢ is.ReadFault → status ≢ is.Memory
+      → RunEnds words status old new
+      → WritesGame n budget p told.behind old new out
+  pub taken : (words : List (List ℕ)) (n budget : ℕ) (p : Position) (old new : Seen) (out : List ℕ)
+      → (told : IsTold words (orders.Play n budget) p old)
+      → old.written ≡ Some out
+      → RunEnds words is.ReadFault old new
+      → WritesTaken n budget p (position_text p ++ told.behind) old new out
+
+-- why a run of `decide` ended so
+abbrev pub Causes : (n budget : ℕ) → Problem → Status → Seen → Seen → Type 0
+Causes n budget problem is.Done old new = Unit {0}
+Causes n budget problem is.Budget old new = (step : StepName) × ExceedsAt problem budget n step
+Causes n budget problem is.ReadFault old new = HasRisen old.read_faults new.read_faults
+Causes n budget problem is.WriteFault old new = WriteFailed old new
+Causes n budget problem is.Memory old new = TakesMemory (orders.Decide n budget) problem
+Causes n budget problem status old new = ⊥
+
+-- A run of `decide` on the text of a sound position is done, or over budget, where a step exceeds it, or its source or
+-- its sink failed and counted it, or memory was wanting, where it takes memory; and it does not end otherwise.
+abbrev pub DecideEnds : Type 0
+DecideEnds =
+    (words : List (List ℕ)) (n budget : ℕ) (p : Position) (status : Status) (old new : Seen)
+    → IsTold words (orders.Decide n budget) p old
+    → RunEnds words status old new
+    → Causes n budget (white_mates p (length (position_lines p))) status old new

@@ -1,3 +1,4 @@
+pub mod Command
 pub mod Laws
 pub mod Report
 pub mod Run
@@ -15,9 +16,11 @@ pub use Rattle.desk_solve.specs.Decide
 pub use Rattle.desk_solve.specs.Drill
 pub use Rattle.desk_solve.specs.First
 pub use Rattle.desk_solve.specs.Least
-pub use Rattle.desk_solve.specs.Verdict
+pub use Rattle.desk_verdict.specs.StepLines
+pub use Rattle.desk_verdict.specs.Verdict
 pub use Rattle.desk_games.specs.Check
 pub use Rattle.desk_games.specs.FileClaim
+pub use Rattle.desk_games.specs.FileLines
 pub use Rattle.desk_games.specs.Keep
 pub use Rattle.desk_games.specs.Play
 pub use Rattle.desk_games.specs.Resume

@@ -1,6 +1,6 @@
 //! The top call.
 
-ghost use Rattle.std.specs.Prelude.{◌≡◌, ◌≢◌};
+ghost use Rattle.std.specs.Prelude.{◌≡◌};
 ghost use Rattle.desk_words.specs.Order.{IsWithinLimits, as_order, texts};
 ghost use Rattle.mate_desk.specs.Report.{ReadsNoText, UsesNoShelf};
 ghost use Rattle.mate_desk.specs.Run.{OrderEndsOn, RunEndsOn, WhereNoOrderOr, WhereOrder};
@@ -19,7 +19,7 @@ use desk_solve::drill::drill;
 use desk_solve::first::first;
 use desk_solve::least::least;
 use desk_text::{FileTask, TextEnd, read_problem};
-use desk_words::{FILE_NAME, KEEP_NAME, Order, TextOrder, UsageWhy, order_of, word_at};
+use desk_words::{Asked, TextOrder, order_of};
 use std::alloc::Global;
 
 /// Does what the words say, with the position text at the front of the source and the replies behind it, with a file that was kept, or with a formula
@@ -50,43 +50,14 @@ pub fn run<S: Source, K: Sink, H: Shelf>(
             return Status::Usage;
         }
     };
-    match order {
-        Order::Decide { moves, budget } => {
-            let asked = TextOrder::Decide { moves, budget };
-            answer(alloc, asked, source, sink, shelf)
-        }
-        Order::Least { limit, budget } => {
-            let asked = TextOrder::Least { limit, budget };
-            answer(alloc, asked, source, sink, shelf)
-        }
-        Order::First { moves, budget } => {
-            let asked = TextOrder::First { moves, budget };
-            answer(alloc, asked, source, sink, shelf)
-        }
-        Order::Play { moves, budget } => {
-            let asked = TextOrder::Play { moves, budget };
-            answer(alloc, asked, source, sink, shelf)
-        }
-        Order::Keep { moves, budget } => {
-            let name = word_at(words, KEEP_NAME);
-            let asked = TextOrder::Keep {
-                moves,
-                budget,
-                name,
-            };
-            answer(alloc, asked, source, sink, shelf)
-        }
-        Order::Check { budget } => {
-            let name = word_at(words, FILE_NAME);
-            check(alloc, &FileTask { name, budget }, sink, shelf)
-        }
-        Order::Resume { budget } => {
-            let name = word_at(words, FILE_NAME);
+    match order.asked(words) {
+        Asked::Text(order) => answer(alloc, order, source, sink, shelf),
+        Asked::Check { name, budget } => check(alloc, &FileTask { name, budget }, sink, shelf),
+        Asked::Resume { name, budget } => {
             resume(alloc, &FileTask { name, budget }, source, sink, shelf)
         }
-        Order::Show => answer(alloc, TextOrder::Show, source, sink, shelf),
-        Order::Drill { seed, count } => drill(alloc, seed, count, sink),
-        Order::Arith { budget } => arith(alloc, budget, source, sink),
+        Asked::Drill { seed, count } => drill(alloc, seed, count, sink),
+        Asked::Arith { budget } => arith(alloc, budget, source, sink),
     }
 }
 
@@ -100,7 +71,6 @@ fn answer<S: Source, K: Sink, H: Shelf>(
 ) -> Status
     requires { IsWithinLimits (as_order order) }
     ensures ends { OrderEndsOn S.Source K.Sink H.Shelf order.entry result (source, sink, shelf) }
-    ensures no_usage { result ≢ Status.Usage }
     ensures shelf_untouched { UsesNoShelf (as_order order.entry) → shelf.new ≡ shelf.old }
 {
     let mut reader = LineReader::new();

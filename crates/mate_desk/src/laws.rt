@@ -1,7 +1,7 @@
 //! Laws of a run, each the contract of a function that does nothing. They are of the relation that the contract of `run` names.
 
 ghost use Rattle.desk_text.specs.TextLaws.{TextIsRead, WhiteIsToMate};
-ghost use Rattle.mate_desk.specs.Laws.{AnswersExactly, CheckedAfterKeep, DecidesExactly, DecideWrites, FaultsAreCounted, LeastWrites, MemoryLast, NoShelfFault, OneReport, PlayKeeps, ResumeKeeps, UsageExactly};
+ghost use Rattle.mate_desk.specs.Laws.{AnswersExactly, CheckedAfterKeep, DecideEnds, DecidesExactly, DecideWrites, FaultsAreCounted, LeastWrites, MemoryLast, NoShelfFault, OneReport, PlayKeeps, PlayWrites, ResumeKeeps, UsageExactly};
 
 /// A run of `decide` that is done, on the text of a sound position and whatever comes behind it, writes `mate in n` exactly where White
 /// mates within n moves of his own, whatever is replied on the whole board, and `no mate in n` exactly where he does not.
@@ -30,8 +30,8 @@ pub fn usage_exactly()
     ensures { UsageExactly }
 {}
 
-/// Want of memory comes only after words that order something of a file that was kept, of a formula, or of a sound position, and there it takes
-/// memory.
+/// Want of memory comes only where the bytes that were taken and the words say that it may; and where the source told the text of a position, that
+/// position is sound, and what is ordered of it takes memory.
 pub fn memory_last()
     ensures { MemoryLast }
 {}
@@ -58,7 +58,8 @@ pub fn decides_exactly()
 {}
 
 /// Of the text of a sound position whose winner mates within n moves of his own, `play` reports a game with the lines behind the text, and each
-/// of the winner's moves in it is legal and keeps the count: after his k-th move, whatever was replied, he still mates within n - k.
+/// of the winner's moves in it is legal and keeps the count: he makes at most n, and after his k-th, whatever was replied, the loser is mated within
+/// n - k; or it names the first step that exceeds the budget.
 pub fn play_keeps()
     ensures { PlayKeeps }
 {}
@@ -69,8 +70,8 @@ pub fn resume_keeps()
     ensures { ResumeKeeps }
 {}
 
-/// After a run of `keep` that wrote `mate in n`, with the files that it left, `check` of that name reports `mate in n`, or names a step that exceeds
-/// its budget.
+/// After a run of `keep` that wrote `mate in n`, `check` of that name reports `mate in n`, or names the first step that exceeds its budget, as long as
+/// the file of the name is that one, whatever the other files are.
 pub fn checked_after_keep()
     ensures { CheckedAfterKeep }
 {}
@@ -80,4 +81,16 @@ pub fn checked_after_keep()
 /// the budget.
 pub fn answers_exactly()
     ensures { AnswersExactly }
+{}
+
+/// A run of `play` on the text of a sound position that has memory writes what is reported of the game with the lines behind the text: the whole of it,
+/// unless the sink has failed. Where its source failed, they are the lines that it took, and behind the game stands that the source has failed.
+pub fn play_writes()
+    ensures { PlayWrites }
+{}
+
+/// A run of `decide` on the text of a sound position is done, or a step exceeds the budget, or a fault was counted, or memory was wanting, and it
+/// does not end otherwise.
+pub fn decide_ends()
+    ensures { DecideEnds }
 {}

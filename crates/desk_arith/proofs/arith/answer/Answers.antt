@@ -10,7 +10,7 @@ pub returns-in-Ok : goal.returns-in-Ok
 returns-in-Ok g c = record {
   ends = λ files. let text = c.as_slice.result.now in
       printed c.print.result (FormulaReports c.args.budget (tree_of c.args.f.now) files) (Unit {0}) _ _ (done_with files text)
-      (inr (c.in-Ok.truth, c.in-Ok.ensures.within, c.in-Ok.ensures.truth, ap (done_with files) (c.as_slice.ensures ∙ c.truth_line-line.ensures)))
+      (inr (c.in-Ok.ensures.within, (c.in-Ok.truth, c.in-Ok.ensures.truth, ap (done_with files) (c.as_slice.ensures ∙ c.truth_line-line.ensures))))
       (c.print.ensures.ends files);
 }
 

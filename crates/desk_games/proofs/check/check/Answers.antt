@@ -2,7 +2,7 @@ use Rattle.std.proofs.Common.{◌≡◌, refl, ap, ◌∙◌}
 use Rattle.std.specs.Prelude.{Err}
 use Rattle.mate_plan.specs.Claim.{Claim}
 use Rattle.desk_report.specs.Outcome.{Report, done_with}
-use Rattle.desk_solve.specs.Verdict.{mate_line}
+use Rattle.desk_verdict.specs.Verdict.{mate_line}
 use Rattle.desk_games.proofs.FileClaims.{line_checks, refused_ends}
 use Rattle.desk_games.proofs.check.check.Goals as goal
 

@@ -5,7 +5,7 @@ use Rattle.winning_sets.specs.Claimed.{IsValidBy}
 use Rattle.winning_sets.specs.Solve.{IsSolution}
 use Rattle.desk_games.specs.Keep.{FileReports, IsFileToKeep}
 use Rattle.desk_report.specs.Outcome.{Report, done_with}
-use Rattle.desk_solve.specs.Verdict.{mate_line}
+use Rattle.desk_verdict.specs.Verdict.{mate_line}
 use Rattle.desk_games.proofs.Shelves.{printed_leaving, put_leaves, same_leaves}
 use Rattle.desk_games.proofs.keep.keep_file.Goals as goal
 

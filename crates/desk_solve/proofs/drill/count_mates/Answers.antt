@@ -4,7 +4,7 @@ use Rattle.std.proofs.lemmas.Result.{err_from_is_err_and}
 use Rattle.desk_words.specs.declared.order.TheConstants.{DEFAULT_STATES}
 use Rattle.game_rules.specs.Game.{Value}
 use Rattle.desk_solve.specs.Drill.{DrillFinds, drilled, next_state, problem_of, state_after}
-use Rattle.desk_solve.specs.Verdict.{ExceedsAt, FitsBudget}
+use Rattle.desk_verdict.specs.Verdict.{ExceedsAt, FitsBudget}
 use Rattle.desk_text.specs.declared.problem.Problem.{Problem}
 use Rattle.desk_solve.proofs.Drilled.{finds_more}
 use Rattle.desk_solve.proofs.Rooks.{drill_sound}

@@ -1,7 +1,7 @@
 use Rattle.std.proofs.Common.{inl, inr, refl, ap}
 use Rattle.desk_solve.specs.First.{FirstReports, HasNoFirstMove}
 use Rattle.desk_report.specs.Outcome.{NeverMisses, done_with}
-use Rattle.desk_solve.specs.Verdict.{FitsBudget}
+use Rattle.desk_verdict.specs.Verdict.{FitsBudget}
 use Rattle.desk_solve.proofs.Listing.{first_moves_left, first_turn, last_line, lines_of_problem, not_so, some_moves}
 use Rattle.desk_report.proofs.Writing.{ends_as, printed}
 use Rattle.desk_solve.proofs.first.first.Goals as goal
@@ -17,23 +17,23 @@ pub first_lines-requires-clause-turn : goal.first_lines-requires-clause-turn
 first_lines-requires-clause-turn g c =
     let task = c.args.task.now in
     let some = not_so (HasNoFirstMove task.moves task.problem) c.has_no_first_move.result c.has_no_first_move.ensures c.if-has_no_first_move.false in
-    first_turn task.moves task.problem some c.in-Ok-Some.solved (rw c.in-Ok-Some.field-0-is at c.in-Ok-Some.ensures.found)
+    first_turn task.moves task.problem some c.in-Ok-Some.solved (rw (c.in-Ok-Some.field-0-is, c.new-solver.ensures.problem) at c.in-Ok-Some.ensures.found)
 
 pub first_lines-requires-clause-moves : goal.first_lines-requires-clause-moves
 first_lines-requires-clause-moves g c =
     let task = c.args.task.now in
     let some = not_so (HasNoFirstMove task.moves task.problem) c.has_no_first_move.result c.has_no_first_move.ensures c.if-has_no_first_move.false in
-    first_moves_left task.moves task.problem some c.in-Ok-Some.solved (rw c.in-Ok-Some.field-0-is at c.in-Ok-Some.ensures.found)
+    first_moves_left task.moves task.problem some c.in-Ok-Some.solved (rw (c.in-Ok-Some.field-0-is, c.new-solver.ensures.problem) at c.in-Ok-Some.ensures.found)
 
 pub returns-in-Ok : goal.returns-in-Ok
 returns-in-Ok g c = record {
   ends = λ files.
       let task = c.args.task.now in
       let some = not_so (HasNoFirstMove task.moves task.problem) c.has_no_first_move.result c.has_no_first_move.ensures c.if-has_no_first_move.false in
-      let fits : FitsBudget task.problem task.budget task.moves = rw c.new-solver.ensures at c.in-Ok-Some.ensures.fits in
-      let lines = lines_of_problem task.moves task.problem c.in-Ok-Some.solved c.in-Ok.text.items (rw c.in-Ok-Some.field-0-is at c.in-Ok-Some.ensures.found) c.in-Ok.ensures in
+      let fits : FitsBudget task.problem task.budget task.moves = rw (c.new-solver.ensures.problem, c.new-solver.ensures.budget) at c.in-Ok-Some.ensures.fits in
+      let lines = lines_of_problem task.moves task.problem c.in-Ok-Some.solved c.in-Ok.text.items (rw (c.in-Ok-Some.field-0-is, c.new-solver.ensures.problem) at c.in-Ok-Some.ensures.found) c.in-Ok.ensures in
       printed c.print-in-Ok.result (FirstReports task.moves task.budget task.problem files) _ _ _ (done_with files c.as_slice.result.now)
-      (inr (some, inr (c.in-Ok.text.items, fits, lines, ap (done_with files) c.as_slice.ensures.value))) (c.print-in-Ok.ensures.ends files);
+      (inr (some, inr (fits, (c.in-Ok.text.items, lines, ap (done_with files) c.as_slice.ensures.value)))) (c.print-in-Ok.ensures.ends files);
 }
 
 pub returns-in-Ok-Some : goal.returns-in-Ok-Some
@@ -50,11 +50,11 @@ returns-in-Ok-None g c = record {
   ends = λ files.
       let task = c.args.task.now in
       let some = not_so (HasNoFirstMove task.moves task.problem) c.has_no_first_move.result c.has_no_first_move.ensures c.if-has_no_first_move.false in
-      let fits : FitsBudget task.problem task.budget task.moves = rw c.new-solver.ensures at c.in-Ok-None.ensures.fits in
-      let won = rw c.in-Ok-None.field-0-is at c.in-Ok-None.ensures.won in
+      let fits : FitsBudget task.problem task.budget task.moves = rw (c.new-solver.ensures.problem, c.new-solver.ensures.budget) at c.in-Ok-None.ensures.fits in
+      let won = rw (c.in-Ok-None.field-0-is, c.new-solver.ensures.problem) at c.in-Ok-None.ensures.won in
       let lines = last_line task.problem.winner task.moves task.problem.position (some_moves task.moves task.problem some) (λ value. let t = won.1 value in cc) in
       printed c.print-in-Ok-None.result (FirstReports task.moves task.budget task.problem files) _ _ _ _
-      (inr (some, inr (_, fits, lines, refl))) (c.print-in-Ok-None.ensures.ends files);
+      (inr (some, inr (fits, (_, lines, refl)))) (c.print-in-Ok-None.ensures.ends files);
 }
 
 pub returns : goal.returns
@@ -63,6 +63,6 @@ returns g c = record {
       let task = c.args.task.now in
       let some = not_so (HasNoFirstMove task.moves task.problem) c.has_no_first_move.result c.has_no_first_move.ensures c.if-has_no_first_move.false in
       ends_as c.print_error-in-Err.result _ (FirstReports task.moves task.budget task.problem files) _ _ NeverMisses NeverMisses _ _
-      (λ report step. inr (some, inl (step.0, rw c.new-solver.ensures at (c.in-Err.ensures.step step.0 step.1), step.2)))
+      (λ report step. inr (some, inl (step.0, rw (c.new-solver.ensures.problem, c.new-solver.ensures.budget) at (c.in-Err.ensures.step step.0 step.1), step.2)))
       (λ memory. some) (λ keeping never. never) (c.print_error-in-Err.ensures.ends files);
 }

@@ -1,18 +1,13 @@
-use Rattle.std.proofs.Common.{map, string_bytes, Some, None, refl, subst}
-use Rattle.desk_words.specs.Order.{IsCommand, Ordered}
+use Rattle.std.proofs.Common.{List, ℕ, length, map, string_bytes, drop, take, ◌-◌, subst}
+use Rattle.desk_words.specs.Order.{OrderedBy, Ordered, rows}
 use Rattle.desk_words.proofs.Words.{behind}
 use Rattle.desk_words.proofs.order.order_of.Goals as goal
 
-pub returns-in-Some-clause-ordered : goal.returns-in-Some-clause-ordered
-returns-in-Some-clause-ordered c =
-    let named = subst (λ word. IsCommand word (Some c.in-Some.command)) c.as_str.ensures.value c.in-Some.ensures in
-    let ordered : Ordered (map string_bytes c.as_slice.result.now) c.order_behind.result =
-    behind string_bytes c.order_behind.result (Some c.in-Some.command) c.as_slice.result.now c.word-item.result c.in-len1-up.len_at_least c.word-item.is named c.order_behind.ensures.ordered in
-    rw (← c.as_slice.ensures.value) ordered
-
-pub returns-in-None-clause-ordered : goal.returns-in-None-clause-ordered
-returns-in-None-clause-ordered c =
-    let named = subst (λ word. IsCommand word None) c.as_str.ensures.value c.in-None.ensures in
-    let ordered : Ordered (map string_bytes c.as_slice.result.now) _ =
-    behind string_bytes _ None c.as_slice.result.now c.word-item.result c.in-len1-up.len_at_least c.word-item.is named refl in
+pub returns-in-len1-up-clause-ordered : goal.returns-in-len1-up-clause-ordered
+returns-in-len1-up-clause-ordered c =
+    let words = c.as_slice.result.now in
+    let By : List ℕ → Type 0 = λ name. OrderedBy rows name (map string_bytes (take (length words - 1) (drop 1 words))) c.order_named.result in
+    let named = subst By c.as_str.ensures.value c.order_named.ensures.ordered in
+    let ordered : Ordered (map string_bytes words) c.order_named.result =
+    behind string_bytes c.order_named.result words c.word-item.result c.in-len1-up.len_at_least c.word-item.is named in
     rw (← c.as_slice.ensures.value) ordered

@@ -1,146 +1,88 @@
-use Rattle.std.proofs.Common.{map, string_bytes, Ok, refl, subst}
-use Rattle.desk_words.specs.Order.{Ordered}
-use Rattle.desk_words.specs.declared.order.Order.{Order}
-use Rattle.mate_desk.proofs.Reporting.{arith_ends, arith_no_usage, check_ends, drill_ends, resume_ends, usage_ends}
-use Rattle.mate_desk.proofs.Statuses.{no_shelfless, no_textless}
+use Rattle.std.proofs.Common.{◌<◌, map, string_bytes, refl, subst}
+use Rattle.desk_arith.specs.Arith.{ArithReports, IsBehindLine}
+use Rattle.desk_solve.specs.Drill.{DrillReports}
+use Rattle.desk_words.specs.Order.{IsAsked, as_order}
+use Rattle.desk_words.specs.declared.order.Asked.{Asked}
+use Rattle.desk_words.specs.declared.order.Order.TheVariants.{Check, Resume, Drill, Arith}
+use Rattle.mate_desk.proofs.Reporting.{check_ends, lines_ends, lines_not_usage, resume_ends, usage_ends, words_ends}
+use Rattle.mate_desk.proofs.Rows.{text_order}
+use Rattle.mate_desk.proofs.StatusLaws.{no_textless, ordered_not_usage, unused}
 use Rattle.mate_desk.proofs.desk.run.Goals as goal
 
 pub returns-in-Err-clause-ends : goal.returns-in-Err-clause-ends
 returns-in-Err-clause-ends g c = usage_ends (map string_bytes c.args.words.now.items) _ _ refl c.in-Err.why c.in-Err.ensures.ordered refl (rw c.line.ensures at c.refuse.ensures.written)
 
-pub returns-in-Decide-clause-ends : goal.returns-in-Decide-clause-ends
-returns-in-Decide-clause-ends g c =
+pub returns-in-Text-clause-ends : goal.returns-in-Text-clause-ends
+returns-in-Text-clause-ends g c =
     let words = map string_bytes c.args.words.now.items in
-    let IsOrdered : Order → Type 0 = λ order. Ordered words (Ok order) in
-    c.answer.ensures.ends words (record { ordered = subst IsOrdered c.in-Decide.is c.in-Ok.ensures.ordered; named = tt })
+    let Is : Asked → Type 0 = λ a. IsAsked a words in
+    let o = subst Is c.in-Text.is c.asked.ensures.asked in
+    c.answer.ensures.ends words o
 
-pub returns-in-Decide-clause-nothing_read : goal.returns-in-Decide-clause-nothing_read
-returns-in-Decide-clause-nothing_read g c = λ usage. absurd (c.answer.ensures.no_usage usage)
-
-pub returns-in-Decide-clause-no_text_read : goal.returns-in-Decide-clause-no_text_read
-returns-in-Decide-clause-no_text_read g c = λ other also none.
+pub returns-in-Text-clause-nothing_read : goal.returns-in-Text-clause-nothing_read
+returns-in-Text-clause-nothing_read g c = λ usage.
     let words = map string_bytes c.args.words.now.items in
-    let IsOrdered : Order → Type 0 = λ order. Ordered words (Ok order) in
-    absurd (no_textless words _ (subst IsOrdered c.in-Decide.is c.in-Ok.ensures.ordered) (λ none. none) other also none)
+    let Is : Asked → Type 0 = λ a. IsAsked a words in
+    let o = subst Is c.in-Text.is c.asked.ensures.asked in
+    absurd (ordered_not_usage words (as_order c.in-Text.order) c.answer.result _ _ o.ordered (c.answer.ensures.ends words o) usage)
 
-pub returns-in-Least-clause-ends : goal.returns-in-Least-clause-ends
-returns-in-Least-clause-ends g c =
+pub returns-in-Text-clause-no_text_read : goal.returns-in-Text-clause-no_text_read
+returns-in-Text-clause-no_text_read g c = λ other also none.
     let words = map string_bytes c.args.words.now.items in
-    let IsOrdered : Order → Type 0 = λ order. Ordered words (Ok order) in
-    c.answer-in-Least.ensures.ends words (record { ordered = subst IsOrdered c.in-Least.is c.in-Ok.ensures.ordered; named = tt })
+    let Is : Asked → Type 0 = λ a. IsAsked a words in
+    let o = subst Is c.in-Text.is c.asked.ensures.asked in
+    absurd (no_textless words _ o.ordered (text_order c.in-Text.order words).reads other also none)
 
-pub returns-in-Least-clause-nothing_read : goal.returns-in-Least-clause-nothing_read
-returns-in-Least-clause-nothing_read g c = λ usage. absurd (c.answer-in-Least.ensures.no_usage usage)
-
-pub returns-in-Least-clause-no_text_read : goal.returns-in-Least-clause-no_text_read
-returns-in-Least-clause-no_text_read g c = λ other also none.
+pub returns-in-Text-clause-shelf_untouched : goal.returns-in-Text-clause-shelf_untouched
+returns-in-Text-clause-shelf_untouched g c = λ other also none.
     let words = map string_bytes c.args.words.now.items in
-    let IsOrdered : Order → Type 0 = λ order. Ordered words (Ok order) in
-    absurd (no_textless words _ (subst IsOrdered c.in-Least.is c.in-Ok.ensures.ordered) (λ none. none) other also none)
-
-pub returns-in-First-clause-ends : goal.returns-in-First-clause-ends
-returns-in-First-clause-ends g c =
-    let words = map string_bytes c.args.words.now.items in
-    let IsOrdered : Order → Type 0 = λ order. Ordered words (Ok order) in
-    c.answer-in-First.ensures.ends words (record { ordered = subst IsOrdered c.in-First.is c.in-Ok.ensures.ordered; named = tt })
-
-pub returns-in-First-clause-nothing_read : goal.returns-in-First-clause-nothing_read
-returns-in-First-clause-nothing_read g c = λ usage. absurd (c.answer-in-First.ensures.no_usage usage)
-
-pub returns-in-First-clause-no_text_read : goal.returns-in-First-clause-no_text_read
-returns-in-First-clause-no_text_read g c = λ other also none.
-    let words = map string_bytes c.args.words.now.items in
-    let IsOrdered : Order → Type 0 = λ order. Ordered words (Ok order) in
-    absurd (no_textless words _ (subst IsOrdered c.in-First.is c.in-Ok.ensures.ordered) (λ none. none) other also none)
-
-pub returns-in-Play-clause-ends : goal.returns-in-Play-clause-ends
-returns-in-Play-clause-ends g c =
-    let words = map string_bytes c.args.words.now.items in
-    let IsOrdered : Order → Type 0 = λ order. Ordered words (Ok order) in
-    c.answer-in-Play.ensures.ends words (record { ordered = subst IsOrdered c.in-Play.is c.in-Ok.ensures.ordered; named = tt })
-
-pub returns-in-Play-clause-nothing_read : goal.returns-in-Play-clause-nothing_read
-returns-in-Play-clause-nothing_read g c = λ usage. absurd (c.answer-in-Play.ensures.no_usage usage)
-
-pub returns-in-Play-clause-no_text_read : goal.returns-in-Play-clause-no_text_read
-returns-in-Play-clause-no_text_read g c = λ other also none.
-    let words = map string_bytes c.args.words.now.items in
-    let IsOrdered : Order → Type 0 = λ order. Ordered words (Ok order) in
-    absurd (no_textless words _ (subst IsOrdered c.in-Play.is c.in-Ok.ensures.ordered) (λ none. none) other also none)
-
-pub returns-in-Keep-clause-ends : goal.returns-in-Keep-clause-ends
-returns-in-Keep-clause-ends g c =
-    let words = map string_bytes c.args.words.now.items in
-    let IsOrdered : Order → Type 0 = λ order. Ordered words (Ok order) in
-    c.answer-in-Keep.ensures.ends words (record { ordered = subst IsOrdered c.in-Keep.is c.in-Ok.ensures.ordered; named = c.word_at-name.ensures })
-
-pub returns-in-Keep-clause-nothing_read : goal.returns-in-Keep-clause-nothing_read
-returns-in-Keep-clause-nothing_read g c = λ usage. absurd (c.answer-in-Keep.ensures.no_usage usage)
-
-pub returns-in-Keep-clause-no_text_read : goal.returns-in-Keep-clause-no_text_read
-returns-in-Keep-clause-no_text_read g c = λ other also none.
-    let words = map string_bytes c.args.words.now.items in
-    let IsOrdered : Order → Type 0 = λ order. Ordered words (Ok order) in
-    absurd (no_textless words _ (subst IsOrdered c.in-Keep.is c.in-Ok.ensures.ordered) (λ none. none) other also none)
-
-pub returns-in-Show-clause-ends : goal.returns-in-Show-clause-ends
-returns-in-Show-clause-ends g c =
-    let words = map string_bytes c.args.words.now.items in
-    let IsOrdered : Order → Type 0 = λ order. Ordered words (Ok order) in
-    c.answer-in-Show.ensures.ends words (record { ordered = subst IsOrdered c.in-Show.is c.in-Ok.ensures.ordered; named = tt })
-
-pub returns-in-Show-clause-nothing_read : goal.returns-in-Show-clause-nothing_read
-returns-in-Show-clause-nothing_read g c = λ usage. absurd (c.answer-in-Show.ensures.no_usage usage)
-
-pub returns-in-Show-clause-no_text_read : goal.returns-in-Show-clause-no_text_read
-returns-in-Show-clause-no_text_read g c = λ other also none.
-    let words = map string_bytes c.args.words.now.items in
-    let IsOrdered : Order → Type 0 = λ order. Ordered words (Ok order) in
-    absurd (no_textless words _ (subst IsOrdered c.in-Show.is c.in-Ok.ensures.ordered) (λ none. none) other also none)
-
-pub returns-in-Keep-clause-shelf_untouched : goal.returns-in-Keep-clause-shelf_untouched
-returns-in-Keep-clause-shelf_untouched g c = λ other also none.
-    let words = map string_bytes c.args.words.now.items in
-    let IsOrdered : Order → Type 0 = λ order. Ordered words (Ok order) in
-    absurd (no_shelfless words _ (subst IsOrdered c.in-Keep.is c.in-Ok.ensures.ordered) (λ none. none) other also none)
+    let Is : Asked → Type 0 = λ a. IsAsked a words in
+    let o = subst Is c.in-Text.is c.asked.ensures.asked in
+    c.answer.ensures.shelf_untouched (unused words _ o.ordered other also none)
 
 pub returns-in-Check-clause-ends : goal.returns-in-Check-clause-ends
 returns-in-Check-clause-ends g c =
     let words = map string_bytes c.args.words.now.items in
-    let IsOrdered : Order → Type 0 = λ order. Ordered words (Ok order) in
-    check_ends words _ _ c.check.result c.in-Check.budget c.word_at-name-in-Check.result.now (subst IsOrdered c.in-Check.is c.in-Ok.ensures.ordered)
-    c.word_at-name-in-Check.ensures refl c.check.ensures.ends
+    let Is : Asked → Type 0 = λ a. IsAsked a words in
+    let o = subst Is c.in-Check.is c.asked.ensures.asked in
+    check_ends words _ _ c.check.result c.in-Check.budget c.in-Check.name.now o.ordered o.named refl c.check.ensures.ends
 
 pub returns-in-Check-clause-shelf_untouched : goal.returns-in-Check-clause-shelf_untouched
 returns-in-Check-clause-shelf_untouched g c = λ other also none.
     let words = map string_bytes c.args.words.now.items in
-    let IsOrdered : Order → Type 0 = λ order. Ordered words (Ok order) in
-    absurd (no_shelfless words _ (subst IsOrdered c.in-Check.is c.in-Ok.ensures.ordered) (λ none. none) other also none)
+    let Is : Asked → Type 0 = λ a. IsAsked a words in
+    let o = subst Is c.in-Check.is c.asked.ensures.asked in
+    absurd (unused words (Check c.in-Check.budget) o.ordered other also none)
 
 pub returns-in-Resume-clause-ends : goal.returns-in-Resume-clause-ends
 returns-in-Resume-clause-ends g c =
     let words = map string_bytes c.args.words.now.items in
-    let IsOrdered : Order → Type 0 = λ order. Ordered words (Ok order) in
-    resume_ends words _ _ c.resume.result c.in-Resume.budget c.word_at-name-in-Resume.result.now
-    (subst IsOrdered c.in-Resume.is c.in-Ok.ensures.ordered) c.word_at-name-in-Resume.ensures c.resume.ensures.ends
+    let Is : Asked → Type 0 = λ a. IsAsked a words in
+    let o = subst Is c.in-Resume.is c.asked.ensures.asked in
+    resume_ends words _ _ c.resume.result c.in-Resume.budget c.in-Resume.name.now o.ordered o.named c.resume.ensures.ends
 
 pub returns-in-Resume-clause-no_text_read : goal.returns-in-Resume-clause-no_text_read
 returns-in-Resume-clause-no_text_read g c = λ other also none.
     let words = map string_bytes c.args.words.now.items in
-    let IsOrdered : Order → Type 0 = λ order. Ordered words (Ok order) in
-    absurd (no_textless words _ (subst IsOrdered c.in-Resume.is c.in-Ok.ensures.ordered) (λ none. none) other also none)
+    let Is : Asked → Type 0 = λ a. IsAsked a words in
+    let o = subst Is c.in-Resume.is c.asked.ensures.asked in
+    absurd (no_textless words (Resume c.in-Resume.budget) o.ordered (λ none. none) other also none)
 
 pub returns-in-Resume-clause-shelf_untouched : goal.returns-in-Resume-clause-shelf_untouched
 returns-in-Resume-clause-shelf_untouched g c = λ other also none.
     let words = map string_bytes c.args.words.now.items in
-    let IsOrdered : Order → Type 0 = λ order. Ordered words (Ok order) in
-    absurd (no_shelfless words _ (subst IsOrdered c.in-Resume.is c.in-Ok.ensures.ordered) (λ none. none) other also none)
+    let Is : Asked → Type 0 = λ a. IsAsked a words in
+    let o = subst Is c.in-Resume.is c.asked.ensures.asked in
+    absurd (unused words (Resume c.in-Resume.budget) o.ordered other also none)
 
 pub returns-in-Drill-clause-ends : goal.returns-in-Drill-clause-ends
 returns-in-Drill-clause-ends g c =
     let words = map string_bytes c.args.words.now.items in
-    let IsOrdered : Order → Type 0 = λ order. Ordered words (Ok order) in
-    drill_ends words _ _ refl c.in-Drill.seed c.in-Drill.count c.drill.result (subst IsOrdered c.in-Drill.is c.in-Ok.ensures.ordered) refl c.drill.ensures.ends
+    let Is : Asked → Type 0 = λ a. IsAsked a words in
+    let o = subst Is c.in-Drill.is c.asked.ensures.asked in
+    let seed = c.in-Drill.seed in
+    let count = c.in-Drill.count in
+    words_ends words _ _ refl (Drill seed count) (DrillReports seed count) (0 < count) c.drill.result o refl (λ bytes files report right. right) (λ some. (refl, some)) c.drill.ensures.ends
 
 pub returns-in-Drill-clause-nothing_read : goal.returns-in-Drill-clause-nothing_read
 returns-in-Drill-clause-nothing_read g c = λ usage. refl
@@ -148,14 +90,20 @@ returns-in-Drill-clause-nothing_read g c = λ usage. refl
 pub returns-in-Arith-clause-ends : goal.returns-in-Arith-clause-ends
 returns-in-Arith-clause-ends g c =
     let words = map string_bytes c.args.words.now.items in
-    let IsOrdered : Order → Type 0 = λ order. Ordered words (Ok order) in
-    arith_ends words _ _ c.arith.result c.in-Arith.budget (subst IsOrdered c.in-Arith.is c.in-Ok.ensures.ordered) refl c.arith.ensures.ends
+    let Is : Asked → Type 0 = λ a. IsAsked a words in
+    let o = subst Is c.in-Arith.is c.asked.ensures.asked in
+    let budget = c.in-Arith.budget in
+    lines_ends words _ _ c.arith.result (Arith budget) (λ lines. ArithReports budget lines) IsBehindLine o refl (λ bytes files report right. right) (λ taken some. some) c.arith.ensures.ends
 
 pub returns-in-Arith-clause-nothing_read : goal.returns-in-Arith-clause-nothing_read
-returns-in-Arith-clause-nothing_read g c = λ usage. absurd (arith_no_usage c.arith.result c.in-Arith.budget _ _ _ _ _ _ _ _ c.arith.ensures.ends usage)
+returns-in-Arith-clause-nothing_read g c = λ usage.
+    let words = map string_bytes c.args.words.now.items in
+    let budget = c.in-Arith.budget in
+    absurd (lines_not_usage (Arith budget) words (λ lines. ArithReports budget lines) IsBehindLine c.arith.result (λ bytes files report right. right) _ _ _ _ _ _ _ _ c.arith.ensures.ends usage)
 
 pub returns-in-Arith-clause-no_text_read : goal.returns-in-Arith-clause-no_text_read
 returns-in-Arith-clause-no_text_read g c = λ other also none.
     let words = map string_bytes c.args.words.now.items in
-    let IsOrdered : Order → Type 0 = λ order. Ordered words (Ok order) in
-    absurd (no_textless words _ (subst IsOrdered c.in-Arith.is c.in-Ok.ensures.ordered) (λ none. none) other also none)
+    let Is : Asked → Type 0 = λ a. IsAsked a words in
+    let o = subst Is c.in-Arith.is c.asked.ensures.asked in
+    absurd (no_textless words (Arith c.in-Arith.budget) o (λ none. none) other also none)

@@ -1,4 +1,4 @@
-use Rattle.mate_desk.proofs.Statuses.{faults_are_counted}
+use Rattle.mate_desk.proofs.StatusLaws.{faults_are_counted}
 use Rattle.mate_desk.proofs.laws.faults_are_counted.Goals as goal
 
 pub returns : goal.returns

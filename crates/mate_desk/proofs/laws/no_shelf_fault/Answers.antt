@@ -1,4 +1,4 @@
-use Rattle.mate_desk.proofs.Statuses.{no_shelf_fault}
+use Rattle.mate_desk.proofs.StatusLaws.{no_shelf_fault}
 use Rattle.mate_desk.proofs.laws.no_shelf_fault.Goals as goal
 
 pub returns : goal.returns

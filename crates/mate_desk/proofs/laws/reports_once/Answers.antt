@@ -1,4 +1,4 @@
-use Rattle.mate_desk.proofs.OneReport.{one_report}
+use Rattle.mate_desk.proofs.Rows.{one_report}
 use Rattle.mate_desk.proofs.laws.reports_once.Goals as goal
 
 pub returns : goal.returns

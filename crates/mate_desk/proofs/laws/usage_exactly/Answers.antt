@@ -1,4 +1,4 @@
-use Rattle.mate_desk.proofs.Statuses.{usage_exactly}
+use Rattle.mate_desk.proofs.StatusLaws.{usage_exactly}
 use Rattle.mate_desk.proofs.laws.usage_exactly.Goals as goal
 
 pub returns : goal.returns

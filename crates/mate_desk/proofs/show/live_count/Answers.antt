@@ -1,5 +1,5 @@
 use Rattle.std.proofs.Common.{◌≡◌, ◌+◌, Some, slice_get, sym, ap, ◌∙◌, add-one, arith}
-use Rattle.desk_solve.proofs.Values.{live_more, gone_more}
+use Rattle.mate_desk.proofs.Live.{live_more, gone_more}
 use Rattle.mate_desk.proofs.show.live_count.Goals as goal
 use Rattle.mate_desk.proofs.show.live_count.Goals.{then-is_live, else-is_live}
 

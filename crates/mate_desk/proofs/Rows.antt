@@ -1,0 +1,180 @@
+-- Each row of the orders is in order: what it reports is one report, and has not the status of words that are no order,
+-- and where it uses no file no shelf fails.
+use Rattle.std.proofs.Common.{◌≡◌, ◌<◌, ℕ, List, false, Option, Some, None, Result, Ok, Err, inl, refl, sym, ◌∙◌, ap, subst}
+use Rattle.desk_base.specs.Files.{Files}
+use Rattle.desk_base.specs.Lines.{Lines, lines_of}
+use Rattle.game_rules.specs.Game.{Position, Sound}
+use Rattle.chess_game.specs.Unsoundness.{IsFirstUnsoundness}
+use Rattle.chess_game.specs.declared.unsoundness.Unsound.{Unsound}
+use Rattle.chess_game.proofs.UnsoundnessLemmas.{unsound_refuted}
+use Rattle.chess_text.specs.declared.reader.Stage.TheVariants.{Header}
+use Rattle.desk_arith.proofs.Once.{arith_row}
+use Rattle.desk_games.proofs.Rows.{check_row, keep_row, play_row, resume_row}
+use Rattle.desk_report.specs.FaultLines.{unsound_line}
+use Rattle.desk_report.specs.Outcome.{Report, refusal_as}
+use Rattle.desk_report.specs.declared.status.Status.TheVariants as is
+use Rattle.desk_report.proofs.One.{IsNotUsage, IsOne, and_row, due_of_row, due_row, either_row, said_row}
+use Rattle.desk_solve.proofs.Drilled.{drill_row}
+use Rattle.desk_solve.proofs.Listing.{first_row}
+use Rattle.desk_solve.proofs.Rows.{decide_row, least_row}
+use Rattle.desk_text.specs.Text.{Text, TextAt, whole, refused, is_end, refusal_line}
+use Rattle.desk_text.specs.declared.problem.Problem.{Problem}
+use Rattle.desk_text.specs.declared.text.LineWhy.{LineWhy}
+use Rattle.desk_text.proofs.OneText.{once_text}
+use Rattle.desk_words.specs.Order.{as_order, name_in}
+use Rattle.desk_words.specs.declared.order.Order.{Order}
+use Rattle.desk_words.specs.declared.order.Order.TheVariants.{Decide, Least, First, Play, Keep, Check, Resume, Show, Drill, Arith}
+use Rattle.desk_words.specs.declared.order.TextOrder.{TextOrder}
+use Rattle.desk_words.specs.declared.order.TextOrder.TheVariants as text_orders
+use Rattle.desk_words.specs.declared.order.UsageWhy.{UsageWhy}
+use Rattle.desk_words.proofs.OneOrder.{once_words}
+use Rattle.mate_desk.specs.Command.{Command, IsBehindText, OfName, OfRead, OfSound, OfText, of_file, of_lines, of_text, of_text_to_keep, of_words}
+use Rattle.mate_desk.specs.Laws.{OneReport}
+use Rattle.mate_desk.specs.Report.{IsOfText, ReadsNoText, ReportsOrder, ReportsWords, command_of}
+use Rattle.mate_desk.proofs.FirstFault.{once_fault}
+use Rattle.mate_desk.proofs.Shown.{show_row}
+
+-- what is reported of a text is one report, where it is so of each problem
+sound_row : (says : Report → Type 0) (files : Files) (p : Position) → IsOne says → IsOne (OfSound says files p)
+sound_row says files p one =
+    either_row
+    (due_of_row (IsFirstUnsoundness p) (λ why. refusal_as files is.Unsound (unsound_line why) false) (λ why e. absurd (cc))
+    (λ e f a b. ap (λ why. refusal_as files is.Unsound (unsound_line why) false) (once_fault a b)))
+    (and_row (Sound p) one)
+    (λ r s fault sound. unsound_refuted fault.0 p fault.1 sound.0)
+
+read_row : (says : Problem → Lines → Report → Type 0) (files : Files) → ((problem : Problem) (rest : Lines) → IsOne (says problem rest))
+    → (text : Text) → IsOne (OfRead says files text)
+read_row says files one (refused number why) = due_row (refusal_as files is.Text (refusal_line number why) (is_end why)) (λ e. absurd (cc))
+read_row says files one (whole problem rest) = sound_row (says problem rest) files problem.position (one problem rest)
+
+bytes_row : (says : Problem → Lines → Report → Type 0) (files : Files) → ((problem : Problem) (rest : Lines) → IsOne (says problem rest))
+    → (bytes : List ℕ) → IsOne (OfText says files bytes)
+bytes_row says files one bytes =
+    said_row (TextAt bytes) (OfRead says files) (λ a b h k. once_text Header 1 (lines_of bytes) a b h k) (read_row says files one)
+
+-- so it is with what is reported of a name, where it is so of each
+name_row : (name : Option (List ℕ)) (says : List ℕ → Report → Type 0) → ((n : List ℕ) → IsOne (says n)) → IsOne (OfName name says)
+name_row (Some n) says one = one n
+name_row None says one = record { not_usage = λ report none. absurd none; once = λ r s none. absurd none }
+
+-- a text that is refused is reported so, and one whose position is not sound
+pub record RefusesText (reports : List ℕ → Files → Report → Type 0) : Type 0 where
+  pub refused : (bytes : List ℕ) (files : Files) (number : ℕ) (why : LineWhy) → TextAt bytes (refused number why)
+      → reports bytes files (refusal_as files is.Text (refusal_line number why) (is_end why))
+  pub unsound : (bytes : List ℕ) (files : Files) (problem : Problem) (rest : Lines) (why : Unsound) → TextAt bytes (whole problem rest)
+      → IsFirstUnsoundness problem.position why → reports bytes files (refusal_as files is.Unsound (unsound_line why) false)
+
+-- so it is where what is reported of texts is reported
+pub refuses_as : (says : Problem → Lines → Files → Report → Type 0) (reports : List ℕ → Files → Report → Type 0)
+    → ((bytes : List ℕ) (files : Files) (report : Report) → OfText (λ problem rest. says problem rest files) files bytes report → reports bytes files report)
+    → RefusesText reports
+refuses_as says reports more = record {
+  refused = λ bytes files number why at. more bytes files _ (refused number why, at, refl);
+  unsound = λ bytes files problem rest why at fault. more bytes files _ (whole problem rest, at, inl (why, fault, refl));
+}
+
+pub record IsInOrder (c : Command) : Type 0 where
+  pub one : (name : Option (List ℕ)) (bytes : List ℕ) (files : Files) → IsOne (c.reports name bytes files)
+  pub no_shelf : (name : Option (List ℕ)) (taken : List ℕ) (keeping : Option (List ℕ)) → c.no_shelf → c.may_miss name taken keeping → ⊥
+  pub behind : (taken : List ℕ) → c.text → c.may_lack taken → IsBehindText c.takes taken
+  pub refuses : c.text → (name : Option (List ℕ)) → RefusesText (c.reports name)
+  pub reads : c.text → c.no_text → ⊥
+
+-- by what a row is of
+text_row : {says : Problem → Lines → Files → Report → Type 0} {takes : Problem → Type 0}
+    → ((problem : Problem) (rest : Lines) (files : Files) → IsOne (says problem rest files)) → IsInOrder (of_text says takes)
+text_row {says} {takes} one = record {
+  one = λ name bytes files. bytes_row (λ problem rest. says problem rest files) files (λ problem rest. one problem rest files) bytes;
+  no_shelf = λ name taken keeping none misses. misses;
+  behind = λ taken of lack. lack;
+  refuses = λ of name. refuses_as says ((of_text says takes).reports name) (λ bytes files report right. right);
+  reads = λ of none. none;
+}
+
+text_to_keep_row : {says : Problem → List ℕ → Files → Report → Type 0} {takes has_file : Problem → Type 0}
+    → ((problem : Problem) (name : List ℕ) (files : Files) → IsOne (says problem name files)) → IsInOrder (of_text_to_keep says takes has_file)
+text_to_keep_row {says} {takes} {has_file} one = record {
+  one = λ name bytes files.
+      bytes_row (λ problem rest. OfName name (λ n. says problem n files)) files
+      (λ problem rest. name_row name (λ n. says problem n files) (λ n. one problem n files)) bytes;
+  no_shelf = λ name taken keeping none misses. absurd none;
+  behind = λ taken of lack. lack;
+  refuses = λ of name.
+      refuses_as (λ problem rest files. OfName name (λ n. says problem n files)) ((of_text_to_keep says takes has_file).reports name) (λ bytes files report right. right);
+  reads = λ of none. none;
+}
+
+file_row : {says : Lines → List ℕ → Files → Report → Type 0} {no_text : Type 0}
+    → ((lines : Lines) (name : List ℕ) (files : Files) → IsOne (says lines name files)) → IsInOrder (of_file says no_text)
+file_row {says} one = record {
+  one = λ name bytes files. name_row name (λ n. says (lines_of bytes) n files) (λ n. one (lines_of bytes) n files);
+  no_shelf = λ name taken keeping none misses. absurd none;
+  behind = λ taken of lack. absurd of;
+  refuses = λ of name. absurd of;
+  reads = λ of none. of;
+}
+
+lines_row : {says : Lines → Files → Report → Type 0} {may_lack : List ℕ → Type 0}
+    → ((lines : Lines) (files : Files) → IsOne (says lines files)) → IsInOrder (of_lines says may_lack)
+lines_row one = record {
+  one = λ name bytes files. one (lines_of bytes) files;
+  no_shelf = λ name taken keeping none misses. misses;
+  behind = λ taken of lack. absurd of;
+  refuses = λ of name. absurd of;
+  reads = λ of none. of;
+}
+
+words_row : {says : Files → Report → Type 0} {some : Type 0} {takes : Problem → Type 0} → ((files : Files) → IsOne (says files)) → IsInOrder (of_words says some takes)
+words_row one = record {
+  one = λ name bytes files. one files;
+  no_shelf = λ name taken keeping none misses. misses;
+  behind = λ taken of lack. absurd of;
+  refuses = λ of name. absurd of;
+  reads = λ of none. of;
+}
+
+-- each row
+pub in_order : (order : Order) → IsInOrder (command_of order)
+in_order (Decide n budget) = text_row (λ problem rest files. decide_row n budget problem files)
+in_order (Least limit budget) = text_row (λ problem rest files. least_row limit budget problem files)
+in_order (First n budget) = text_row (λ problem rest files. first_row n budget problem files)
+in_order (Play n budget) = text_row (λ problem rest files. play_row n budget problem rest files)
+in_order (Keep n budget) = text_to_keep_row (λ problem name files. keep_row n budget problem name files)
+in_order (Check budget) = file_row (λ lines name files. check_row budget name files)
+in_order (Resume budget) = file_row (λ lines name files. resume_row budget lines name files)
+in_order Show = text_row (λ problem rest files. show_row problem.position files)
+in_order (Drill seed count) = words_row (λ files. drill_row seed count files)
+in_order (Arith budget) = lines_row (λ lines files. arith_row budget lines files)
+
+pub order_status : (order : Order) (words : List (List ℕ)) (bytes : List ℕ) (files : Files) (report : Report) → ReportsOrder order words bytes files report → IsNotUsage report
+order_status order words bytes files report right = ((in_order order).one (name_in order words) bytes files).not_usage report right
+
+-- an order of a text refuses texts, and reads one
+pub record IsTextOrder (order : Order) (words : List (List ℕ)) : Type 0 where
+  pub refuses : RefusesText (ReportsOrder order words)
+  pub reads : ReadsNoText order → ⊥
+
+is_text : (o : TextOrder) → IsOfText (as_order o)
+is_text (text_orders.Decide n budget) = tt
+is_text (text_orders.Least limit budget) = tt
+is_text (text_orders.First n budget) = tt
+is_text (text_orders.Play n budget) = tt
+is_text (text_orders.Keep n budget name) = tt
+is_text text_orders.Show = tt
+
+pub text_order : (o : TextOrder) (words : List (List ℕ)) → IsTextOrder (as_order o) words
+text_order o words =
+    let row = in_order (as_order o) in
+    record { refuses = row.refuses (is_text o) (name_in (as_order o) words); reads = row.reads (is_text o) }
+
+-- so words have one report
+once_answer : (answer : Result Order UsageWhy) (words : List (List ℕ)) (bytes : List ℕ) (files : Files) (one other : Report)
+    → ReportsWords answer words bytes files one → ReportsWords answer words bytes files other → one ≡ other
+once_answer (Err why) words bytes files one other a b = a ∙ sym b
+once_answer (Ok order) words bytes files one other a b = ((in_order order).one (name_in order words) bytes files).once one other a b
+
+pub one_report : OneReport
+one_report words bytes files one other a b =
+    let P : Result Order UsageWhy → Type 0 = λ r. ReportsWords r words bytes files other in
+    once_answer a.0 words bytes files one other a.2 (subst P (sym (once_words a.0 b.0 words a.1 b.1)) b.2)

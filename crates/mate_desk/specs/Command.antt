@@ -1,0 +1,137 @@
+-- What a run of an order comes to, by what the order is of.
+use Rattle.std.specs.Prelude.{◌≡◌, ◌⊎◌, ℕ, ◌≤◌, List, [], ◌++◌, length, false, Option, IsSomeAnd}
+use Rattle.desk_base.specs.Files.{Files}
+use Rattle.desk_base.specs.Lines.{Lines, ended, lines_of}
+use Rattle.game_rules.specs.Game.{Position, Sound}
+use Rattle.chess_game.specs.Unsoundness.{IsFirstUnsoundness}
+use Rattle.chess_game.specs.declared.unsoundness.Unsound.{Unsound}
+use Rattle.desk_games.specs.FileClaim.{MissesFetch}
+use Rattle.desk_report.specs.FaultLines.{unsound_line}
+use Rattle.desk_report.specs.Outcome.{NeverMisses, Report, refusal_as}
+use Rattle.desk_text.specs.Text.{Text, TextAt, whole, refused, is_end, refusal_line}
+use Rattle.desk_text.specs.declared.problem.Problem.{Problem}
+use Rattle.desk_report.specs.declared.status.Status.TheVariants as is
+
+-- the report on a position is that it is not sound, or else what `reports` says
+abbrev pub OfSound : (Report → Type 0) → Files → Position → Report → Type 0
+OfSound reports files p report =
+    ((why : Unsound) × IsFirstUnsoundness p why × (report ≡ refusal_as files is.Unsound (unsound_line why) false))
+    ⊎ (Sound p × reports report)
+
+-- the report on a text is that it is refused, or else what `reports` says of the problem, where it is sound, and of the
+-- lines behind it
+abbrev pub OfRead : (Problem → Lines → Report → Type 0) → Files → Text → Report → Type 0
+OfRead reports files (refused number why) report =
+    report ≡ refusal_as files is.Text (refusal_line number why) (is_end why)
+OfRead reports files (whole problem rest) report = OfSound (reports problem rest) files problem.position report
+
+-- the report on the text at the front of these bytes
+abbrev pub OfText : (Problem → Lines → Report → Type 0) → Files → List ℕ → Report → Type 0
+OfText reports files bytes report = (text : Text) × TextAt bytes text × OfRead reports files text report
+
+-- The bytes taken are the text of a sound position, of which this holds, and at most 256 behind it.
+pub record IsBehindText (Holds : Problem → Type 0) (taken : List ℕ) : Type 0 where
+  pub problem : Problem
+  pub sound : Sound problem.position
+  pub holds : Holds problem
+  pub front : List ℕ
+  pub pending : List ℕ
+  pub text : TextAt front (whole problem ended)
+  pub bytes : taken ≡ front ++ pending
+  pub few : length pending ≤ 256
+
+-- where the shelf may fail while it keeps a file: the words name it, and there is a file to keep of the text that was
+-- taken
+pub record MayMissKeep (HasFile : Problem → Type 0) (name : Option (List ℕ)) (taken : List ℕ)
+    (keeping : Option (List ℕ)) : Type 0 where
+  pub named : keeping ≡ name
+  pub text : IsBehindText HasFile taken
+
+-- what is reported of a name, where there is one
+abbrev pub OfName : (name : Option (List ℕ)) → ((name : List ℕ) → Report → Type 0) → Report → Type 0
+OfName name reports report = IsSomeAnd name (λ name'. reports name' report)
+
+-- What a run of an order comes to.
+pub record Command : Type 1 where
+  -- what is reported, by the name that the words have, if they have one, the bytes of the input, and the files
+  pub reports : (name : Option (List ℕ)) → List ℕ → Files → Report → Type 0
+  -- what the order asks for takes memory, of the problem of a text or of one that follows from a seed
+  pub takes : Problem → Type 0
+  -- memory may be wanting after these bytes were taken
+  pub may_lack : (taken : List ℕ) → Type 0
+  -- the shelf may fail then, while the file of this name, or none, is being kept
+  pub may_miss : (name : Option (List ℕ)) → (taken : List ℕ) → (keeping : Option (List ℕ)) → Type 0
+  -- it is of a position text
+  pub text : Type 0
+  -- it uses no file
+  pub no_shelf : Type 0
+  -- it reads nothing: it is of no text, and of no lines
+  pub no_text : Type 0
+
+-- of the problem of a text and the lines behind it
+abbrev pub of_text : (says : Problem → Lines → Files → Report → Type 0) → (takes : Problem → Type 0) → Command
+of_text says takes =
+    record {
+      reports = λ name bytes files. OfText (λ problem rest. says problem rest files) files bytes;
+      takes = takes;
+      may_lack = IsBehindText takes;
+      may_miss = λ name taken. NeverMisses;
+      text = Unit {0};
+      no_shelf = Unit {0};
+      no_text = ⊥;
+    }
+
+-- of the problem of a text, to keep a file of a name
+abbrev pub of_text_to_keep : (says : Problem → (name : List ℕ) → Files → Report → Type 0)
+    → (takes has_file : Problem → Type 0) → Command
+of_text_to_keep says takes has_file =
+    record {
+      reports =
+          λ name bytes files.
+          OfText (λ problem rest. OfName name (λ name'. says problem name' files)) files bytes;
+      takes = takes;
+      may_lack = IsBehindText takes;
+      may_miss = MayMissKeep has_file;
+      text = Unit {0};
+      no_shelf = ⊥;
+      no_text = ⊥;
+    }
+
+-- of the file of a name, and of the lines of the input, where it reads any
+abbrev pub of_file : (says : Lines → (name : List ℕ) → Files → Report → Type 0) → (no_text : Type 0) → Command
+of_file says no_text =
+    record {
+      reports = λ name bytes files. OfName name (λ name'. says (lines_of bytes) name' files);
+      takes = λ problem. ⊥;
+      may_lack = λ taken. taken ≡ [];
+      may_miss = λ name. MissesFetch;
+      text = ⊥;
+      no_shelf = ⊥;
+      no_text = no_text;
+    }
+
+-- of the lines of the input alone
+abbrev pub of_lines : (says : Lines → Files → Report → Type 0) → (may_lack : (taken : List ℕ) → Type 0) → Command
+of_lines says may_lack =
+    record {
+      reports = λ name bytes. says (lines_of bytes);
+      takes = λ problem. ⊥;
+      may_lack = may_lack;
+      may_miss = λ name taken. NeverMisses;
+      text = ⊥;
+      no_shelf = Unit {0};
+      no_text = ⊥;
+    }
+
+-- of nothing but its words, where memory may be wanting if there is something to do
+abbrev pub of_words : (says : Files → Report → Type 0) → (some : Type 0) → (takes : Problem → Type 0) → Command
+of_words says some takes =
+    record {
+      reports = λ name bytes. says;
+      takes = takes;
+      may_lack = λ taken. (taken ≡ []) × some;
+      may_miss = λ name taken. NeverMisses;
+      text = ⊥;
+      no_shelf = Unit {0};
+      no_text = Unit {0};
+    }
