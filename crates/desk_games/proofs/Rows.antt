@@ -1,5 +1,5 @@
 -- What is reported of a game, of a file that is kept, and of the file of a name, is one report.
-use Rattle.std.proofs.Common.{◌≡◌, ◌≢◌, ◌≤◌, ◌<◌, ℕ, List, length, Option, Some, None, Result, Ok, Err, false, codes, inl, inr, ap, ◌∙◌, sym, arith}
+use Rattle.std.proofs.Common.{◌≡◌, ◌≢◌, ◌≤◌, ◌<◌, ℕ, List, length, Option, Some, None, Result, Ok, Err, false, codes, inl, inr, ap, arith}
 use Rattle.std.specs.FinMap as map
 use Rattle.std.proofs.lemmas.Option.{same_Some}
 use Rattle.desk_base.specs.Files.{Files}
@@ -26,7 +26,7 @@ use Rattle.winning_sets.specs.declared.names.SolveError.TheVariants as solve_err
 use Rattle.winning_sets.specs.declared.names.StepName.{StepName}
 use Rattle.desk_report.specs.Outcome.{Report, done_with, refusal_as}
 use Rattle.desk_report.specs.declared.status.Status.TheVariants as is
-use Rattle.desk_report.proofs.One.{IsDueOf, IsOne, and_row, due_of_row, due_row, either_row, line_row, over_row, said_row}
+use Rattle.desk_report.proofs.One.{IsDueOf, IsOne, and_row, due_of_row, due_row, either_row, over_row, said_row}
 use Rattle.desk_text.specs.declared.problem.Problem.{Problem}
 use Rattle.desk_verdict.specs.StepLines.{budget_line}
 use Rattle.desk_verdict.specs.Verdict.{mate_line, no_mate_line}

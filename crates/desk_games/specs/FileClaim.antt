@@ -19,7 +19,6 @@ use Rattle.strategy_file.specs.declared.claim.Claim.{Claim as ClaimHere}
 use Rattle.winning_sets.specs.Claimed.{claim_of}
 use Rattle.winning_sets.specs.Solve.{IsSolveError, Solution}
 use Rattle.winning_sets.specs.declared.names.SolveError.TheVariants as solve_error
-use Rattle.winning_sets.specs.declared.names.StepName.{StepName}
 use Rattle.winning_sets.specs.declared.origin.Origin.TheVariants as origin
 use Rattle.desk_report.specs.Outcome.{FirstOver, Report, refusal_as}
 use Rattle.desk_verdict.specs.StepLines.{budget_line}

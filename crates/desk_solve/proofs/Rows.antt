@@ -1,5 +1,5 @@
 -- What is reported of `decide` and of `least` is one report.
-use Rattle.std.proofs.Common.{◌≡◌, ◌+◌, ◌≤◌, ℕ, Option, Some, None, List, inl, inr, refl, ap, subst, arith}
+use Rattle.std.proofs.Common.{◌≡◌, ℕ, Option, Some, None, inl, inr, refl, ap, subst, arith}
 use Rattle.desk_base.specs.Files.{Files}
 use Rattle.game_rules.specs.Game as game
 use Rattle.chess_game.proofs.UnsoundnessLemmas.{number_cases}
