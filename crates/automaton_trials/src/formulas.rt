@@ -5,7 +5,6 @@ ghost use Rattle.auto_core.specs.Reduced.{IsReduced};
 ghost use Rattle.lin_formula.specs.TreeOf.{tree_of};
 ghost use Rattle.arith_desk.specs.Question.{IsQuestion};
 
-use crate::writing::{separate, write_truth};
 use arith_desk::{ArithError, read_formula};
 use auto_core::Auto;
 use auto_reduce::is_empty;
@@ -13,7 +12,7 @@ use formula_auto::{CompileError, Memo, SetTable};
 use limits::MOST_LINE_BYTES;
 use lin_formula::Formula;
 use std::alloc::Global;
-use trial_rows::{Fields, RowError};
+use trial_rows::{Fields, RowError, separate, write_truth, written};
 
 /// The closed formula of a text.
 fn formula(alloc: Global, text: &str) -> Result<Formula, RowError>
@@ -29,39 +28,23 @@ fn formula(alloc: Global, text: &str) -> Result<Formula, RowError>
     }
 }
 
-/// What compiling a closed formula answers.
-#[derive(Clone, Copy)]
-enum Outcome {
-    /// Whether it holds.
-    Holds(bool),
-    /// The step of this number is over the budget.
-    Over(u32),
-}
-
-fn outcome_of(answer: Result<Auto, CompileError>) -> Result<Outcome, RowError>
+/// Writes whether a formula holds, or which step of it is over the budget.
+fn write_compiled(out: &mut String, answer: Result<Auto, CompileError>) -> Result<(), RowError>
     requires { IfOk answer IsReduced }
 {
     match answer {
-        Ok(a) => Ok(Outcome::Holds(!is_empty(&a))),
-        Err(CompileError::Over { step }) => Ok(Outcome::Over(step)),
+        Ok(a) => write_truth(out, !is_empty(&a)),
+        Err(CompileError::Over { step }) => written(write!(out, "over {step}")),
         Err(CompileError::Memory) => Err(RowError::Memory),
     }
 }
 
-/// Compiles a closed formula with a memo.
-fn compiled(alloc: Global, memo: &mut Memo, f: &Formula) -> Result<Outcome, RowError>
+/// Compiles a closed formula with a memo, and writes what that answers.
+fn compiled(alloc: Global, memo: &mut Memo, f: &Formula, out: &mut String) -> Result<(), RowError>
     requires { IsQuestion (tree_of f.now) }
 {
     let sets = SetTable::new(alloc);
-    outcome_of(memo.compile(alloc, f, &sets))
-}
-
-fn write_outcome(out: &mut String, outcome: Outcome) -> Result<(), RowError> {
-    match outcome {
-        Outcome::Holds(truth) => write_truth(out, truth)?,
-        Outcome::Over(step) => write!(out, "over {step}")?,
-    }
-    Ok(())
+    write_compiled(out, memo.compile(alloc, f, &sets))
 }
 
 /// Compiles the closed formula of a text with a memo, and writes what that answers.
@@ -72,8 +55,7 @@ fn write_formula(
     out: &mut String,
 ) -> Result<(), RowError> {
     let f = formula(alloc, text)?;
-    let outcome = compiled(alloc, memo, &f)?;
-    write_outcome(out, outcome)
+    compiled(alloc, memo, &f, out)
 }
 
 /// Compiles closed formulas, parted by `/`, one after the other.
@@ -90,15 +72,9 @@ fn write_formulas(
     Ok(())
 }
 
-/// Writes how many automata the memo keeps, and how often one was taken from it.
-fn write_counts(out: &mut String, memo: &Memo) -> Result<(), RowError> {
-    write!(out, " kept {} found {}", memo.kept(), memo.found())?;
-    Ok(())
-}
-
 /// `memo BUDGET FORMULA/FORMULA ..`: whether the formulas hold, which one memo compiles, and what it keeps then.
 pub fn write_memo(alloc: Global, fields: &mut Fields, out: &mut String) -> Result<(), RowError> {
     let mut memo = Memo::new(alloc, fields.budget()?);
     write_formulas(alloc, &mut memo, fields.rest(), out)?;
-    write_counts(out, &memo)
+    written(write!(out, " kept {} found {}", memo.kept(), memo.found()))
 }

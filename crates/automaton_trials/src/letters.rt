@@ -1,9 +1,8 @@
 //! Variables, by their letters.
 
-use crate::writing::separate;
 use std::alloc::Global;
 use track_word::Var;
-use trial_rows::{Fields, RowError};
+use trial_rows::{Fields, RowError, separate, written};
 
 /// The variable of a letter from `a` to `p`.
 fn var_of(field: &str) -> Result<Var, RowError> {
@@ -37,10 +36,9 @@ fn vars_of(alloc: Global, letters: &str) -> Result<Vec<Var>, RowError> {
 /// Writes the letter of a variable.
 fn write_var(out: &mut String, var: Var) -> Result<(), RowError> {
     match var.0 {
-        0..=15 => out.push((b'a' + var.0) as char)?,
-        _ => write!(out, "{}", var.0)?,
+        0..=15 => written(out.push((b'a' + var.0) as char)),
+        _ => written(write!(out, "{}", var.0)),
     }
-    Ok(())
 }
 
 /// Writes the letters of variables, parted by commas, or `-` where there are none.

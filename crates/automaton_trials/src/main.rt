@@ -4,7 +4,6 @@
 
 mod answers;
 mod formulas;
-mod integer_set;
 mod letters;
 mod members;
 mod rays;
@@ -12,7 +11,6 @@ mod reduced_auto;
 mod spelling;
 mod table_text;
 mod tables;
-mod writing;
 
 use answers::write_answer;
 use formulas::write_memo;

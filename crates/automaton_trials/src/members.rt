@@ -4,14 +4,13 @@ ghost use Rattle.std.specs.Prelude.{◌≤◌, IsTrue};
 ghost use Rattle.track_word.specs.Word.{IsWord};
 ghost use Rattle.auto_core.specs.Integers.{DecidesIntegers};
 
-use crate::integer_set::IntegerSet;
+use crate::reduced_auto::check_stable;
 use crate::spelling::{Reader, whole};
 use crate::tables::{are_below, width_of};
-use crate::writing::{separate, write_truth};
 use auto_core::Auto;
 use limits::MOST_TRACKS;
 use std::alloc::Global;
-use trial_rows::{Fields, RowError, numbers};
+use trial_rows::{Fields, RowError, numbers, separate, write_truth};
 
 /// Whether some letters are a word over so many tracks.
 fn is_word(tracks: usize, word: &[u32]) -> bool
@@ -87,6 +86,8 @@ pub fn write_members(
     out: &mut String,
 ) -> Result<(), RowError> {
     let tuples = fields.word()?;
-    let set = IntegerSet::of(reader.alloc, whole(reader, fields)?)?;
-    write_tuples(reader.alloc, set.auto(), tuples, out)
+    let set = whole(reader, fields)?;
+    let a = set.auto();
+    check_stable(reader.alloc, a)?;
+    write_tuples(reader.alloc, a, tuples, out)
 }

@@ -4,15 +4,14 @@ ghost use Rattle.std.specs.Prelude.{◌≡◌, ◌≤◌, IfOk, IsTrue, length};
 ghost use Rattle.auto_core.specs.Integers.{DecidesIntegers};
 ghost use Rattle.auto_search.specs.Way.{IsWay};
 
-use crate::integer_set::IntegerSet;
+use crate::reduced_auto::check_stable;
 use crate::spelling::{Reader, automaton};
-use crate::writing::separate;
 use auto_core::Auto;
 use auto_search::{Few, Search, Way};
 use std::alloc::Global;
 use std::num::ParseIntError;
 use std::str::FromStr;
-use trial_rows::{Fields, RowError, number, numbers};
+use trial_rows::{Fields, RowError, number, numbers, separate, written};
 
 /// The greatest distance that may be asked for.
 const MOST_DISTANCE: u128 = 1 << 64;
@@ -79,21 +78,19 @@ fn pair<T: FromStr<Err = ParseIntError> + Copy>(fields: &mut Fields) -> Result<(
 
 /// Writes how many there are.
 fn write_few(out: &mut String, few: Few) -> Result<(), RowError> {
-    out.push_str(match few {
+    written(out.push_str(match few {
         Few::Zero => "zero",
         Few::One => "one",
         Few::More => "more",
-    })?;
-    Ok(())
+    }))
 }
 
 /// Writes the least distance, where there is one.
 fn write_least(out: &mut String, least: Option<u128>) -> Result<(), RowError> {
     match least {
-        Some(distance) => write!(out, "{distance}")?,
-        None => out.push_str("none")?,
+        Some(distance) => written(write!(out, "{distance}")),
+        None => written(out.push_str("none")),
     }
-    Ok(())
 }
 
 /// The least distance of those that the next fields bound.
@@ -109,8 +106,8 @@ fn least(
     requires way { IsWay way.now }
     ensures kept { search.new ≡ search.old }
 {
-    let near = number(fields.word()?)?;
-    let far = number(fields.word()?)?;
+    let near = fields.number()?;
+    let far = fields.number()?;
     if far > MOST_DISTANCE {
         return Err(RowError::Condition);
     }
@@ -189,7 +186,9 @@ fn search_all(
 
 /// `rays STATES A QUESTION ..`: the answers of one search, which has room for so many states.
 pub fn write_rays(reader: Reader, fields: &mut Fields, out: &mut String) -> Result<(), RowError> {
-    let states = fields.u32()?;
-    let set = IntegerSet::of(reader.alloc, automaton(reader, fields)?)?;
-    search_all(reader.alloc, states, set.auto(), fields, out)
+    let states = fields.number::<u32>()?;
+    let set = automaton(reader, fields)?;
+    let a = set.auto();
+    check_stable(reader.alloc, a)?;
+    search_all(reader.alloc, states, a, fields, out)
 }

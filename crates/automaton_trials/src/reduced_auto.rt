@@ -3,12 +3,13 @@
 ghost use Rattle.std.specs.Prelude.{◌≡◌, ◌≤◌, IfOk, IsTrue, length};
 ghost use Rattle.track_word.specs.Atom.{IsAtom};
 ghost use Rattle.track_word.specs.Tracks.{with_vars};
+ghost use Rattle.auto_core.specs.Integers.{DecidesIntegers};
 ghost use Rattle.auto_core.specs.Reduced.{IsReduced};
 
-use auto_bool::{difference, join, meet, not};
+use auto_bool::{Connective, difference, join, meet, not};
 use auto_core::Auto;
 use auto_project::forget;
-use auto_reduce::reduce;
+use auto_reduce::{reduce, sign_stable};
 use auto_walk::Grown;
 use limits::{Budget, MOST_TRACKS};
 use lin_formula::{LinWhy, lin};
@@ -16,14 +17,6 @@ use std::alloc::Global;
 use std::marker::Model;
 use track_word::{Rel, Var};
 use trial_rows::RowError;
-
-/// What two automata are put together by.
-#[derive(Clone, Copy)]
-pub enum Connective {
-    And,
-    Or,
-    AndNot,
-}
 
 /// An automaton with no state too many.
 #[derive(Drop)]
@@ -76,6 +69,16 @@ pub fn grown(alloc: Global, answer: Result<Auto, Grown>) -> Result<ReducedAuto, 
         Err(Grown::Over) => Err(RowError::Over),
         Err(Grown::Memory) => Err(RowError::Memory),
     }
+}
+
+/// Refuses an automaton to which a repeated first letter may matter, so that it decides no set of tuples of integers.
+pub fn check_stable(alloc: Global, a: &Auto) -> Result<(), RowError>
+    ensures { IfOk result (λ _. DecidesIntegers a.now) }
+{
+    if !sign_stable(alloc, a)? {
+        return Err(RowError::Condition);
+    }
+    Ok(())
 }
 
 /// Refuses a comparison whose parts are not such as may be.

@@ -3,16 +3,15 @@
 ghost use Rattle.std.specs.Prelude.{◌<◌, IfOk};
 
 use crate::letters::{var, vars};
-use crate::reduced_auto::{
-    Connective, ReducedAuto, comparison, forgotten, grown, joined, others, reduced,
-};
+use crate::reduced_auto::{ReducedAuto, comparison, forgotten, grown, joined, others, reduced};
 use crate::tables::{Tables, tabled};
+use auto_bool::Connective;
 use auto_core::Auto;
 use auto_walk::residue;
 use limits::Budget;
 use std::alloc::Global;
 use track_word::{Rel, Var};
-use trial_rows::{Fields, Named, RowError, number, numbers};
+use trial_rows::{Fields, Named, RowError};
 
 /// How deeply automata may be nested.
 const MOST_DEPTH: u8 = 60;
@@ -49,50 +48,9 @@ impl<'a> Reader<'a> {
     }
 }
 
-/// What makes one automaton of others.
-#[derive(Clone, Copy)]
-enum Operator {
-    Not,
-    Both(Connective),
-    Forget,
-}
-
-fn operator_of(word: &str) -> Option<Operator> {
-    match word {
-        "not" => Some(Operator::Not),
-        "meet" => Some(Operator::Both(Connective::And)),
-        "join" => Some(Operator::Both(Connective::Or)),
-        "without" => Some(Operator::Both(Connective::AndNot)),
-        "forget" => Some(Operator::Forget),
-        _ => None,
-    }
-}
-
-/// An automaton that is made of no other one.
-#[derive(Clone, Copy)]
-enum Plain {
-    Comparison(Rel),
-    Value,
-    Residue,
-    Rows,
-    The,
-}
-
-fn plain_of(word: &str) -> Result<Plain, RowError> {
-    match word {
-        "le" => Ok(Plain::Comparison(Rel::Le)),
-        "eq" => Ok(Plain::Comparison(Rel::Eq)),
-        "is" => Ok(Plain::Value),
-        "residue" => Ok(Plain::Residue),
-        "rows" => Ok(Plain::Rows),
-        "the" => Ok(Plain::The),
-        _ => Err(RowError::Word),
-    }
-}
-
 /// A coefficient and its variable.
 fn term(fields: &mut Fields) -> Result<(i8, Var), RowError> {
-    let coefficient = number::<i8>(fields.word()?)?;
+    let coefficient = fields.number::<i8>()?;
     Ok((coefficient, var(fields)?))
 }
 
@@ -107,16 +65,16 @@ fn terms(alloc: Global, count: u8, fields: &mut Fields) -> Result<Vec<(i8, Var)>
 
 /// `le K A V .. B` and `eq K A V .. B`.
 fn linear(alloc: Global, rel: Rel, fields: &mut Fields) -> Result<ReducedAuto, RowError> {
-    let count = fields.u8()?;
+    let count = fields.number::<u8>()?;
     let terms = terms(alloc, count, fields)?;
-    let bound = number::<i32>(fields.word()?)?;
+    let bound = fields.number::<i32>()?;
     comparison(alloc, terms.as_slice(), rel, bound)
 }
 
 /// `is V N`.
 fn value(alloc: Global, fields: &mut Fields) -> Result<ReducedAuto, RowError> {
     let var = var(fields)?;
-    let value = fields.i64()?;
+    let value = fields.number::<i64>()?;
     let auto = Auto::value(alloc, var, value)?;
     reduced(alloc, &auto)
 }
@@ -125,8 +83,8 @@ fn value(alloc: Global, fields: &mut Fields) -> Result<ReducedAuto, RowError> {
 fn remainder(alloc: Global, fields: &mut Fields) -> Result<ReducedAuto, RowError> {
     let budget = fields.budget()?;
     let var = var(fields)?;
-    let modulus = fields.u32()?;
-    let wanted = fields.u32()?;
+    let modulus = fields.number::<u32>()?;
+    let wanted = fields.number::<u32>()?;
     if modulus == 0 {
         return Err(RowError::Condition);
     }
@@ -146,17 +104,12 @@ fn flags(alloc: Global, field: &str) -> Result<Vec<bool>, RowError> {
     Ok(flags)
 }
 
-/// The states of the next field.
-fn states(alloc: Global, fields: &mut Fields) -> Result<Vec<u32>, RowError> {
-    numbers(alloc, fields.word()?)
-}
-
 /// `VARS FIRST NEXT FLAGS`.
 fn tables(alloc: Global, fields: &mut Fields) -> Result<Tables, RowError> {
     Ok(Tables {
         tracks: vars(alloc, fields)?,
-        first: states(alloc, fields)?,
-        next: states(alloc, fields)?,
+        first: fields.numbers(alloc)?,
+        next: fields.numbers(alloc)?,
         accept: flags(alloc, fields.word()?)?,
     })
 }
@@ -168,17 +121,20 @@ fn rows(alloc: Global, fields: &mut Fields) -> Result<ReducedAuto, RowError> {
     reduced(alloc, &auto)
 }
 
+/// An automaton that is made of no other one, from the second word on.
 fn plain_automaton(
     reader: Reader,
-    plain: Plain,
+    word: &str,
     fields: &mut Fields,
 ) -> Result<ReducedAuto, RowError> {
-    match plain {
-        Plain::Comparison(rel) => linear(reader.alloc, rel, fields),
-        Plain::Value => value(reader.alloc, fields),
-        Plain::Residue => remainder(reader.alloc, fields),
-        Plain::Rows => rows(reader.alloc, fields),
-        Plain::The => reader.named.get(fields.word()?)?.copy(),
+    match word {
+        "le" => linear(reader.alloc, Rel::Le, fields),
+        "eq" => linear(reader.alloc, Rel::Eq, fields),
+        "is" => value(reader.alloc, fields),
+        "residue" => remainder(reader.alloc, fields),
+        "rows" => rows(reader.alloc, fields),
+        "the" => reader.named.get(fields.word()?)?.copy(),
+        _ => Err(RowError::Word),
     }
 }
 
@@ -187,11 +143,13 @@ fn plain_automaton(
 pub fn automaton(reader: Reader, fields: &mut Fields) -> Result<ReducedAuto, RowError> {
     let inner = reader.inner()?;
     let word = fields.word()?;
-    match operator_of(word) {
-        None => plain_automaton(reader, plain_of(word)?, fields),
-        Some(Operator::Not) => negated(inner, fields),
-        Some(Operator::Both(connective)) => both(inner, connective, fields),
-        Some(Operator::Forget) => projected(inner, fields),
+    match word {
+        "not" => negated(inner, fields),
+        "meet" => both(inner, Connective::And, fields),
+        "join" => both(inner, Connective::Or, fields),
+        "without" => both(inner, Connective::AndNot, fields),
+        "forget" => projected(inner, fields),
+        _ => plain_automaton(reader, word, fields),
     }
 }
 

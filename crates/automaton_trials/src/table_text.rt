@@ -3,9 +3,8 @@
 ghost use Rattle.std.specs.Prelude.{◌≡◌, ◌<◌, ◌^◌, length};
 
 use crate::tables::width_of;
-use crate::writing::separate;
 use auto_core::Auto;
-use trial_rows::RowError;
+use trial_rows::{RowError, separate};
 
 /// Writes the states of the first row.
 fn write_first(out: &mut String, a: &Auto, width: u32) -> Result<(), RowError>

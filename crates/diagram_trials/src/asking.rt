@@ -7,59 +7,31 @@ use crate::bench::Bench;
 use crate::writing::{write_node, write_numbers, write_values};
 use letter_diagram::{Diagrams, Node, NumberingError, Shape};
 use std::alloc::Global;
-use trial_rows::{Fields, RowError, numbers, yes_or_no};
+use trial_rows::{Fields, RowError, write_truth, written};
 
-/// What a step asks.
-#[derive(Clone, Copy)]
-pub enum Asking {
-    Read,
-    Copied,
-    Brought,
-    Shape,
-    Same,
-    Leaves,
-    Empty,
-    Set,
-    Elements,
-    Pair,
-}
-
-/// What the step of this word asks.
-pub fn asking_of(word: &str) -> Result<Asking, RowError> {
-    match word {
-        "read" => Ok(Asking::Read),
-        "copied" => Ok(Asking::Copied),
-        "brought" => Ok(Asking::Brought),
-        "shape" => Ok(Asking::Shape),
-        "same" => Ok(Asking::Same),
-        "leaves" => Ok(Asking::Leaves),
-        "empty" => Ok(Asking::Empty),
-        "set" => Ok(Asking::Set),
-        "elements" => Ok(Asking::Elements),
-        "pair" => Ok(Asking::Pair),
-        _ => Err(RowError::Word),
-    }
-}
-
-/// Writes what a step answers.
+/// Writes what the step of this word answers, behind what earlier ones did.
 pub fn ask(
     alloc: Global,
     bench: &mut Bench,
-    asking: Asking,
+    word: &str,
     fields: &mut Fields,
     out: &mut String,
 ) -> Result<(), RowError> {
-    match asking {
-        Asking::Read => read(alloc, bench, fields, out),
-        Asking::Copied => copied(alloc, bench, fields, out),
-        Asking::Brought => brought(alloc, bench, fields, out),
-        Asking::Shape => shape(bench, fields, out),
-        Asking::Same => same(bench, fields, out),
-        Asking::Leaves => leaves(bench, fields, out),
-        Asking::Empty => empty(bench, out),
-        Asking::Set => set(alloc, bench, fields, out),
-        Asking::Elements => elements(bench, fields, out),
-        Asking::Pair => pair(bench, fields, out),
+    if !out.is_empty() {
+        out.push(' ')?;
+    }
+    match word {
+        "read" => read(alloc, bench, fields, out),
+        "copied" => copied(alloc, bench, fields, out),
+        "brought" => brought(alloc, bench, fields, out),
+        "shape" => shape(bench, fields, out),
+        "same" => same(bench, fields, out),
+        "leaves" => leaves(bench, fields, out),
+        "empty" => empty(bench, out),
+        "set" => set(alloc, bench, fields, out),
+        "elements" => elements(bench, fields, out),
+        "pair" => pair(bench, fields, out),
+        _ => Err(RowError::Word),
     }
 }
 
@@ -71,8 +43,7 @@ fn read(
     out: &mut String,
 ) -> Result<(), RowError> {
     let node = bench.node(fields)?;
-    let letters = numbers::<u32>(alloc, fields.word()?)?;
-    write_values(&bench.diagrams, node, letters.as_slice(), out)
+    write_values(alloc, &bench.diagrams, node, fields, out)
 }
 
 /// `copied NODE LETTERS`: the values of the same node's map in a copy of the diagrams.
@@ -83,9 +54,8 @@ fn copied(
     out: &mut String,
 ) -> Result<(), RowError> {
     let node = bench.node(fields)?;
-    let letters = numbers::<u32>(alloc, fields.word()?)?;
     let copy = bench.diagrams.copy()?;
-    write_values(&copy, node, letters.as_slice(), out)
+    write_values(alloc, &copy, node, fields, out)
 }
 
 /// The node, as it is brought into new diagrams.
@@ -108,10 +78,9 @@ fn brought(
     out: &mut String,
 ) -> Result<(), RowError> {
     let node = bench.node(fields)?;
-    let letters = numbers::<u32>(alloc, fields.word()?)?;
     let mut others = Diagrams::new(alloc);
     let brought = brought_node(&mut others, &bench.diagrams, node)?;
-    write_values(&others, brought, letters.as_slice(), out)
+    write_values(alloc, &others, brought, fields, out)
 }
 
 /// Writes a test of a track, and the numbers of its nodes.
@@ -132,20 +101,15 @@ fn write_test(
 fn shape(bench: &Bench, fields: &mut Fields, out: &mut String) -> Result<(), RowError> {
     let node = bench.node(fields)?;
     match bench.diagrams.shape(node) {
-        Shape::Leaf(value) => {
-            write!(out, "leaf {value}")?;
-            Ok(())
-        }
+        Shape::Leaf(value) => written(write!(out, "leaf {value}")),
         Shape::Test { track, low, high } => write_test(bench, track, low, high, out),
     }
 }
 
 /// `same NODE NODE`: whether both have one map.
 fn same(bench: &Bench, fields: &mut Fields, out: &mut String) -> Result<(), RowError> {
-    let left = bench.node(fields)?;
-    let right = bench.node(fields)?;
-    out.push_str(yes_or_no(bench.diagrams.same_map(left, right)))?;
-    Ok(())
+    let (left, right) = bench.two_nodes(fields)?;
+    write_truth(out, bench.diagrams.same_map(left, right))
 }
 
 /// `leaves NODE`: the values in the order of the letters.
@@ -157,10 +121,9 @@ fn leaves(bench: &Bench, fields: &mut Fields, out: &mut String) -> Result<(), Ro
 
 /// `empty`: whether no node was made, and whether no set was numbered.
 fn empty(bench: &Bench, out: &mut String) -> Result<(), RowError> {
-    out.push_str(yes_or_no(bench.diagrams.is_empty()))?;
+    write_truth(out, bench.diagrams.is_empty())?;
     out.push(' ')?;
-    out.push_str(yes_or_no(bench.sets.is_empty()))?;
-    Ok(())
+    write_truth(out, bench.sets.is_empty())
 }
 
 /// Whether numbers ascend, without repeats.
@@ -177,11 +140,10 @@ fn are_increasing(numbers: &[u32]) -> bool
 
 fn write_numbered(answer: Result<u32, NumberingError>, out: &mut String) -> Result<(), RowError> {
     match answer {
-        Ok(number) => write!(out, "{number}")?,
-        Err(NumberingError::Full) => out.push_str("full")?,
-        Err(NumberingError::Memory) => return Err(RowError::Memory),
+        Ok(number) => written(write!(out, "{number}")),
+        Err(NumberingError::Full) => written(out.push_str("full")),
+        Err(NumberingError::Memory) => Err(RowError::Memory),
     }
-    Ok(())
 }
 
 /// `set LIST`: the number of a set.
@@ -191,7 +153,7 @@ fn set(
     fields: &mut Fields,
     out: &mut String,
 ) -> Result<(), RowError> {
-    let set = numbers::<u32>(alloc, fields.word()?)?;
+    let set = fields.numbers::<u32>(alloc)?;
     if !are_increasing(set.as_slice()) {
         return Err(RowError::Condition);
     }
@@ -201,7 +163,7 @@ fn set(
 /// `elements NODE LETTER`: the set of the number that the map has at the letter.
 fn elements(bench: &Bench, fields: &mut Fields, out: &mut String) -> Result<(), RowError> {
     let node = bench.node(fields)?;
-    let number = bench.diagrams.read(node, fields.u32()?);
+    let number = bench.diagrams.read(node, fields.number::<u32>()?);
     match bench.sets.get(number) {
         Some(set) => write_numbers(out, set),
         None => Err(RowError::Name),
@@ -211,12 +173,9 @@ fn elements(bench: &Bench, fields: &mut Fields, out: &mut String) -> Result<(), 
 /// `pair NODE LETTER`: the pair of the number that the map has at the letter.
 fn pair(bench: &Bench, fields: &mut Fields, out: &mut String) -> Result<(), RowError> {
     let node = bench.node(fields)?;
-    let number = bench.diagrams.read(node, fields.u32()?);
+    let number = bench.diagrams.read(node, fields.number::<u32>()?);
     match bench.pairs.get(number) {
-        Some(pair) => {
-            write!(out, "{},{}", pair.0, pair.1)?;
-            Ok(())
-        }
+        Some(pair) => written(write!(out, "{},{}", pair.0, pair.1)),
         None => Err(RowError::Name),
     }
 }

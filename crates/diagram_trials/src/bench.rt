@@ -27,32 +27,23 @@ impl Bench {
         }
     }
 
-    /// Gives a node the next number.
-    pub fn push(&mut self, node: Node) -> Result<(), RowError> {
-        self.nodes.push(node)?;
-        Ok(())
-    }
-
     /// The node of the number that the next field has, counted from 0.
     pub fn node(&self, fields: &mut Fields) -> Result<Node, RowError>
         ensures { IfOk result (λ node. node < length self.now.diagrams) }
     {
-        let place = fields.u32()? as usize;
+        let place = fields.number::<u32>()? as usize;
         match self.nodes.get(place) {
-            Some(node) => known(&self.diagrams, *node),
+            Some(node) if node.number() < self.diagrams.len() => Ok(*node),
+            Some(_) => Err(RowError::Condition),
             None => Err(RowError::Name),
         }
     }
-}
 
-/// The node, which the diagrams have.
-fn known(diagrams: &Diagrams, node: Node) -> Result<Node, RowError>
-    ensures { IfOk result (λ known. known < length diagrams.now) }
-{
-    if node.number() < diagrams.len() {
-        Ok(node)
-    } else {
-        Err(RowError::Condition)
+    /// The nodes of the numbers that the next two fields have.
+    pub fn two_nodes(&self, fields: &mut Fields) -> Result<(Node, Node), RowError>
+        ensures { IfOk result (λ nodes. (nodes.0 < length self.now.diagrams) × (nodes.1 < length self.now.diagrams)) }
+    {
+        Ok((self.node(fields)?, self.node(fields)?))
     }
 }
 
@@ -60,7 +51,7 @@ fn known(diagrams: &Diagrams, node: Node) -> Result<Node, RowError>
 pub fn track(fields: &mut Fields) -> Result<u8, RowError>
     ensures { IfOk result (λ track. track < MOST_TRACKS) }
 {
-    let track = fields.u8()?;
+    let track = fields.number::<u8>()?;
     if track >= MOST_TRACKS {
         return Err(RowError::Condition);
     }

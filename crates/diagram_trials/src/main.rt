@@ -7,9 +7,9 @@ mod bench;
 mod making;
 mod writing;
 
-use asking::{Asking, ask, asking_of};
+use asking::ask;
 use bench::Bench;
-use making::{Making, make, making_of};
+use making::make;
 use std::alloc::Global;
 use std::process::ExitCode;
 use trial_rows::{Fields, RowError, Rows, answer_script};
@@ -18,41 +18,15 @@ use trial_rows::{Fields, RowError, Rows, answer_script};
 #[derive(Drop)]
 struct Diagram {}
 
-/// Makes the node of a step.
-fn make_step(
-    alloc: Global,
-    bench: &mut Bench,
-    making: Making,
-    fields: &mut Fields,
-) -> Result<(), RowError> {
-    let node = make(alloc, bench, making, fields)?;
-    fields.end()?;
-    bench.push(node)
-}
-
-/// Writes what a step answers.
-fn ask_step(
-    alloc: Global,
-    bench: &mut Bench,
-    asking: Asking,
-    fields: &mut Fields,
-    out: &mut String,
-) -> Result<(), RowError> {
-    if !out.is_empty() {
-        out.push(' ')?;
-    }
-    ask(alloc, bench, asking, fields, out)?;
-    fields.end()
-}
-
 /// Makes the node of a step, or writes what the step answers.
 fn do_step(alloc: Global, bench: &mut Bench, step: &str, out: &mut String) -> Result<(), RowError> {
     let mut fields = Fields::new(step);
     let word = fields.word()?;
-    match making_of(word) {
-        Some(making) => make_step(alloc, bench, making, &mut fields),
-        None => ask_step(alloc, bench, asking_of(word)?, &mut fields, out),
+    match make(alloc, bench, word, &mut fields)? {
+        Some(node) => bench.nodes.push(node)?,
+        None => ask(alloc, bench, word, &mut fields, out)?,
     }
+    fields.end()
 }
 
 /// `diagram STEP/STEP ..`: what the steps answer that make no node.

@@ -9,88 +9,60 @@ use letter_diagram::laws::a_map_looks_from_its_top_track;
 use letter_diagram::{Diagrams, Node};
 use limits::MOST_TRACKS;
 use std::alloc::Global;
-use trial_rows::{Fields, RowError, numbers};
+use trial_rows::{Fields, RowError};
 
 /// The most pairs or sets that a row may number.
 const MOST_NUMBERED: usize = 1000000;
 
-/// What a step makes.
-#[derive(Clone, Copy)]
-pub enum Making {
-    Leaf,
-    Node,
-    Choose,
-    Apply2,
-    Merge,
-    Map,
-    Relabel,
-}
-
-/// What the step of this word makes.
-pub fn making_of(word: &str) -> Option<Making> {
-    match word {
-        "leaf" => Some(Making::Leaf),
-        "node" => Some(Making::Node),
-        "choose" => Some(Making::Choose),
-        "apply2" => Some(Making::Apply2),
-        "merge" => Some(Making::Merge),
-        "map" => Some(Making::Map),
-        "relabel" => Some(Making::Relabel),
-        _ => None,
-    }
-}
-
-/// The node that a step makes.
+/// The node that the step of this word makes, if it is one that makes a node.
 pub fn make(
     alloc: Global,
     bench: &mut Bench,
-    making: Making,
+    word: &str,
     fields: &mut Fields,
-) -> Result<Node, RowError> {
-    match making {
-        Making::Leaf => leaf(bench, fields),
-        Making::Node => test_node(bench, fields),
-        Making::Choose => choice(bench, fields),
-        Making::Apply2 => pairs_node(bench, fields),
-        Making::Merge => merged(bench, fields),
-        Making::Map => mapped(alloc, bench, fields),
-        Making::Relabel => relabelled(alloc, bench, fields),
+) -> Result<Option<Node>, RowError> {
+    match word {
+        "leaf" => leaf(bench, fields),
+        "node" => test_node(bench, fields),
+        "choose" => choice(bench, fields),
+        "apply2" => pairs_node(bench, fields),
+        "merge" => merged(bench, fields),
+        "map" => mapped(alloc, bench, fields),
+        "relabel" => relabelled(alloc, bench, fields),
+        _ => Ok(None),
     }
 }
 
 /// `leaf VALUE`: the constant map.
-fn leaf(bench: &mut Bench, fields: &mut Fields) -> Result<Node, RowError> {
-    let value = fields.u32()?;
-    Ok(bench.diagrams.leaf(value)?)
+fn leaf(bench: &mut Bench, fields: &mut Fields) -> Result<Option<Node>, RowError> {
+    let value = fields.number::<u32>()?;
+    Ok(Some(bench.diagrams.leaf(value)?))
 }
 
 /// `node TRACK LOW HIGH`: both maps look only at later tracks.
-fn test_node(bench: &mut Bench, fields: &mut Fields) -> Result<Node, RowError> {
+fn test_node(bench: &mut Bench, fields: &mut Fields) -> Result<Option<Node>, RowError> {
     let track = track(fields)?;
-    let low = bench.node(fields)?;
-    let high = bench.node(fields)?;
+    let (low, high) = bench.two_nodes(fields)?;
     if bench.diagrams.top(low) <= track || bench.diagrams.top(high) <= track {
         return Err(RowError::Condition);
     }
-    Ok(bench.diagrams.node(track, low, high)?)
+    Ok(Some(bench.diagrams.node(track, low, high)?))
 }
 
 /// `choose TRACK LOW HIGH`: the maps may look at any tracks.
-fn choice(bench: &mut Bench, fields: &mut Fields) -> Result<Node, RowError> {
+fn choice(bench: &mut Bench, fields: &mut Fields) -> Result<Option<Node>, RowError> {
     let track = track(fields)?;
-    let low = bench.node(fields)?;
-    let high = bench.node(fields)?;
-    Ok(bench.diagrams.choose(track, low, high)?)
+    let (low, high) = bench.two_nodes(fields)?;
+    Ok(Some(bench.diagrams.choose(track, low, high)?))
 }
 
 /// `apply2 NODE NODE`: the map of the pairs' numbers.
-fn pairs_node(bench: &mut Bench, fields: &mut Fields) -> Result<Node, RowError> {
-    let left = bench.node(fields)?;
-    let right = bench.node(fields)?;
+fn pairs_node(bench: &mut Bench, fields: &mut Fields) -> Result<Option<Node>, RowError> {
+    let (left, right) = bench.two_nodes(fields)?;
     if bench.pairs.len() > MOST_NUMBERED {
         return Err(RowError::Condition);
     }
-    Ok(apply2(&mut bench.diagrams, left, right, &mut bench.pairs)?)
+    Ok(Some(apply2(&mut bench.diagrams, left, right, &mut bench.pairs)?))
 }
 
 /// Whether each number is below a bound.
@@ -111,24 +83,24 @@ fn is_below(diagrams: &Diagrams, node: Node, bound: usize) -> Result<bool, RowEr
 }
 
 /// `merge TRACK NODE`: the map of the numbers of unions.
-fn merged(bench: &mut Bench, fields: &mut Fields) -> Result<Node, RowError> {
+fn merged(bench: &mut Bench, fields: &mut Fields) -> Result<Option<Node>, RowError> {
     let track = track(fields)?;
     let node = bench.node(fields)?;
     let count = bench.sets.len();
     if count > MOST_NUMBERED || !is_below(&bench.diagrams, node, count)? {
         return Err(RowError::Condition);
     }
-    Ok(bench.diagrams.merge_track(node, track, &mut bench.sets)?)
+    Ok(Some(bench.diagrams.merge_track(node, track, &mut bench.sets)?))
 }
 
 /// `map TABLE NODE`: the map of the table's entries.
-fn mapped(alloc: Global, bench: &mut Bench, fields: &mut Fields) -> Result<Node, RowError> {
-    let table = numbers::<u32>(alloc, fields.word()?)?;
+fn mapped(alloc: Global, bench: &mut Bench, fields: &mut Fields) -> Result<Option<Node>, RowError> {
+    let table = fields.numbers::<u32>(alloc)?;
     let node = bench.node(fields)?;
     if !is_below(&bench.diagrams, node, table.len())? {
         return Err(RowError::Condition);
     }
-    Ok(bench.diagrams.map_leaves(node, table.as_slice())?)
+    Ok(Some(bench.diagrams.map_leaves(node, table.as_slice())?))
 }
 
 /// The map on the letters with the bits of these tracks.
@@ -144,7 +116,7 @@ fn relabel(diagrams: &mut Diagrams, node: Node, tracks: &[u8]) -> Result<Node, R
 
 /// The tracks of the next field. A track past the list's end is itself.
 fn tracks(alloc: Global, fields: &mut Fields) -> Result<Vec<u8>, RowError> {
-    let mut tracks = numbers::<u8>(alloc, fields.word()?)?;
+    let mut tracks = fields.numbers::<u8>(alloc)?;
     for track in 0..MOST_TRACKS {
         if tracks.len() <= track as usize {
             tracks.push(track)?;
@@ -162,11 +134,15 @@ fn are_tracks(tracks: &[u8]) -> bool
 }
 
 /// `relabel TRACKS NODE`: the map whose tracks take their bits from these. A track past the list's end keeps its own.
-fn relabelled(alloc: Global, bench: &mut Bench, fields: &mut Fields) -> Result<Node, RowError> {
+fn relabelled(
+    alloc: Global,
+    bench: &mut Bench,
+    fields: &mut Fields,
+) -> Result<Option<Node>, RowError> {
     let tracks = tracks(alloc, fields)?;
     let node = bench.node(fields)?;
     if !are_tracks(tracks.as_slice()) {
         return Err(RowError::Condition);
     }
-    relabel(&mut bench.diagrams, node, tracks.as_slice())
+    Ok(Some(relabel(&mut bench.diagrams, node, tracks.as_slice())?))
 }

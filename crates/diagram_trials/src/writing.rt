@@ -4,7 +4,8 @@ ghost use Rattle.std.specs.Prelude.{◌<◌, length};
 
 use crate::bench::Bench;
 use letter_diagram::{Diagrams, Node};
-use trial_rows::RowError;
+use std::alloc::Global;
+use trial_rows::{Fields, RowError, separate, written};
 
 /// Writes numbers, parted by commas, or `-` where there are none.
 pub fn write_numbers(out: &mut String, numbers: &[u32]) -> Result<(), RowError> {
@@ -12,27 +13,25 @@ pub fn write_numbers(out: &mut String, numbers: &[u32]) -> Result<(), RowError> 
         out.push('-')?;
     }
     for (place, number) in numbers.iter().enumerate() {
-        if place > 0 {
-            out.push(',')?;
-        }
+        separate(out, place, ',')?;
         write!(out, "{number}")?;
     }
     Ok(())
 }
 
-/// Writes the values of a node's map at some letters.
+/// Writes the values of a node's map at the letters of the next field.
 pub fn write_values(
+    alloc: Global,
     diagrams: &Diagrams,
     node: Node,
-    letters: &[u32],
+    fields: &mut Fields,
     out: &mut String,
 ) -> Result<(), RowError>
     requires { node < length diagrams.now }
 {
-    for (place, letter) in letters.iter().enumerate() {
-        if place > 0 {
-            out.push(',')?;
-        }
+    let letters = fields.numbers::<u32>(alloc)?;
+    for (place, letter) in letters.as_slice().iter().enumerate() {
+        separate(out, place, ',')?;
         write!(out, "{}", diagrams.read(node, *letter))?;
     }
     Ok(())
@@ -46,8 +45,7 @@ pub fn write_node(bench: &Bench, node: Node, out: &mut String) -> Result<(), Row
         .iter()
         .position(|known| *known == node)
     {
-        Some(place) => write!(out, "{place}")?,
-        None => out.push('?')?,
+        Some(place) => written(write!(out, "{place}")),
+        None => written(out.push('?')),
     }
-    Ok(())
 }

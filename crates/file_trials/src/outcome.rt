@@ -2,7 +2,7 @@
 
 use chess_game::{Position, Side};
 use strategy_file::{ByteWhy, Claim, FileError};
-use trial_rows::RowError;
+use trial_rows::{RowError, written};
 
 fn why_word(why: ByteWhy) -> &'static str {
     match why {
@@ -47,12 +47,11 @@ fn write_claim(out: &mut String, claim: &Claim) -> Result<(), RowError> {
 
 fn write_error(out: &mut String, error: FileError) -> Result<(), RowError> {
     match error {
-        FileError::Cut { at } => write!(out, "cut at {at}")?,
-        FileError::Byte { at, why } => write!(out, "byte {at} {}", why_word(why))?,
-        FileError::Extra { at } => write!(out, "extra at {at}")?,
-        FileError::Memory => return Err(RowError::Memory),
+        FileError::Cut { at } => written(write!(out, "cut at {at}")),
+        FileError::Byte { at, why } => written(write!(out, "byte {at} {}", why_word(why))),
+        FileError::Extra { at } => written(write!(out, "extra at {at}")),
+        FileError::Memory => Err(RowError::Memory),
     }
-    Ok(())
 }
 
 /// Writes what came of a file.

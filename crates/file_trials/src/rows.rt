@@ -11,7 +11,7 @@ use chess_game::Side;
 use limits::Budget;
 use std::alloc::Global;
 use strategy_file::{Claim, FileError, WriteFileError, read_file, write_file};
-use trial_rows::{Fields, Named, RowError, numbers, yes_or_no};
+use trial_rows::{Fields, Named, RowError, write_truth, written};
 use winning_sets::{SolveError, solve};
 
 /// `file NAME WORDS`: names a file.
@@ -37,6 +37,17 @@ pub fn read_row(
     write_outcome(out, &read_file(alloc, bytes))
 }
 
+/// The bytes with others from a place on.
+fn changed(alloc: Global, bytes: &[u8], at: usize, piece: &[u8]) -> Result<Vec<u8>, RowError> {
+    if at > bytes.len() || piece.len() > bytes.len() - at {
+        return Err(RowError::Number);
+    }
+    let mut changed = Vec::from_slice(alloc, &bytes[..at])?;
+    changed.extend_from_slice(piece)?;
+    changed.extend_from_slice(&bytes[at + piece.len()..])?;
+    Ok(changed)
+}
+
 /// `change NAME AT WORDS`: what comes of a file whose bytes from a place on are others.
 pub fn change_row(
     alloc: Global,
@@ -45,14 +56,9 @@ pub fn change_row(
     out: &mut String,
 ) -> Result<(), RowError> {
     let bytes = files.get(fields.word()?)?.as_slice();
-    let at = fields.usize()?;
+    let at = fields.number::<usize>()?;
     let piece = spelled(alloc, fields.rest())?;
-    if at > bytes.len() || piece.len() > bytes.len() - at {
-        return Err(RowError::Number);
-    }
-    let mut changed = Vec::from_slice(alloc, &bytes[..at])?;
-    changed.extend_from_slice(piece.as_slice())?;
-    changed.extend_from_slice(&bytes[at + piece.len()..])?;
+    let changed = changed(alloc, bytes, at, piece.as_slice())?;
     write_outcome(out, &read_file(alloc, changed.as_slice()))
 }
 
@@ -89,8 +95,8 @@ pub fn cuts_row(
     out: &mut String,
 ) -> Result<(), RowError> {
     let bytes = files.get(fields.word()?)?.as_slice();
-    let first = fields.u32()?;
-    let last = fields.u32()?;
+    let first = fields.number::<u32>()?;
+    let last = fields.number::<u32>()?;
     fields.end()?;
     let mut told = 0u32;
     for length in first..last {
@@ -98,8 +104,7 @@ pub fn cuts_row(
             told = told.saturating_add(1);
         }
     }
-    write!(out, "{told}")?;
-    Ok(())
+    written(write!(out, "{told}"))
 }
 
 /// The claim of a file that is one.
@@ -131,6 +136,19 @@ fn accepts(set: &Auto, word: &[u32]) -> Result<bool, RowError> {
     Ok(set.accepts(word))
 }
 
+/// Whether a set of the claim of a file accepts a word.
+fn is_accepted(
+    alloc: Global,
+    bytes: &[u8],
+    ply: u8,
+    mask: u8,
+    word: &[u32],
+) -> Result<bool, RowError> {
+    let claim = claim_in(alloc, bytes)?;
+    let set = set_of(alloc, claim, ply, mask)?;
+    accepts(&set, word)
+}
+
 /// `accepts NAME PLY MASK LETTERS`: whether a set of the claim that is read accepts a word.
 pub fn accepts_row(
     alloc: Global,
@@ -139,14 +157,11 @@ pub fn accepts_row(
     out: &mut String,
 ) -> Result<(), RowError> {
     let bytes = files.get(fields.word()?)?.as_slice();
-    let claim = claim_in(alloc, bytes)?;
-    let ply = fields.u8()?;
-    let mask = fields.u8()?;
-    let word = numbers::<u32>(alloc, fields.word()?)?;
+    let ply = fields.number::<u8>()?;
+    let mask = fields.number::<u8>()?;
+    let word = fields.numbers::<u32>(alloc)?;
     fields.end()?;
-    let set = set_of(alloc, claim, ply, mask)?;
-    out.push_str(yes_or_no(accepts(&set, word.as_slice())?))?;
-    Ok(())
+    write_truth(out, is_accepted(alloc, bytes, ply, mask, word.as_slice())?)
 }
 
 /// The file of what is solved for the position and the number of moves of a claim.
@@ -166,6 +181,27 @@ fn solved_file(alloc: Global, claim: &Claim) -> Result<Result<Vec<u8>, WriteFile
     }
 }
 
+/// Writes how many bytes there are, and whether they are those of the other file.
+fn write_bytes(out: &mut String, bytes: &[u8], other: &[u8]) -> Result<(), RowError> {
+    let word = if bytes == other { "same" } else { "other" };
+    written(write!(out, "{} {word}", bytes.len()))
+}
+
+/// Writes what comes of writing what is solved for the position and the number of moves of a file.
+fn write_solved(
+    alloc: Global,
+    bytes: &[u8],
+    other: &[u8],
+    out: &mut String,
+) -> Result<(), RowError> {
+    let claim = claim_in(alloc, bytes)?;
+    match solved_file(alloc, &claim)? {
+        Ok(bytes) => write_bytes(out, bytes.as_slice(), other),
+        Err(WriteFileError::TooLarge { length }) => written(write!(out, "too large {length}")),
+        Err(WriteFileError::Memory) => Err(RowError::Memory),
+    }
+}
+
 /// `write NAME OTHER`: how many bytes are written for the position and the number of moves of a file, and whether they are those of the other.
 pub fn write_row(
     alloc: Global,
@@ -173,20 +209,27 @@ pub fn write_row(
     fields: &mut Fields,
     out: &mut String,
 ) -> Result<(), RowError> {
-    let claim = claim_in(alloc, files.get(fields.word()?)?.as_slice())?;
+    let bytes = files.get(fields.word()?)?.as_slice();
     let other = files.get(fields.word()?)?.as_slice();
     fields.end()?;
-    match solved_file(alloc, &claim)? {
-        Ok(bytes) => {
-            let word = if bytes.as_slice() == other {
-                "same"
-            } else {
-                "other"
-            };
-            write!(out, "{} {word}", bytes.len())?;
+    write_solved(alloc, bytes, other, out)
+}
+
+/// Adds so many states, each a flag 0 and a row of entries that are drawn.
+fn push_noise(bytes: &mut Vec<u8>, states: u32, letters: u32, seed: u64) -> Result<(), RowError> {
+    if states == 0 {
+        return Err(RowError::Number);
+    }
+    let mut drawn = seed;
+    for _ in 0..states {
+        bytes.push(0)?;
+        for _ in 0..letters {
+            drawn = drawn
+                .wrapping_mul(6364136223846793005)
+                .wrapping_add(1442695040888963407);
+            let entry = (drawn >> 33) as u32 % states;
+            bytes.extend_from_slice(&entry.to_be_bytes())?;
         }
-        Err(WriteFileError::TooLarge { length }) => write!(out, "too large {length}")?,
-        Err(WriteFileError::Memory) => return Err(RowError::Memory),
     }
     Ok(())
 }
@@ -199,22 +242,10 @@ pub fn noise_row(
     fields: &mut Fields,
 ) -> Result<(), RowError> {
     let name = fields.word()?;
-    let states = fields.u32()?;
-    let letters = fields.u32()?;
-    let mut seed = fields.u64()?;
+    let states = fields.number::<u32>()?;
+    let letters = fields.number::<u32>()?;
+    let seed = fields.number::<u64>()?;
     let mut bytes = spelled(alloc, fields.rest())?;
-    if states == 0 {
-        return Err(RowError::Number);
-    }
-    for _ in 0..states {
-        bytes.push(0)?;
-        for _ in 0..letters {
-            seed = seed
-                .wrapping_mul(6364136223846793005)
-                .wrapping_add(1442695040888963407);
-            let entry = (seed >> 33) as u32 % states;
-            bytes.extend_from_slice(&entry.to_be_bytes())?;
-        }
-    }
+    push_noise(&mut bytes, states, letters, seed)?;
     files.put(alloc, name, bytes)
 }

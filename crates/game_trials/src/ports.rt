@@ -4,13 +4,13 @@ ghost use Rattle.std.specs.Prelude.{◌<◌, IfOk};
 
 use desk_base::{FetchError, KeepError, MemShelf, MemSink, Shelf, Sink, put_all};
 use std::alloc::Global;
-use trial_rows::{Fields, RowError, number, numbers};
+use trial_rows::{Fields, RowError, separate, write_bytes, written};
 
 /// A sink: the calls that are to fail, the most that a call writes, and the room.
 fn sink_of(alloc: Global, fields: &mut Fields) -> Result<MemSink, RowError> {
-    let fail = numbers::<u32>(alloc, fields.word()?)?;
-    let most = number::<usize>(fields.word()?)?;
-    let room = number::<usize>(fields.word()?)?;
+    let fail = fields.numbers::<u32>(alloc)?;
+    let most = fields.number::<usize>()?;
+    let room = fields.number::<usize>()?;
     if most == 0 {
         return Err(RowError::Condition);
     }
@@ -19,8 +19,16 @@ fn sink_of(alloc: Global, fields: &mut Fields) -> Result<MemSink, RowError> {
 
 fn write_text(out: &mut String, bytes: &[u8]) -> Result<(), RowError> {
     out.push_str("written ")?;
-    for byte in bytes {
-        out.push(*byte as char)?;
+    write_bytes(out, bytes)
+}
+
+/// Writes what each call of `put` answers.
+fn put_pieces(sink: &mut MemSink, pieces: &str, out: &mut String) -> Result<(), RowError> {
+    for piece in pieces.split('/') {
+        match sink.put(piece.as_bytes()) {
+            Ok(count) => write!(out, "{count} ")?,
+            Err(_) => out.push_str("failed ")?,
+        }
     }
     Ok(())
 }
@@ -28,22 +36,17 @@ fn write_text(out: &mut String, bytes: &[u8]) -> Result<(), RowError> {
 /// `sink FAIL MOST ROOM PIECES`: what each call of `put` answers, and what is written.
 pub fn sink_row(alloc: Global, fields: &mut Fields, out: &mut String) -> Result<(), RowError> {
     let mut sink = sink_of(alloc, fields)?;
-    for piece in fields.rest().split('/') {
-        match sink.put(piece.as_bytes()) {
-            Ok(count) => write!(out, "{count} ")?,
-            Err(_) => out.push_str("failed ")?,
-        }
-    }
+    put_pieces(&mut sink, fields.rest(), out)?;
     write_text(out, sink.bytes())
 }
 
 /// `put FAIL MOST ROOM TEXT`: whether all of a text is written, and what is.
 pub fn put_row(alloc: Global, fields: &mut Fields, out: &mut String) -> Result<(), RowError> {
     let mut sink = sink_of(alloc, fields)?;
-    match put_all(&mut sink, fields.rest().as_bytes()) {
-        Ok(()) => out.push_str("all ")?,
-        Err(_) => out.push_str("failed ")?,
-    }
+    out.push_str(match put_all(&mut sink, fields.rest().as_bytes()) {
+        Ok(()) => "all ",
+        Err(_) => "failed ",
+    })?;
     write_text(out, sink.bytes())
 }
 
@@ -55,12 +58,11 @@ fn keep_step(
     out: &mut String,
 ) -> Result<(), RowError> {
     let name = fields.word()?;
-    out.push_str(match shelf.keep(alloc, name, fields.rest().as_bytes()) {
-        Ok(()) => "kept",
-        Err(KeepError::Failed) => "failed",
-        Err(KeepError::Memory) => return Err(RowError::Memory),
-    })?;
-    Ok(())
+    match shelf.keep(alloc, name, fields.rest().as_bytes()) {
+        Ok(()) => written(out.push_str("kept")),
+        Err(KeepError::Failed) => written(out.push_str("failed")),
+        Err(KeepError::Memory) => Err(RowError::Memory),
+    }
 }
 
 /// `fetch NAME LIMIT`: what the store has under the name, or why it gives nothing.
@@ -71,26 +73,30 @@ fn fetch_step(
     out: &mut String,
 ) -> Result<(), RowError> {
     let name = fields.word()?;
-    let limit = number::<usize>(fields.word()?)?;
+    let limit = fields.number::<usize>()?;
     match shelf.fetch(alloc, name, limit) {
-        Ok(Some(bytes)) => write_file(out, bytes.as_slice())?,
-        Ok(None) => out.push_str("none")?,
-        Err(FetchError::Failed) => out.push_str("failed")?,
-        Err(FetchError::TooLong) => out.push_str("too long")?,
-        Err(FetchError::Memory) => return Err(RowError::Memory),
+        Ok(Some(bytes)) => write_file(out, bytes.as_slice()),
+        Ok(None) => written(out.push_str("none")),
+        Err(FetchError::Failed) => written(out.push_str("failed")),
+        Err(FetchError::TooLong) => written(out.push_str("too long")),
+        Err(FetchError::Memory) => Err(RowError::Memory),
     }
-    Ok(())
 }
 
 fn write_file(out: &mut String, bytes: &[u8]) -> Result<(), RowError> {
     out.push_str("found ")?;
-    for byte in bytes {
-        out.push(*byte as char)?;
-    }
-    Ok(())
+    write_bytes(out, bytes)
 }
 
-/// A call of the store, or `file NAME`: what it has under the name, without a call that could fail.
+/// `file NAME`: what the store has under the name, without a call that could fail.
+fn file_step(shelf: &MemShelf, fields: &mut Fields, out: &mut String) -> Result<(), RowError> {
+    match shelf.file(fields.word()?) {
+        Some(bytes) => write_file(out, bytes),
+        None => written(out.push_str("none")),
+    }
+}
+
+/// A call of the store, or a look at one of its files.
 fn shelf_step(
     alloc: Global,
     shelf: &mut MemShelf,
@@ -100,28 +106,30 @@ fn shelf_step(
     match fields.word()? {
         "keep" => keep_step(alloc, shelf, fields, out),
         "fetch" => fetch_step(alloc, shelf, fields, out),
-        "file" => match shelf.file(fields.word()?) {
-            Some(bytes) => write_file(out, bytes),
-            None => {
-                out.push_str("none")?;
-                Ok(())
-            }
-        },
+        "file" => file_step(shelf, fields, out),
         _ => Err(RowError::Word),
     }
 }
 
-/// `shelf FAIL STEP/STEP ..`: what the steps answer, over a store in memory that begins without files, parted by `/`.
-pub fn shelf_row(alloc: Global, fields: &mut Fields, out: &mut String) -> Result<(), RowError> {
-    let fail = numbers::<u32>(alloc, fields.word()?)?;
-    let mut shelf = MemShelf::new(alloc, fail);
-    for text in fields.rest().split('/') {
-        if !out.is_empty() {
-            out.push('/')?;
-        }
+/// Does steps, and writes what they answer.
+fn shelf_steps(
+    alloc: Global,
+    shelf: &mut MemShelf,
+    steps: &str,
+    out: &mut String,
+) -> Result<(), RowError> {
+    for (place, text) in steps.split('/').enumerate() {
+        separate(out, place, '/')?;
         let mut fields = Fields::new(text);
-        shelf_step(alloc, &mut shelf, &mut fields, out)?;
+        shelf_step(alloc, shelf, &mut fields, out)?;
         fields.end()?;
     }
     Ok(())
+}
+
+/// `shelf FAIL STEP/STEP ..`: what the steps answer, over a store in memory that begins without files, parted by `/`.
+pub fn shelf_row(alloc: Global, fields: &mut Fields, out: &mut String) -> Result<(), RowError> {
+    let fail = fields.numbers::<u32>(alloc)?;
+    let mut shelf = MemShelf::new(alloc, fail);
+    shelf_steps(alloc, &mut shelf, fields.rest(), out)
 }

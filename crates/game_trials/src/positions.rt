@@ -11,7 +11,9 @@ use chess_game::{
 use chess_text::{MoveText, MoveWhy, PositionReader, Typed, read_move};
 use rule_formula::{Opt, masks, options};
 use std::alloc::Global;
-use trial_rows::{Fields, Named, RowError, numbers, yes_or_no};
+use trial_rows::{
+    Fields, Named, RowError, numbers, separate, write_bytes, write_truth, written, yes_or_no,
+};
 
 /// The position of the name that the next field is.
 pub fn position_named(
@@ -32,8 +34,9 @@ pub fn sound_named(positions: &Named<Position>, fields: &mut Fields) -> Result<P
     Ok(position)
 }
 
-pub fn side_of(word: &str) -> Result<Side, RowError> {
-    match word {
+/// The side of the next field.
+pub fn side(fields: &mut Fields) -> Result<Side, RowError> {
+    match fields.word()? {
         "W" => Ok(Side::White),
         "B" => Ok(Side::Black),
         _ => Err(RowError::Word),
@@ -47,8 +50,9 @@ pub fn side_letter(side: Side) -> char {
     }
 }
 
-fn kind_of(word: &str) -> Result<Kind, RowError> {
-    match word {
+/// The kind of man of the next field.
+fn kind(fields: &mut Fields) -> Result<Kind, RowError> {
+    match fields.word()? {
         "K" => Ok(Kind::King),
         "Q" => Ok(Kind::Queen),
         "R" => Ok(Kind::Rook),
@@ -92,14 +96,19 @@ pub fn soundness_row(
     let position = position_named(positions, fields)?;
     fields.end()?;
     match soundness(&position) {
-        Ok(()) => out.push_str("sound")?,
-        Err(Unsound::NoKing(side)) => write!(out, "no king {}", side_letter(side))?,
-        Err(Unsound::ManyKings(side)) => write!(out, "many kings {}", side_letter(side))?,
-        Err(Unsound::KingGone(side)) => write!(out, "king gone {}", side_letter(side))?,
-        Err(Unsound::SameSquare(a, b)) => write!(out, "same square {a} {b}")?,
-        Err(Unsound::OtherInCheck) => out.push_str("other side in check")?,
+        Ok(()) => written(out.push_str("sound")),
+        Err(why) => write_unsound(out, why),
     }
-    Ok(())
+}
+
+fn write_unsound(out: &mut String, why: Unsound) -> Result<(), RowError> {
+    written(match why {
+        Unsound::NoKing(side) => write!(out, "no king {}", side_letter(side)),
+        Unsound::ManyKings(side) => write!(out, "many kings {}", side_letter(side)),
+        Unsound::KingGone(side) => write!(out, "king gone {}", side_letter(side)),
+        Unsound::SameSquare(a, b) => write!(out, "same square {a} {b}"),
+        Unsound::OtherInCheck => out.push_str("other side in check"),
+    })
 }
 
 pub fn illegal_words(why: Illegal) -> &'static str {
@@ -113,6 +122,18 @@ pub fn illegal_words(why: Illegal) -> &'static str {
     }
 }
 
+/// The square of the next two fields.
+fn square(fields: &mut Fields) -> Result<(i64, i64), RowError> {
+    Ok((fields.number()?, fields.number()?))
+}
+
+/// The move of the next three fields: the man's number, and the square.
+pub fn move_of(fields: &mut Fields) -> Result<Move, RowError> {
+    let man = fields.number()?;
+    let (x, y) = square(fields)?;
+    Ok(Move { man, x, y })
+}
+
 /// `move NAME M X Y`: the reason why the move is refused, or the live men behind it, the side to move, and whether it is mated.
 pub fn move_row(
     positions: &Named<Position>,
@@ -120,26 +141,22 @@ pub fn move_row(
     out: &mut String,
 ) -> Result<(), RowError> {
     let position = sound_named(positions, fields)?;
-    let man = fields.u8()?;
-    let x = fields.i64()?;
-    let y = fields.i64()?;
+    let mv = move_of(fields)?;
     fields.end()?;
-    match try_move(&position, Move { man, x, y }) {
-        Err(why) => out.push_str(illegal_words(why))?,
-        Ok(made) => {
-            write!(
-                out,
-                "legal men {} turn {}",
-                made.mask(),
-                side_letter(made.turn())
-            )?;
-            if soundness(&made).is_err() {
-                return Err(RowError::Condition);
-            }
-            write!(out, " mated {}", yes_or_no(mated(&made)))?;
-        }
+    match try_move(&position, mv) {
+        Err(why) => written(out.push_str(illegal_words(why))),
+        Ok(made) => write_made(out, &made),
     }
-    Ok(())
+}
+
+fn write_made(out: &mut String, made: &Position) -> Result<(), RowError> {
+    if soundness(made).is_err() {
+        return Err(RowError::Condition);
+    }
+    let men = made.mask();
+    let turn = side_letter(made.turn());
+    let mate = yes_or_no(mated(made));
+    written(write!(out, "legal men {men} turn {turn} mated {mate}"))
 }
 
 /// `king NAME`: whether the side to move is in check, and whether it is mated.
@@ -152,8 +169,7 @@ pub fn king_row(
     fields.end()?;
     let check = yes_or_no(in_check(&position));
     let mate = yes_or_no(mated(&position));
-    write!(out, "check {check} mated {mate}")?;
-    Ok(())
+    written(write!(out, "check {check} mated {mate}"))
 }
 
 /// `attacked NAME SIDE X Y`: whether a man of the side bears on the square.
@@ -163,40 +179,36 @@ pub fn attacked_row(
     out: &mut String,
 ) -> Result<(), RowError> {
     let position = position_named(positions, fields)?;
-    let side = side_of(fields.word()?)?;
-    let x = fields.i64()?;
-    let y = fields.i64()?;
+    let side = side(fields)?;
+    let (x, y) = square(fields)?;
     fields.end()?;
-    out.push_str(yes_or_no(attacked(&position, side, x, y)))?;
-    Ok(())
+    write_truth(out, attacked(&position, side, x, y))
 }
 
 /// `ray KIND SIDE NUMBER`: the step of a ray, and whether it may be repeated.
 pub fn ray_row(fields: &mut Fields, out: &mut String) -> Result<(), RowError> {
-    let kind = kind_of(fields.word()?)?;
-    let side = side_of(fields.word()?)?;
-    let index = fields.u8()?;
+    let kind = kind(fields)?;
+    let side = side(fields)?;
+    let index = fields.number::<u8>()?;
     fields.end()?;
     match ray(kind, side, index) {
-        Some(ray) => write!(
-            out,
-            "{} {} {}",
-            ray.dx,
-            ray.dy,
-            if ray.far { "far" } else { "near" }
-        )?,
-        None => out.push_str("none")?,
+        Some(ray) => {
+            let extent = if ray.far { "far" } else { "near" };
+            written(write!(out, "{} {} {extent}", ray.dx, ray.dy))
+        }
+        None => written(out.push_str("none")),
     }
-    Ok(())
 }
 
 /// A frame: `whole`, or its least and greatest x and y.
-pub fn frame_of(alloc: Global, field: &str) -> Result<Frame, RowError> {
-    if field == "whole" {
-        return Ok(Frame::whole());
+pub fn frame(alloc: Global, fields: &mut Fields) -> Result<Frame, RowError> {
+    match fields.word()? {
+        "whole" => Ok(Frame::whole()),
+        edges => {
+            let edges = numbers::<i64>(alloc, edges)?;
+            frame_within(edges.as_slice())
+        }
     }
-    let edges = numbers::<i64>(alloc, field)?;
-    frame_within(edges.as_slice())
 }
 
 fn frame_within(edges: &[i64]) -> Result<Frame, RowError> {
@@ -219,9 +231,9 @@ pub fn way_row(
     out: &mut String,
 ) -> Result<(), RowError> {
     let position = position_named(positions, fields)?;
-    let number = fields.u8()?;
-    let index = fields.u8()?;
-    let frame = frame_of(alloc, fields.word()?)?;
+    let number = fields.number::<u8>()?;
+    let index = fields.number::<u8>()?;
+    let frame = frame(alloc, fields)?;
     fields.end()?;
     if number < 1 || number > position.count() {
         return Err(RowError::Condition);
@@ -234,32 +246,28 @@ pub fn way_row(
         return Err(RowError::Condition);
     }
     let way = free_way(&position, number, ray, frame);
-    write!(out, "{} to {} hits ", way.near, way.far)?;
     match way.hits {
-        Some(man) => write!(out, "{man}")?,
-        None => out.push_str("none")?,
+        Some(man) => written(write!(out, "{} to {} hits {man}", way.near, way.far)),
+        None => written(write!(out, "{} to {} hits none", way.near, way.far)),
     }
-    Ok(())
 }
 
 /// `reply TEXT`: the move that a line spells, as it is spelled, or why it spells none.
 pub fn reply_row(fields: &mut Fields, out: &mut String) -> Result<(), RowError> {
     match read_move(fields.rest().as_bytes()) {
-        Ok(Typed::Quit) => out.push_str("quit")?,
-        Err(MoveWhy::Shape) => out.push_str("shape")?,
-        Err(MoveWhy::Number) => out.push_str("number")?,
-        Ok(Typed::Move(mv)) => {
-            if mv.man < 1 || mv.man > 8 {
-                return Err(RowError::Condition);
-            }
-            out.push_str("move ")?;
-            let mut text = MoveText::new();
-            for byte in text.write(mv) {
-                out.push(*byte as char)?;
-            }
-        }
+        Ok(Typed::Move(mv)) => write_move(out, mv),
+        Ok(Typed::Quit) => written(out.push_str("quit")),
+        Err(MoveWhy::Shape) => written(out.push_str("shape")),
+        Err(MoveWhy::Number) => written(out.push_str("number")),
     }
-    Ok(())
+}
+
+fn write_move(out: &mut String, mv: Move) -> Result<(), RowError> {
+    if mv.man < 1 || mv.man > 8 {
+        return Err(RowError::Condition);
+    }
+    out.push_str("move ")?;
+    write_bytes(out, MoveText::new().write(mv))
 }
 
 /// `options NAME MASK SIDE`: the ways in which the side's men may go, each as man, ray and who is taken.
@@ -270,8 +278,8 @@ pub fn options_row(
     out: &mut String,
 ) -> Result<(), RowError> {
     let position = position_named(positions, fields)?;
-    let mask = fields.u8()?;
-    let side = side_of(fields.word()?)?;
+    let mask = fields.number::<u8>()?;
+    let side = side(fields)?;
     fields.end()?;
     let ways = options(alloc, &position, mask, side)?;
     write_options(ways.as_slice(), out)
@@ -279,9 +287,7 @@ pub fn options_row(
 
 fn write_options(ways: &[Opt], out: &mut String) -> Result<(), RowError> {
     for (place, way) in ways.iter().enumerate() {
-        if place > 0 {
-            out.push(' ')?;
-        }
+        separate(out, place, ' ')?;
         write!(out, "{}/{}/{}", way.man, way.ray, way.taken)?;
     }
     Ok(())
@@ -297,14 +303,13 @@ pub fn mask_row(
     let position = position_named(positions, fields)?;
     fields.end()?;
     let masks = masks(alloc, &position)?;
-    write_masks(masks.as_slice(), out)
+    write_masks(out, masks.as_slice(), ' ')
 }
 
-fn write_masks(masks: &[u8], out: &mut String) -> Result<(), RowError> {
+/// Writes masks, parted by a mark.
+pub fn write_masks(out: &mut String, masks: &[u8], mark: char) -> Result<(), RowError> {
     for (place, mask) in masks.iter().enumerate() {
-        if place > 0 {
-            out.push(' ')?;
-        }
+        separate(out, place, mark)?;
         write!(out, "{mask}")?;
     }
     Ok(())

@@ -2,11 +2,11 @@
 
 ghost use Rattle.std.specs.Prelude.{◌≤◌, ◌≡◌};
 
-use crate::positions::{frame_of, illegal_words, side_of, sound_named};
+use crate::positions::{frame, illegal_words, move_of, side, sound_named};
 use chess_game::{Frame, Move, Position};
 use chess_text::position_bytes;
 use std::alloc::Global;
-use trial_rows::{Fields, Named, RowError, yes_or_no};
+use trial_rows::{Fields, Named, RowError, separate, write_truth, written, yes_or_no};
 use white_player::{Session, TooWide};
 use winning_sets::{SolveError, Solved, solve};
 
@@ -17,8 +17,8 @@ fn solved(
     fields: &mut Fields,
 ) -> Result<Solved, RowError> {
     let position = sound_named(positions, fields)?;
-    let winner = side_of(fields.word()?)?;
-    let moves = fields.u8()?;
+    let winner = side(fields)?;
+    let moves = fields.number::<u8>()?;
     let budget = fields.budget()?;
     let _ = position.count(); // for its invariant
     if moves > 20 {
@@ -50,16 +50,16 @@ fn win_step(session: &mut Session, out: &mut String) -> Result<(), RowError> {
     match session.win_move() {
         Ok(played) => {
             let Move { man, x, y } = played.mv;
-            write!(
+            written(write!(
                 out,
-                "{man} {x} {y} ray {} distance {}",
-                played.ray, played.distance
-            )?;
-            write!(out, " mated {}", yes_or_no(played.mated))?;
+                "{man} {x} {y} ray {} distance {} mated {}",
+                played.ray,
+                played.distance,
+                yes_or_no(played.mated)
+            ))
         }
-        Err(TooWide) => out.push_str("wide")?,
+        Err(TooWide) => written(out.push_str("wide")),
     }
-    Ok(())
 }
 
 /// `other M X Y`: whether the other side's move is made, or why not.
@@ -68,17 +68,14 @@ fn other_step(
     fields: &mut Fields,
     out: &mut String,
 ) -> Result<(), RowError> {
-    let man = fields.u8()?;
-    let x = fields.i64()?;
-    let y = fields.i64()?;
+    let mv = move_of(fields)?;
     if session.position().turn() != session.winner().other() {
         return Err(RowError::Condition);
     }
-    match session.other_move(Move { man, x, y }) {
-        Ok(()) => out.push_str("made")?,
-        Err(why) => out.push_str(illegal_words(why))?,
+    match session.other_move(mv) {
+        Ok(()) => written(out.push_str("made")),
+        Err(why) => written(out.push_str(illegal_words(why))),
     }
-    Ok(())
 }
 
 /// Writes the lines of a position's text without the first and the last, parted by commas.
@@ -110,17 +107,27 @@ fn step(
     match fields.word()? {
         "win" => win_step(session, out),
         "other" => other_step(session, fields, out),
-        "left" => {
-            write!(out, "{}", session.moves_left())?;
-            Ok(())
-        }
-        "over" => {
-            out.push_str(yes_or_no(session.over()))?;
-            Ok(())
-        }
+        "left" => written(write!(out, "{}", session.moves_left())),
+        "over" => write_truth(out, session.over()),
         "position" => write_position(alloc, &session.position(), out),
         _ => Err(RowError::Word),
     }
+}
+
+/// Does steps, and writes what they answer.
+fn do_steps(
+    alloc: Global,
+    session: &mut Session,
+    steps: &str,
+    out: &mut String,
+) -> Result<(), RowError> {
+    for (place, text) in steps.split('/').enumerate() {
+        separate(out, place, '/')?;
+        let mut fields = Fields::new(text);
+        step(alloc, session, &mut fields, out)?;
+        fields.end()?;
+    }
+    Ok(())
 }
 
 /// `game NAME WINNER MOVES BUDGET FRAME STEP/STEP ..`: what the steps answer, parted by `/`.
@@ -131,15 +138,7 @@ pub fn game_row(
     out: &mut String,
 ) -> Result<(), RowError> {
     let solved = solved(alloc, positions, fields)?;
-    let frame = frame_of(alloc, fields.word()?)?;
+    let frame = frame(alloc, fields)?;
     let mut session = session_of(alloc, solved, frame)?;
-    for text in fields.rest().split('/') {
-        if !out.is_empty() {
-            out.push('/')?;
-        }
-        let mut fields = Fields::new(text);
-        step(alloc, &mut session, &mut fields, out)?;
-        fields.end()?;
-    }
-    Ok(())
+    do_steps(alloc, &mut session, fields.rest(), out)
 }

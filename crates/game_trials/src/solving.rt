@@ -2,12 +2,12 @@
 
 ghost use Rattle.std.specs.Prelude.{◌≤◌};
 
-use crate::positions::{position_named, side_letter, side_of, sound_named};
+use crate::positions::{position_named, side, side_letter, sound_named, write_masks};
 use auto_core::Auto;
 use auto_reduce::sign_stable;
 use chess_game::Position;
 use std::alloc::Global;
-use trial_rows::{Fields, Named, RowError, numbers, yes_or_no};
+use trial_rows::{Fields, Named, RowError, numbers, separate, write_truth, written};
 use winning_sets::{SolveError, Solved, Solver};
 
 /// A solver of a row, and what it has solved last.
@@ -40,13 +40,12 @@ impl Bench {
 
 /// `solve MOVES`: whether the winner mates within so many moves.
 fn solve_step(bench: &mut Bench, fields: &mut Fields, out: &mut String) -> Result<(), RowError> {
-    let moves = fields.u8()?;
+    let moves = fields.number::<u8>()?;
     if moves > 20 {
         return Err(RowError::Condition);
     }
     let is_mate = bench.solve(moves)?;
-    out.push_str(if is_mate { "mate" } else { "no mate" })?;
-    Ok(())
+    written(out.push_str(if is_mate { "mate" } else { "no mate" }))
 }
 
 /// Whether a tuple is in a set.
@@ -66,42 +65,47 @@ fn has_member(alloc: Global, a: &Auto, tuple: &str) -> Result<bool, RowError> {
     is_member(alloc, a, values.as_slice())
 }
 
-/// Writes whether a tuple is in a set, or that there is none.
+/// Writes whether the tuple of the next field is in a set, or that there is no set.
 fn write_is_in(
     alloc: Global,
     set: Option<&Auto>,
-    tuple: &str,
+    fields: &mut Fields,
     out: &mut String,
 ) -> Result<(), RowError> {
+    let tuple = fields.word()?;
     match set {
-        None => out.push_str("none")?,
-        Some(set) => out.push_str(yes_or_no(has_member(alloc, set, tuple)?))?,
+        None => written(out.push_str("none")),
+        Some(set) => write_truth(out, has_member(alloc, set, tuple)?),
     }
-    Ok(())
-}
-
-/// Writes the masks.
-fn write_masks(out: &mut String, masks: &[u8]) -> Result<(), RowError> {
-    for (place, mask) in masks.iter().enumerate() {
-        if place > 0 {
-            out.push(',')?;
-        }
-        write!(out, "{mask}")?;
-    }
-    Ok(())
 }
 
 /// What the step asks the solved position for: `masks`, `most`, `last`, `moves`, `winner`.
 fn write_solved(solved: &Solved, word: &str, out: &mut String) -> Result<(), RowError> {
     match word {
-        "masks" => write_masks(out, solved.masks())?,
-        "most" => write!(out, "{}", solved.most_states())?,
-        "last" => write!(out, "{}", solved.last_ply())?,
-        "moves" => write!(out, "{}", solved.moves())?,
-        "winner" => out.push(side_letter(solved.winner()))?,
-        _ => return Err(RowError::Word),
+        "masks" => write_masks(out, solved.masks(), ','),
+        "most" => written(write!(out, "{}", solved.most_states())),
+        "last" => written(write!(out, "{}", solved.last_ply())),
+        "moves" => written(write!(out, "{}", solved.moves())),
+        "winner" => written(out.push(side_letter(solved.winner()))),
+        _ => Err(RowError::Word),
     }
-    Ok(())
+}
+
+/// The ply and the mask of the next two fields.
+fn place(fields: &mut Fields) -> Result<(u8, u8), RowError> {
+    Ok((fields.number()?, fields.number()?))
+}
+
+/// `keeps PLY NAME`: whether the solved position keeps the position at the ply.
+fn keeps_step(
+    positions: &Named<Position>,
+    solved: &Solved,
+    fields: &mut Fields,
+    out: &mut String,
+) -> Result<(), RowError> {
+    let ply = fields.number::<u8>()?;
+    let position = position_named(positions, fields)?;
+    write_truth(out, solved.keeps(ply, &position))
 }
 
 /// A question, and the positions that it may name.
@@ -114,33 +118,39 @@ fn step(
 ) -> Result<(), RowError> {
     match fields.word()? {
         "solve" => solve_step(bench, fields, out),
-        "plies" => {
-            write!(out, "{}", bench.solver.plies())?;
-            Ok(())
-        }
+        "plies" => written(write!(out, "{}", bench.solver.plies())),
         "reach" => {
-            let ply = fields.u8()?;
-            let mask = fields.u8()?;
-            write_is_in(alloc, bench.solver.reach(ply, mask), fields.word()?, out)
+            let (ply, mask) = place(fields)?;
+            write_is_in(alloc, bench.solver.reach(ply, mask), fields, out)
         }
         "reached" => {
-            let ply = fields.u8()?;
-            let mask = fields.u8()?;
-            write_is_in(alloc, bench.solved()?.reach(ply, mask), fields.word()?, out)
+            let (ply, mask) = place(fields)?;
+            write_is_in(alloc, bench.solved()?.reach(ply, mask), fields, out)
         }
         "kept" => {
-            let ply = fields.u8()?;
-            let mask = fields.u8()?;
-            write_is_in(alloc, bench.solved()?.set(ply, mask), fields.word()?, out)
+            let (ply, mask) = place(fields)?;
+            write_is_in(alloc, bench.solved()?.set(ply, mask), fields, out)
         }
-        "keeps" => {
-            let ply = fields.u8()?;
-            let position = position_named(positions, fields)?;
-            out.push_str(yes_or_no(bench.solved()?.keeps(ply, &position)))?;
-            Ok(())
-        }
+        "keeps" => keeps_step(positions, bench.solved()?, fields, out),
         word => write_solved(bench.solved()?, word, out),
     }
+}
+
+/// Does steps, and writes what they answer.
+fn do_steps(
+    alloc: Global,
+    positions: &Named<Position>,
+    bench: &mut Bench,
+    steps: &str,
+    out: &mut String,
+) -> Result<(), RowError> {
+    for (place, text) in steps.split('/').enumerate() {
+        separate(out, place, ' ')?;
+        let mut fields = Fields::new(text);
+        step(alloc, positions, bench, &mut fields, out)?;
+        fields.end()?;
+    }
+    Ok(())
 }
 
 /// A solver of a sound position.
@@ -150,7 +160,7 @@ fn solver_of(
     fields: &mut Fields,
 ) -> Result<Solver, RowError> {
     let position = sound_named(positions, fields)?;
-    let winner = side_of(fields.word()?)?;
+    let winner = side(fields)?;
     let budget = fields.budget()?;
     let _ = position.count(); // for its invariant
     Ok(Solver::new(alloc, &position, winner, budget))
@@ -165,13 +175,5 @@ pub fn solver_row(
 ) -> Result<(), RowError> {
     let solver = solver_of(alloc, positions, fields)?;
     let mut bench = Bench { solver, last: None };
-    for text in fields.rest().split('/') {
-        if !out.is_empty() {
-            out.push(' ')?;
-        }
-        let mut fields = Fields::new(text);
-        step(alloc, positions, &mut bench, &mut fields, out)?;
-        fields.end()?;
-    }
-    Ok(())
+    do_steps(alloc, positions, &mut bench, fields.rest(), out)
 }

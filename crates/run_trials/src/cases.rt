@@ -8,7 +8,7 @@ use std::alloc::Global;
 const MARK: &str = " .. ";
 
 /// Numbers in a row: what they stand in is done once for each of them.
-#[derive(Clone, Copy, PartialEq, Eq)]
+#[derive(Clone, Copy)]
 pub struct Cases {
     pub first: u32,
     pub last: u32,
@@ -34,14 +34,21 @@ pub struct CaseLine {
 }
 
 impl CaseLine {
+    fn new(
+        alloc: Global,
+        front: &str,
+        cases: Option<Cases>,
+        back: &str,
+    ) -> Result<Self, ScriptWhy> {
+        let front = String::from_str(alloc, front)?;
+        let back = String::from_str(alloc, back)?;
+        Ok(CaseLine { front, cases, back })
+    }
+
     /// The line of this text.
     pub fn read(alloc: Global, text: &str) -> Result<Self, ScriptWhy> {
         let Some((left, right)) = text.split_once(MARK) else {
-            return Ok(CaseLine {
-                front: String::from_str(alloc, text)?,
-                cases: None,
-                back: String::new(alloc),
-            });
+            return CaseLine::new(alloc, text, None, "");
         };
         let Some((front, first)) = left.rsplit_once(' ') else {
             return Err(ScriptWhy::Range);
@@ -53,11 +60,7 @@ impl CaseLine {
         if back.split_once(MARK).is_some() {
             return Err(ScriptWhy::Range);
         }
-        Ok(CaseLine {
-            front: String::from_str(alloc, front)?,
-            cases: Some(Cases::read(first, last)?),
-            back: String::from_str(alloc, back)?,
-        })
+        CaseLine::new(alloc, front, Some(Cases::read(first, last)?), back)
     }
 
     /// The range, if there is one.
@@ -66,14 +69,13 @@ impl CaseLine {
     }
 
     /// The line of one case: its number stands in the place of the range.
-    pub fn at(&self, alloc: Global, number: u32) -> Result<String, ScriptWhy> {
+    pub fn at(&self, number: u32) -> Result<String, ScriptWhy> {
         let mut line = self.front.clone()?;
         if self.cases.is_some() {
-            line.push_str(format!(in alloc; " {number}")?.as_str())?;
+            write!(line, " {number}")?;
         }
         if !self.back.is_empty() {
-            line.push_str(" ")?;
-            line.push_str(self.back.as_str())?;
+            write!(line, " {}", self.back)?;
         }
         Ok(line)
     }

@@ -8,7 +8,7 @@ use crate::number::read_number;
 use std::alloc::AllocError;
 
 /// A change of some bytes. An input takes it, and a file that is kept from run to run takes the same.
-#[derive(Clone, Copy, PartialEq, Eq)]
+#[derive(Clone, Copy)]
 pub enum Change {
     /// Only the first so many bytes stay.
     Cut { length: usize },

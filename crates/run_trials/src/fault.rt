@@ -4,7 +4,7 @@ use std::alloc::{AllocError, AllocFailed};
 use std::io;
 
 /// Why a line of a script cannot be read, or not be done.
-#[derive(Clone, Copy, PartialEq, Eq)]
+#[derive(Clone, Copy)]
 pub enum ScriptWhy {
     /// It has more than 200 bytes.
     Long,
@@ -68,11 +68,19 @@ impl<T: Drop> From<AllocFailed<T>> for ScriptWhy {
 }
 
 /// A line of a script that cannot be read or done.
-#[derive(Clone, Copy, PartialEq, Eq)]
+#[derive(Clone, Copy)]
 pub struct Refusal {
     /// The number of the line, counted from 1.
     pub line: u64,
     pub why: ScriptWhy,
+}
+
+/// The refusal of the line of this number, where it is not done.
+pub fn at_line(line: u64, done: Result<(), ScriptWhy>) -> Result<(), Refusal> {
+    match done {
+        Ok(()) => Ok(()),
+        Err(why) => Err(Refusal { line, why }),
+    }
 }
 
 /// Why a script is not performed to its end.

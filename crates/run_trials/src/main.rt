@@ -28,13 +28,12 @@ use std::process::ExitCode;
 /// Performs the runs of the script, line by line.
 fn perform<W: Write + Drop>(
     alloc: Global,
-    script: Vec<u8>,
+    source: &mut MemSource,
     runner: &mut Runner<W>,
 ) -> Result<(), Stop> {
-    let mut source = MemSource::new(script, Vec::new(alloc), usize::MAX);
     let mut reader = LineReader::new();
     for line in 1..u64::MAX {
-        match next_line(&mut reader, &mut source) {
+        match next_line(&mut reader, source) {
             Ok(true) => {}
             Ok(false) => break,
             Err(why) => return Err(Stop::Script(Refusal { line, why })),
@@ -61,8 +60,9 @@ fn next_line(reader: &mut LineReader, source: &mut MemSource) -> Result<bool, Sc
 fn perform_input(rt: &HostRuntime) -> Result<(), Stop> {
     let mut script = Vec::new(rt.alloc());
     rt.stdin().read_to_end(&mut script)?;
+    let mut source = MemSource::new(script, Vec::new(rt.alloc()), usize::MAX);
     let mut runner = Runner::new(rt.alloc(), io::writer(rt));
-    match perform(rt.alloc(), script, &mut runner) {
+    match perform(rt.alloc(), &mut source, &mut runner) {
         Err(Stop::Script(refusal)) => {
             runner.refuse(refusal)?;
             Err(Stop::Script(refusal))

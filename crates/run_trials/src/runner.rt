@@ -1,9 +1,9 @@
 //! Performing the runs of a script.
 
-use crate::fault::{Refusal, ScriptWhy, Stop};
+use crate::fault::{Refusal, ScriptWhy, Stop, at_line};
 use crate::report::write_run;
 use crate::statement::{Part, Statement};
-use crate::store::{Stock, write_told};
+use crate::store::{Question, Stock, write_told};
 use crate::trial::{Case, Trial};
 use mate_desk::run;
 use std::alloc::Global;
@@ -51,27 +51,19 @@ impl<W: Write + Drop> Runner<W> {
     /// Takes what the line of this number says. A text or a run is closed by the next one.
     pub fn take(&mut self, line: u64, statement: Statement) -> Result<(), Stop> {
         match statement {
-            Statement::Remark => {}
+            Statement::Remark => Ok(()),
+            Statement::Part(part) => Ok(at_line(line, self.block.add(line, part))?),
             Statement::Text(name) => {
-                self.close()?;
                 let bytes = Vec::new(self.alloc);
-                self.block = Block::Text(NamedText { line, name, bytes });
+                self.begin(Block::Text(NamedText { line, name, bytes }))
             }
-            Statement::Run(head) => {
-                self.close()?;
-                self.block = Block::Trial(Trial::new(self.alloc, line, head));
-            }
-            Statement::Part(part) => {
-                let added = self.block.add(line, part);
-                added.map_err(|why| Refusal { line, why })?;
-            }
+            Statement::Run(head) => self.begin(Block::Trial(Trial::new(self.alloc, line, head))),
         }
-        Ok(())
     }
 
     /// Closes the last text or run, and writes how many runs there were.
     pub fn finish(&mut self) -> Result<(), Stop> {
-        self.close()?;
+        self.begin(Block::Nothing)?;
         let runs = self.runs;
         writeln!(self.out, "{runs} runs")?;
         Ok(())
@@ -85,21 +77,23 @@ impl<W: Write + Drop> Runner<W> {
         Ok(())
     }
 
-    /// Closes what is open: a text gets its name, a run is done.
-    fn close(&mut self) -> Result<(), Stop> {
-        match mem::replace(&mut self.block, Block::Nothing) {
-            Block::Nothing => {}
+    /// Closes what is open, and has the next lines belong to the block.
+    fn begin(&mut self, block: Block) -> Result<(), Stop> {
+        match mem::replace(&mut self.block, block) {
+            Block::Nothing => Ok(()),
             Block::Text(NamedText { line, name, bytes }) => {
-                let added = self.stock.texts.add(name, bytes);
-                added.map_err(|why| Refusal { line, why })?;
+                Ok(at_line(line, self.stock.texts.add(name, bytes))?)
             }
-            Block::Trial(trial) => {
-                let cases = trial.cases();
-                for number in cases.first..=cases.last {
-                    let case = trial.case(self.alloc, &mut self.stock, number)?;
-                    self.perform(case)?;
-                }
-            }
+            Block::Trial(trial) => self.perform_cases(&trial),
+        }
+    }
+
+    /// Does the cases of a run, one after another.
+    fn perform_cases(&mut self, trial: &Trial) -> Result<(), Stop> {
+        let cases = trial.cases();
+        for number in cases.first..=cases.last {
+            let case = trial.case(self.alloc, &mut self.stock, number)?;
+            self.perform(case)?;
         }
         Ok(())
     }
@@ -117,7 +111,12 @@ impl<W: Write + Drop> Runner<W> {
         let status = run(self.alloc, &words, &mut source, &mut sink, shelf);
         self.runs = self.runs.saturating_add(1);
         write_run(&mut self.out, title.as_str(), sink.bytes(), status.code())?;
-        for question in &questions {
+        self.tell(questions.as_slice())
+    }
+
+    /// Writes what is to be told of files.
+    fn tell(&mut self, questions: &[Question]) -> Result<(), Stop> {
+        for question in questions {
             write_told(&mut self.out, &self.stock.shelf, question)?;
         }
         Ok(())

@@ -2,7 +2,7 @@
 
 ghost use Rattle.std.specs.Prelude.{◌<◌};
 
-use crate::change::{Change, change_bytes, read_change};
+use crate::change::{Change, read_change};
 use crate::fault::ScriptWhy;
 use crate::number::read_number;
 use crate::store::{Edit, Told};
@@ -31,7 +31,7 @@ pub enum Setting<'a> {
 }
 
 /// How the calls of a port go.
-#[derive(Clone, Copy, PartialEq, Eq)]
+#[derive(Clone, Copy)]
 pub enum Calls {
     /// A call moves at most so many bytes.
     AtMost(usize),
@@ -42,28 +42,89 @@ pub enum Calls {
 /// The setting that the line says.
 pub fn read_setting<'a>(alloc: Global, line: &'a str) -> Result<Setting<'a>, ScriptWhy> {
     let words: Vec<&str> = line.split_whitespace().collect(alloc)?;
-    match words.as_slice() {
-        ["input", name] => Ok(Setting::Text(name)),
-        ["input", change @ ..] => Ok(Setting::Input(read_change(change)?)),
-        ["reads", "of", "at", "most", most] => Ok(Setting::Read(Calls::AtMost(read_number(most)?))),
-        ["read", call, "fails"] => Ok(Setting::Read(Calls::Fails(read_number(call)?))),
-        ["writes", "of", "at", "most", most] => {
-            Ok(Setting::Write(Calls::AtMost(read_number(most)?)))
-        }
-        ["write", call, "fails"] => Ok(Setting::Write(Calls::Fails(read_number(call)?))),
-        ["room", room] => Ok(Setting::Room(read_number(room)?)),
-        ["new", "store"] => Ok(Setting::NewStore(Vec::new(alloc))),
-        ["new", "store", "failing", "at", calls @ ..] => {
+    setting_of(alloc, words.as_slice())
+}
+
+/// The setting that the words say.
+fn setting_of<'a>(alloc: Global, words: &[&'a str]) -> Result<Setting<'a>, ScriptWhy> {
+    let Some((word, rest)) = words.split_first() else {
+        return Err(ScriptWhy::Unknown);
+    };
+    match *word {
+        "input" => input_setting(rest),
+        "reads" => Ok(Setting::Read(read_most(rest)?)),
+        "read" => Ok(Setting::Read(read_failing(rest)?)),
+        "writes" => Ok(Setting::Write(read_most(rest)?)),
+        "write" => Ok(Setting::Write(read_failing(rest)?)),
+        "room" => room_setting(rest),
+        "new" => store_setting(alloc, rest),
+        "file" => file_setting(rest),
+        "tell" => tell_setting(rest),
+        _ => Err(ScriptWhy::Unknown),
+    }
+}
+
+/// Behind `input`: the name of a text, or a change.
+fn input_setting<'a>(words: &[&'a str]) -> Result<Setting<'a>, ScriptWhy> {
+    match words {
+        [name] => Ok(Setting::Text(*name)),
+        _ => Ok(Setting::Input(read_change(words)?)),
+    }
+}
+
+/// Behind `reads` or `writes`: `of at most K`.
+fn read_most(words: &[&str]) -> Result<Calls, ScriptWhy> {
+    match words {
+        ["of", "at", "most", most] => Ok(Calls::AtMost(read_number(most)?)),
+        _ => Err(ScriptWhy::Unknown),
+    }
+}
+
+/// Behind `read` or `write`: `K fails`.
+fn read_failing(words: &[&str]) -> Result<Calls, ScriptWhy> {
+    match words {
+        [call, "fails"] => Ok(Calls::Fails(read_number(call)?)),
+        _ => Err(ScriptWhy::Unknown),
+    }
+}
+
+/// Behind `room`: how many bytes there are.
+fn room_setting<'a>(words: &[&'a str]) -> Result<Setting<'a>, ScriptWhy> {
+    match words {
+        [room] => Ok(Setting::Room(read_number(room)?)),
+        _ => Err(ScriptWhy::Unknown),
+    }
+}
+
+/// Behind `new`: `store`, or `store failing at` and numbers of calls.
+fn store_setting<'a>(alloc: Global, words: &[&'a str]) -> Result<Setting<'a>, ScriptWhy> {
+    match words {
+        ["store"] => Ok(Setting::NewStore(Vec::new(alloc))),
+        ["store", "failing", "at", calls @ ..] => {
             Ok(Setting::NewStore(read_numbers(alloc, calls)?))
         }
-        ["file", name, "holds", text] => Ok(Setting::File(name, Edit::Text(text))),
-        ["file", name, "as", other] => Ok(Setting::File(name, Edit::File(other))),
-        ["file", name, change @ ..] => Ok(Setting::File(name, Edit::Change(read_change(change)?))),
-        ["tell", name] => Ok(Setting::Tell(name, Told::Size)),
-        ["tell", name, "at", at, "for", count] => {
+        _ => Err(ScriptWhy::Unknown),
+    }
+}
+
+/// Behind `file`: a name, and what the file becomes.
+fn file_setting<'a>(words: &[&'a str]) -> Result<Setting<'a>, ScriptWhy> {
+    match words {
+        [name, "holds", text] => Ok(Setting::File(*name, Edit::Text(*text))),
+        [name, "as", other] => Ok(Setting::File(*name, Edit::File(*other))),
+        [name, change @ ..] => Ok(Setting::File(*name, Edit::Change(read_change(change)?))),
+        [] => Err(ScriptWhy::Unknown),
+    }
+}
+
+/// Behind `tell`: a name, and which bytes of the file, if not its size.
+fn tell_setting<'a>(words: &[&'a str]) -> Result<Setting<'a>, ScriptWhy> {
+    match words {
+        [name] => Ok(Setting::Tell(*name, Told::Size)),
+        [name, "at", at, "for", count] => {
             let at = read_number(at)?;
             let count = read_number(count)?;
-            Ok(Setting::Tell(name, Told::Bytes { at, count }))
+            Ok(Setting::Tell(*name, Told::Bytes { at, count }))
         }
         _ => Err(ScriptWhy::Unknown),
     }
@@ -146,10 +207,5 @@ impl Given {
     pub fn add_bytes(&mut self, bytes: &[u8]) -> Result<(), ScriptWhy> {
         self.input.extend_from_slice(bytes)?;
         Ok(())
-    }
-
-    /// Changes the input.
-    pub fn change(&mut self, change: Change) -> Result<(), ScriptWhy> {
-        change_bytes(change, &mut self.input)
     }
 }

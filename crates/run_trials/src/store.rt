@@ -18,7 +18,7 @@ pub struct Stock {
 }
 
 /// What a file of the store becomes before a run.
-#[derive(Clone, Copy, PartialEq, Eq)]
+#[derive(Clone, Copy)]
 pub enum Edit<'a> {
     /// It gets the bytes of the text of this name.
     Text(&'a str),
@@ -39,17 +39,23 @@ impl Stock {
 
     /// Sets or changes the file of this name.
     pub fn edit(&mut self, alloc: Global, name: &str, edit: Edit) -> Result<(), ScriptWhy> {
-        let bytes = match edit {
-            Edit::Text(text) => Vec::from_slice(alloc, self.texts.get(text)?)?,
-            Edit::File(other) => self.copy_file(alloc, other)?,
+        let bytes = self.edited(alloc, name, edit)?;
+        let name = String::from_str(alloc, name)?;
+        self.shelf.set_file(name, bytes)?;
+        Ok(())
+    }
+
+    /// The bytes that the file of this name is to have.
+    fn edited(&self, alloc: Global, name: &str, edit: Edit) -> Result<Vec<u8>, ScriptWhy> {
+        match edit {
+            Edit::Text(text) => Ok(Vec::from_slice(alloc, self.texts.get(text)?)?),
+            Edit::File(other) => self.copy_file(alloc, other),
             Edit::Change(change) => {
                 let mut bytes = self.copy_file(alloc, name)?;
                 change_bytes(change, &mut bytes)?;
-                bytes
+                Ok(bytes)
             }
-        };
-        self.shelf.set_file(String::from_str(alloc, name)?, bytes)?;
-        Ok(())
+        }
     }
 
     fn copy_file(&self, alloc: Global, name: &str) -> Result<Vec<u8>, ScriptWhy> {
@@ -61,7 +67,7 @@ impl Stock {
 }
 
 /// What is to be told of a file behind a run.
-#[derive(Clone, Copy, PartialEq, Eq)]
+#[derive(Clone, Copy)]
 pub enum Told {
     /// Its length, and the sum of its bytes.
     Size,
@@ -100,7 +106,9 @@ pub fn write_told<W: Write>(out: &mut W, shelf: &MemShelf, question: &Question) 
 
 /// The sum of the bytes, modulo 2^64.
 fn sum_of(bytes: &[u8]) -> u64 {
-    bytes
-        .iter()
-        .fold(0u64, |sum, byte| sum.wrapping_add(u64::from(*byte)))
+    let mut sum = 0u64;
+    for byte in bytes {
+        sum = sum.wrapping_add(u64::from(*byte));
+    }
+    sum
 }

@@ -1,7 +1,8 @@
 //! Runs with what stands under them.
 
 use crate::cases::{CaseLine, Cases};
-use crate::fault::{Refusal, ScriptWhy};
+use crate::change::change_bytes;
+use crate::fault::{Refusal, ScriptWhy, at_line};
 use crate::setting::{Given, Setting, read_setting};
 use crate::statement::Part;
 use crate::store::{Question, Stock, Told};
@@ -78,9 +79,7 @@ impl Trial {
             }),
         };
         for entry in &self.entries {
-            let line = entry.line;
-            let added = case.add(alloc, stock, number, &entry.part);
-            added.map_err(|why| Refusal { line, why })?;
+            at_line(entry.line, case.add(alloc, stock, number, &entry.part))?;
         }
         Ok(case)
     }
@@ -99,7 +98,7 @@ pub struct Case {
 
 impl Case {
     fn new(alloc: Global, head: &CaseLine, number: u32) -> Result<Self, ScriptWhy> {
-        let title = head.at(alloc, number)?;
+        let title = head.at(number)?;
         let words = read_words(alloc, title.as_str())?;
         let given = Given::new(alloc);
         Ok(Case {
@@ -130,12 +129,22 @@ impl Case {
         number: u32,
         setting: &CaseLine,
     ) -> Result<(), ScriptWhy> {
-        let line = setting.at(alloc, number)?;
-        self.title.push_str(" / ")?;
-        self.title.push_str(line.as_str())?;
-        match read_setting(alloc, line.as_str())? {
+        let line = setting.at(number)?;
+        write!(self.title, " / {line}")?;
+        let setting = read_setting(alloc, line.as_str())?;
+        self.take(alloc, stock, setting)
+    }
+
+    /// Does what a setting says.
+    fn take(
+        &mut self,
+        alloc: Global,
+        stock: &mut Stock,
+        setting: Setting,
+    ) -> Result<(), ScriptWhy> {
+        match setting {
             Setting::Text(name) => self.given.add_bytes(stock.texts.get(name)?),
-            Setting::Input(change) => self.given.change(change),
+            Setting::Input(change) => change_bytes(change, &mut self.given.input),
             Setting::Read(calls) => self.given.reads.set(calls),
             Setting::Write(calls) => self.given.writes.set(calls),
             Setting::Room(room) => {

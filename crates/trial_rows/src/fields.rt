@@ -76,29 +76,22 @@ impl<'a> Fields<'a> {
         }
     }
 
-    pub fn u8(&mut self) -> Result<u8, RowError> {
+    /// The number of the next field.
+    pub fn number<T: FromStr<Err = ParseIntError>>(&mut self) -> Result<T, RowError> {
         number(self.word()?)
     }
 
-    pub fn u32(&mut self) -> Result<u32, RowError> {
-        number(self.word()?)
-    }
-
-    pub fn u64(&mut self) -> Result<u64, RowError> {
-        number(self.word()?)
-    }
-
-    pub fn usize(&mut self) -> Result<usize, RowError> {
-        number(self.word()?)
-    }
-
-    pub fn i64(&mut self) -> Result<i64, RowError> {
-        number(self.word()?)
+    /// The numbers of the next field, parted by commas. The field `-` has none.
+    pub fn numbers<T: FromStr<Err = ParseIntError> + Drop>(
+        &mut self,
+        alloc: Global,
+    ) -> Result<Vec<T>, RowError> {
+        numbers(alloc, self.word()?)
     }
 
     /// A budget of states, from 1 to 200000.
     pub fn budget(&mut self) -> Result<Budget, RowError> {
-        Budget::checked(self.u32()?).ok_or(RowError::Number)
+        Budget::checked(self.number()?).ok_or(RowError::Number)
     }
 }
 
@@ -114,22 +107,17 @@ pub fn number<T: FromStr<Err = ParseIntError>>(field: &str) -> Result<T, RowErro
     }
 }
 
-/// The numbers of a field, parted by commas. The field `-` has none.
+/// The numbers of a text, parted by commas. The text `-` has none.
 pub fn numbers<T: FromStr<Err = ParseIntError> + Drop>(
     alloc: Global,
-    field: &str,
+    text: &str,
 ) -> Result<Vec<T>, RowError> {
-    let mut list = Vec::new(alloc);
-    if field == "-" {
-        return Ok(list);
+    if text == "-" {
+        return Ok(Vec::new(alloc));
     }
-    for part in field.split(',') {
+    let mut list = Vec::new(alloc);
+    for part in text.split(',') {
         list.push(number(part)?)?;
     }
     Ok(list)
-}
-
-/// The word for a truth.
-pub fn yes_or_no(truth: bool) -> &'static str {
-    if truth { "yes" } else { "no" }
 }

@@ -6,8 +6,10 @@ mod errors;
 mod fields;
 mod named;
 mod script;
+mod writing;
 
 pub use errors::RowError;
-pub use fields::{Fields, number, numbers, yes_or_no};
+pub use fields::{Fields, number, numbers};
 pub use named::Named;
 pub use script::{Rows, answer_script};
+pub use writing::{separate, write_bytes, write_truth, written, yes_or_no};

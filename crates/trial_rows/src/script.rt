@@ -4,7 +4,7 @@ use crate::errors::RowError;
 use crate::fields::Fields;
 use std::alloc::Global;
 use std::io;
-use std::io::{BufRead, BufReader, BufWriter, Write};
+use std::io::Write;
 use std::process::ExitCode;
 
 /// What a program's rows ask, and what they have named.
@@ -19,15 +19,14 @@ pub trait Rows {
     ) -> Result<(), RowError>;
 }
 
-/// The text of an answer: what the call answers, or `over` where a step that the row asks for is over its budget.
-fn text_of<R: Rows>(alloc: Global, rows: &mut R, row: &str) -> Result<String, RowError> {
-    let mut out = String::new(alloc);
+/// What the call of a row answers, or `over` where a step that the row asks for is over its budget.
+fn answer<R: Rows>(alloc: Global, rows: &mut R, row: &str) -> Result<String, RowError> {
     let mut fields = Fields::new(row);
     let kind = fields.word()?;
+    let mut out = String::new(alloc);
     match rows.answer(alloc, kind, &mut fields, &mut out) {
-        Ok(()) => {}
         Err(RowError::Over) => out.push_str("over")?,
-        Err(error) => return Err(error),
+        answered => answered?,
     }
     Ok(out)
 }
@@ -37,35 +36,57 @@ fn is_row(line: &str) -> bool {
     !line.is_empty() && !line.starts_with('#')
 }
 
-/// Writes the answers of all rows, and for a row that can't be read its line's number and the reason. Says whether each was read.
-fn answer_all<R: Rows>(rt: &HostRuntime, rows: &mut R) -> io::Result<bool> {
-    let mut writer = BufWriter::new(rt.alloc(), io::writer(rt))?;
-    let mut all_read = true;
-    let mut number = 0u64;
-    for line in BufReader::new(rt.alloc(), rt.reader())?.lines(rt.alloc()) {
-        let line = line?;
-        number = number.saturating_add(1);
-        if !is_row(line.as_str()) {
-            continue;
+/// Writes the answer of a row, unless it is empty, and for a row that can't be read its line's number and the reason. Says whether it was read.
+fn write_row<R: Rows>(
+    alloc: Global,
+    rows: &mut R,
+    number: u64,
+    row: &str,
+    out: &mut String,
+) -> Result<bool, RowError> {
+    match answer(alloc, rows, row) {
+        Ok(text) if text.is_empty() => Ok(true),
+        Ok(text) => {
+            writeln!(out, "{text}")?;
+            Ok(true)
         }
-        match text_of(rt.alloc(), rows, line.as_str()) {
-            Ok(text) if text.is_empty() => {}
-            Ok(text) => writeln!(writer, "{text}")?,
-            Err(error) => {
-                all_read = false;
-                writeln!(writer, "line {number} {error}")?;
-            }
+        Err(error) => {
+            writeln!(out, "line {number} {}", error.word())?;
+            Ok(false)
         }
     }
-    writer.flush()?;
+}
+
+/// Writes the answers of all rows. Says whether each was read.
+fn write_rows<R: Rows>(
+    alloc: Global,
+    rows: &mut R,
+    script: &str,
+    out: &mut String,
+) -> Result<bool, RowError> {
+    let mut all_read = true;
+    let mut number = 0u64;
+    for line in script.lines() {
+        number = number.saturating_add(1);
+        if is_row(line) && !write_row(alloc, rows, number, line, out)? {
+            all_read = false;
+        }
+    }
     Ok(all_read)
 }
 
 /// Answers the script on the standard input. The status is 1 where a row can't be read, and 2 where the script can't, or the answers not be written.
 pub fn answer_script<R: Rows>(rt: &HostRuntime, rows: &mut R) -> ExitCode {
-    match answer_all(rt, rows) {
-        Ok(true) => ExitCode::SUCCESS,
-        Ok(false) => ExitCode::from(1),
+    let Ok(script) = io::read_to_string(rt.alloc(), rt.reader()) else {
+        return ExitCode::from(2);
+    };
+    let mut out = String::new(rt.alloc());
+    let Ok(all_read) = write_rows(rt.alloc(), rows, script.as_str(), &mut out) else {
+        return ExitCode::from(2);
+    };
+    match io::writer(rt).write_all(out.as_bytes()) {
+        Ok(()) if all_read => ExitCode::SUCCESS,
+        Ok(()) => ExitCode::from(1),
         Err(_) => ExitCode::from(2),
     }
 }
