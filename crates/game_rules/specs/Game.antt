@@ -1,11 +1,11 @@
 -- Chess on the unbounded board: the laws of the game (FIDE Laws of Chess, Articles 3 and 5), over all squares.
-use Rattle.std.specs.Prelude.{◌≡◌, ◌≢◌, ◌↔◌, ℕ, zero, suc, ◌<◌, ◌^◌, max, ℤ, pos, negsuc, ◌+ℤ◌, ◌-ℤ◌, ◌*ℤ◌, unsigned_abs, ◌⊎◌, List, length, Option, Some, None, IsSomeAnd, slice_get, ◌≤◌}
+use Rattle.std.specs.Prelude.{◌≡◌, ◌≢◌, ◌↔◌, ℕ, zero, suc, ◌<◌, ◌+◌, ◌^◌, max, ℤ, pos, negsuc, ◌+ℤ◌, ◌-ℤ◌, ◌*ℤ◌, unsigned_abs, ◌⊎◌, List, length, Option, Some, None, IsSomeAnd, slice_get, ◌≤◌}
 use Rattle.std.specs.Int.{bit_at}
 use Rattle.std.specs.List.{All, Any}
 use Rattle.game_rules.specs.declared.men.Side.{Side}
 use Rattle.game_rules.specs.declared.men.Side.TheVariants.{White, Black}
 use Rattle.game_rules.specs.declared.men.Kind.{Kind}
-use Rattle.game_rules.specs.declared.men.Kind.TheVariants.{King, Queen, Rook, Bishop, Knight, Pawn}
+use Rattle.game_rules.specs.declared.men.Kind.TheVariants.{King, Queen, Rook, Bishop, Knight, Pawn, Chancellor, Archbishop, Amazon, Nightrider}
 use Rattle.game_rules.specs.declared.men.Place.{Place}
 use Rattle.game_rules.specs.declared.men.Place.TheVariants.{Gone, At}
 use Rattle.game_rules.specs.declared.men.Man.{Man}
@@ -51,9 +51,11 @@ abbrev pub forward : Side → ℤ
 forward White = pos 1
 forward Black = negsuc 0
 
--- one step along a row, a column or a diagonal
+-- one step along a row, a column or a diagonal, or one leap of a knight: one of the two is 1 or -1, and the other at most
+-- 2 in size
 abbrev pub IsDirection : ℤ → ℤ → Type 0
-IsDirection dx dy = max (unsigned_abs dx) (unsigned_abs dy) ≡ 1
+IsDirection dx dy =
+    ((unsigned_abs dx ≡ 1) × (unsigned_abs dy ≤ 2)) ⊎ ((unsigned_abs dy ≡ 1) × (unsigned_abs dx ≤ 2))
 
 -- the square after so many equal steps
 abbrev pub after_steps : Square → ℕ → ℤ → ℤ → Square
@@ -78,33 +80,52 @@ IsStraight dx dy = ((dx ≡ pos 0) × (dy ≢ pos 0)) ⊎ ((dx ≢ pos 0) × (dy
 abbrev pub IsDiagonal : ℤ → ℤ → Type 0
 IsDiagonal dx dy = (unsigned_abs dx ≡ unsigned_abs dy) × (0 < unsigned_abs dx)
 
--- what the offset from a man to a square has to be for him to bear on it (Articles 3.2 to 3.4, 3.6, 3.7.3 and 3.8.1)
-abbrev pub HasReach : Side → Kind → ℤ → ℤ → Type 0
-HasReach s King dx dy = max (unsigned_abs dx) (unsigned_abs dy) ≡ 1
-HasReach s Queen dx dy = IsStraight dx dy ⊎ IsDiagonal dx dy
-HasReach s Rook dx dy = IsStraight dx dy
-HasReach s Bishop dx dy = IsDiagonal dx dy
-HasReach s Knight dx dy =
+abbrev pub IsLeap : ℤ → ℤ → Type 0
+IsLeap dx dy =
     ((unsigned_abs dx ≡ 1) × (unsigned_abs dy ≡ 2)) ⊎ ((unsigned_abs dx ≡ 2) × (unsigned_abs dy ≡ 1))
-HasReach s Pawn dx dy = (unsigned_abs dx ≡ 1) × (dy ≡ forward s)
 
--- the kinds that a man in between stops (Article 3.5)
-abbrev pub IsSlider : Kind → Type 0
-IsSlider King = ⊥
-IsSlider Queen = Unit {0}
-IsSlider Rook = Unit {0}
-IsSlider Bishop = Unit {0}
-IsSlider Knight = ⊥
-IsSlider Pawn = ⊥
+-- one of the two is twice the other, which is not 0
+abbrev pub IsLeaps : ℤ → ℤ → Type 0
+IsLeaps dx dy =
+    ((0 < unsigned_abs dx) × (unsigned_abs dy ≡ unsigned_abs dx + unsigned_abs dx))
+    ⊎ ((0 < unsigned_abs dy) × (unsigned_abs dx ≡ unsigned_abs dy + unsigned_abs dy))
 
 -- no live man is strictly between
 abbrev pub IsOpen : Position → Square → Square → Type 0
 IsOpen p a b = All (λ m. IsLiveAnd m (IsBetween a b) → ⊥) p.men
 
+-- a rook on a bears on z (Articles 3.3 and 3.5)
+abbrev pub BearsAsRook : Position → Square → Square → Type 0
+BearsAsRook p a z = IsStraight (z.x -ℤ a.x) (z.y -ℤ a.y) × IsOpen p a z
+
+-- a bishop does (Articles 3.2 and 3.5)
+abbrev pub BearsAsBishop : Position → Square → Square → Type 0
+BearsAsBishop p a z = IsDiagonal (z.x -ℤ a.x) (z.y -ℤ a.y) × IsOpen p a z
+
+-- a queen does, as a rook or as a bishop (Article 3.4)
+abbrev pub BearsAsQueen : Position → Square → Square → Type 0
+BearsAsQueen p a z = BearsAsRook p a z ⊎ BearsAsBishop p a z
+
+-- a knight does (Article 3.6)
+abbrev pub BearsAsKnight : Square → Square → Type 0
+BearsAsKnight a z = IsLeap (z.x -ℤ a.x) (z.y -ℤ a.y)
+
+-- a man of this side and kind on a bears on z (Articles 3.2 to 3.6, 3.7.3 and 3.8.1)
+abbrev pub BearsAs : Position → Side → Kind → Square → Square → Type 0
+BearsAs p s King a z = max (unsigned_abs (z.x -ℤ a.x)) (unsigned_abs (z.y -ℤ a.y)) ≡ 1
+BearsAs p s Queen a z = BearsAsQueen p a z
+BearsAs p s Rook a z = BearsAsRook p a z
+BearsAs p s Bishop a z = BearsAsBishop p a z
+BearsAs p s Knight a z = BearsAsKnight a z
+BearsAs p s Pawn a z = (unsigned_abs (z.x -ℤ a.x) ≡ 1) × (z.y -ℤ a.y ≡ forward s)
+BearsAs p s Chancellor a z = BearsAsRook p a z ⊎ BearsAsKnight a z
+BearsAs p s Archbishop a z = BearsAsBishop p a z ⊎ BearsAsKnight a z
+BearsAs p s Amazon a z = BearsAsQueen p a z ⊎ BearsAsKnight a z
+BearsAs p s Nightrider a z = IsLeaps (z.x -ℤ a.x) (z.y -ℤ a.y) × IsOpen p a z
+
 -- he is live and bears on the square
 abbrev pub Bears : Position → Man → Square → Type 0
-Bears p m z =
-    IsLiveAnd m (λ a. HasReach m.side m.kind (z.x -ℤ a.x) (z.y -ℤ a.y) × (IsSlider m.kind → IsOpen p a z))
+Bears p m z = IsLiveAnd m (λ a. BearsAs p m.side m.kind a z)
 
 -- some live man of the side bears on the square (Article 3.1.2)
 abbrev pub Attacked : Position → Side → Square → Type 0

@@ -21,7 +21,7 @@ impl Side {
     }
 }
 
-/// What a man is (FIDE Laws, Article 2.2).
+/// What a man is (FIDE Laws, Article 2.2), and four kinds of fairy chess.
 #[derive(Clone, Copy, PartialEq, Eq)]
 pub enum Kind {
     King,
@@ -30,6 +30,14 @@ pub enum Kind {
     Bishop,
     Knight,
     Pawn,
+    /// A rook and a knight in one.
+    Chancellor,
+    /// A bishop and a knight in one.
+    Archbishop,
+    /// A queen and a knight in one.
+    Amazon,
+    /// Makes one or more equal leaps of a knight, over empty squares.
+    Nightrider,
 }
 
 /// Where a man is. White's pawns go toward greater `y`.
