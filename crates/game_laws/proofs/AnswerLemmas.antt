@@ -11,16 +11,18 @@ use Rattle.game_rules.specs.declared.men.Man.{Man}
 use Rattle.game_rules.specs.declared.men.Ray.{Ray}
 use Rattle.game_rules.specs.declared.men.Side.{Side}
 use Rattle.game_rules.specs.declared.men.Square.{Square}
-use Rattle.game_rules.specs.Game.{Position, Attacked, HasReach, InCheck, IsBetween, IsDirection, IsLiveAnd, IsOpen, IsSlider, Legal, Mate, Sound, StandsOn, after_steps, man_at, other, square_of}
+use Rattle.game_rules.specs.Game.{Position, Attacked, InCheck, IsBetween, IsDirection, IsLiveAnd, IsOpen, Legal, Mate, Sound, StandsOn, after_steps, man_at, other, square_of}
 use Rattle.game_rules.specs.Rays.{ray_of, rays_of}
 use Rattle.game_laws.specs.Answer.{CanGo, HasAnswer, IsCheckFrom, answer_square, answer_steps, cross, distance, off_line, steps_to, toward_x, toward_y}
 use Rattle.game_laws.specs.OnRay.{IsOnOneRay}
-use Rattle.game_laws.proofs.SoundLemmas.{any_at, live_at, other_differs}
-use Rattle.game_laws.proofs.LineLemmas.{IsOnWay, on_way, steps_distance, steps_toward_x, steps_toward_y, toward, toward_direction}
+use Rattle.game_laws.specs.Reach.{HasReach}
+use Rattle.game_laws.proofs.OpenLemmas.{bears_openly}
+use Rattle.game_laws.proofs.SoundLemmas.{any_at, live_at}
+use Rattle.game_laws.proofs.LineLemmas.{IsOnWay, on_way, steps_distance, steps_toward_x, steps_toward_y, toward}
 use Rattle.game_laws.proofs.CrossLemmas.{IsOpposite, IsSame, cross_off, cross_steps, none_after, parallel, steps_ahead, steps_back, steps_behind, steps_facing}
 use Rattle.game_laws.proofs.CheckLemmas.{IsChecked, any_is, not_checker, some_and}
 use Rattle.game_laws.proofs.TableLemmas.{ray_is}
-use Rattle.game_laws.proofs.RayLemmas.{far_slider, step_one, true_or_not}
+use Rattle.game_laws.proofs.RayLemmas.{step_one, true_or_not}
 use Rattle.game_laws.proofs.MateLemmas.{IsAnswerSquare, answers}
 
 -- who stands between two squares is in the way
@@ -42,7 +44,7 @@ three_ways (suc a) (suc b) =
 -- a man of the side in check, other than the king, who goes along a far ray to a square between checker and king
 module _ (p : Position) (c : IsChecked p) (i : ℕ) (z : Square) (q : Position) (sound : Sound p) (l : Legal p i z q) (other_man : i ≢ c.king_number)
     (b : Square) (there : StandsOn l.step.man b) (u v : ℤ) (d : IsDirection u v) (t : ℕ) (goes : z ≡ after_steps b t u v) (clear : IsOpen p b z)
-    (slider : IsSlider c.checker.kind) (line : IsBetween c.square c.king_square z) where
+    (line : IsBetween c.square c.king_square z) where
   abbrev a : Square
   a = c.square
 
@@ -60,7 +62,7 @@ module _ (p : Position) (c : IsChecked p) (i : ℕ) (z : Square) (q : Position) 
   -- he does not stand on the line before the king
   not_before : (r : ℕ) → 0 < r → r < line.whole → b ≡ after_steps a r line.dx line.dy → ⊥
   not_before r begun fewer is =
-      in_the_way p a k (c.clear slider) i l.step.man b l.step.is_man there
+      in_the_way p a k c.clear i l.step.man b l.step.is_man there
       (record { dx = line.dx; dy = line.dy; direction = line.direction; whole = line.whole; part = r; begun = begun; fewer = fewer; to_b = line.to_b; to_z = is })
 
   -- nor does another man stand on his way
@@ -85,13 +87,13 @@ module _ (p : Position) (c : IsChecked p) (i : ℕ) (z : Square) (q : Position) 
 
   not_opposite : IsOpposite u v line.dx line.dy → ⊥
   not_opposite o =
-      let from_a : b ≡ after_steps a (line.part + t) line.dx line.dy = steps_facing z b a u v line.dx line.dy t line.part d o goes line.to_z in
+      let from_a : b ≡ after_steps a (line.part + t) line.dx line.dy = steps_facing z b a u v line.dx line.dy t line.part o goes line.to_z in
       elim (three_ways (line.part + t) line.whole) [
         | inl h ↦ not_before (line.part + t) (omega (arith, line.begun)) (omega (arith, h.1, h.2)) from_a
         | inr w ↦ elim w [
           | inl s ↦ not_at_king (from_a ∙ ap (λ n. after_steps a n line.dx line.dy) s ∙ sym line.to_b)
           | inr h ↦ not_on_way c.king_number c.king k c.king_is c.king_there h.0 h.1 (omega (arith, h.2, line.fewer))
-              (steps_back b k u v line.dx line.dy h.0 d o (steps_ahead b k a line.dx line.dy line.whole h.0 line.to_b (from_a ∙ ap (λ n. after_steps a n line.dx line.dy) h.2)))
+              (steps_back b k u v line.dx line.dy h.0 o (steps_ahead b k a line.dx line.dy line.whole h.0 line.to_b (from_a ∙ ap (λ n. after_steps a n line.dx line.dy) h.2)))
         ]
       ]
 
@@ -116,24 +118,13 @@ both_ways : (z b a m n : ℤ) → z ≡ b +ℤ m → z ≡ a +ℤ n → (b -ℤ 
 both_ways z b a m n h k = omega (arith, ints, h, k)
 
 -- where the ray leads to the line, its steps are as many as fit into the distance off it
-off_is : (a k b z : Square) (u v : ℤ) (t j : ℕ) → IsDirection u v → IsDirection (toward_x a k) (toward_y a k) → z ≡ after_steps b t u v
+off_is : (a k b z : Square) (u v : ℤ) (t j : ℕ) → z ≡ after_steps b t u v
     → z ≡ toward a k j → off_line (b.x -ℤ a.x) (b.y -ℤ a.y) a k ≡ t * off_line u v a k
-off_is a k b z u v t j d e goes on =
-    cross_off (b.x -ℤ a.x) (b.y -ℤ a.y) (pos t *ℤ u) (pos t *ℤ v) (toward_x a k) (toward_y a k) j e
+off_is a k b z u v t j goes on =
+    cross_off (b.x -ℤ a.x) (b.y -ℤ a.y) (pos t *ℤ u) (pos t *ℤ v) (toward_x a k) (toward_y a k) j
     (both_ways z.x b.x a.x (pos t *ℤ u) (pos j *ℤ toward_x a k) (ap (λ s. s.x) goes) (ap (λ s. s.x) on))
     (both_ways z.y b.y a.y (pos t *ℤ v) (pos j *ℤ toward_y a k) (ap (λ s. s.y) goes) (ap (λ s. s.y) on))
-    ∙ cross_steps t u v (toward_x a k) (toward_y a k) d e
-
-near_none : (x y : ℤ) → x -ℤ y ≡ pos 0 → x ≡ y
-near_none x y h = omega (arith, ints, h)
-
-apart_far : (a k : Square) → (k ≡ a → ⊥) → (n : ℕ) → distance a k ≡ n → 0 < n
-apart_far a k apart zero is =
-    absurd (apart (
-    ap (λ x. record { x = x; y = k.y }) (near_none k.x a.x (abs_none (k.x -ℤ a.x) (omega (arith, is))))
-    ∙ ap (λ y. record { x = a.x; y = y }) (near_none k.y a.y (abs_none (k.y -ℤ a.y) (omega (arith, is))))
-    ))
-apart_far a k apart (suc n) is = omega arith
+    ∙ cross_steps t u v (toward_x a k) (toward_y a k)
 
 -- a legal move in check, by a man at b
 module _ (p : Position) (c : IsChecked p) (i : ℕ) (z : Square) (q : Position) (sound : Sound p) (l : Legal p i z q) (b : Square)
@@ -144,30 +135,20 @@ module _ (p : Position) (c : IsChecked p) (i : ℕ) (z : Square) (q : Position) 
   abbrev t : ℕ
   t = one.distance
 
-  not_king_square : c.king_square ≡ c.square → ⊥
-  not_king_square e =
-      let same : c.number ≡ c.king_number = sound.apart c.number c.king_number c.checker c.king c.square c.checker_is c.king_is c.there (subst (StandsOn c.king) e c.king_there) in
-      let both : Some c.checker ≡ Some c.king = sym c.checker_is ∙ ap (man_at p) same ∙ c.king_is in
-      let same_man : c.checker ≡ c.king = same_Some c.checker c.king both in
-      other_differs p.turn (sym c.king_side ∙ ap (λ m. m.side) (sym same_man) ∙ c.checker_side)
-
-  line_direction : IsDirection (toward_x c.square c.king_square) (toward_y c.square c.king_square)
-  line_direction = toward_direction c.square c.king_square (apart_far c.square c.king_square not_king_square (distance c.square c.king_square) refl)
-
   far_answer : r.far ≡ true → IsAnswerSquare p c z → i ≢ c.king_number → answer_steps r b c.square c.king_square ≡ t
   far_answer far (inl e) other_man =
-      let d = (ray_is l.step.man.side l.step.man.kind one.number r one.on.is_ray).direction far in
+      let d = (ray_is l.step.man.side l.step.man.kind one.number r one.on.is_ray).direction in
       ap (λ f. steps_to f (off_line r.dx r.dy c.square c.king_square) (off_line (b.x -ℤ c.square.x) (b.y -ℤ c.square.y) c.square c.king_square) (distance b c.square)) far
       ∙ steps_are _ _ _ t
-      (off_is c.square c.king_square b z r.dx r.dy t 0 d line_direction one.on.leads.leads (e ∙ none_after c.square (toward_x c.square c.king_square) (toward_y c.square c.king_square)))
+      (off_is c.square c.king_square b z r.dx r.dy t 0 one.on.leads.leads (e ∙ none_after c.square (toward_x c.square c.king_square) (toward_y c.square c.king_square)))
       (λ flat. steps_distance b c.square r.dx r.dy d t (sym e ∙ one.on.leads.leads))
   far_answer far (inr h) other_man =
-      let d = (ray_is l.step.man.side l.step.man.kind one.number r one.on.is_ray).direction far in
-      let w : IsOnWay c.square c.king_square z = on_way h.1 in
+      let d = (ray_is l.step.man.side l.step.man.kind one.number r one.on.is_ray).direction in
+      let w : IsOnWay c.square c.king_square z = on_way h in
       ap (λ f. steps_to f (off_line r.dx r.dy c.square c.king_square) (off_line (b.x -ℤ c.square.x) (b.y -ℤ c.square.y) c.square c.king_square) (distance b c.square)) far
       ∙ steps_are _ _ _ t
-      (off_is c.square c.king_square b z r.dx r.dy t w.part d line_direction one.on.leads.leads w.is)
-      (λ flat. absurd (crosses_line p c i z q sound l other_man b there r.dx r.dy d t one.on.leads.leads (one.clear far) h.0 h.1 (abs_none _ flat)))
+      (off_is c.square c.king_square b z r.dx r.dy t w.part one.on.leads.leads w.is)
+      (λ flat. absurd (crosses_line p c i z q sound l other_man b there r.dx r.dy d t one.on.leads.leads (one.clear far) h (abs_none _ flat)))
 
   not_king : l.step.man.kind ≢ King → i ≢ c.king_number
   not_king differs e =
@@ -175,14 +156,11 @@ module _ (p : Position) (c : IsChecked p) (i : ℕ) (z : Square) (q : Position) 
       let same : l.step.man ≡ c.king = same_Some l.step.man c.king (sym l.step.is_man ∙ here) in
       differs (ap (λ m. m.kind) same ∙ c.king_kind)
 
-  slider_not_king : IsSlider l.step.man.kind → l.step.man.kind ≢ King
-  slider_not_king slider e = subst IsSlider e slider
-
   answer_is : answer_steps r b c.square c.king_square ≡ t
   answer_is =
       elim (true_or_not r.far) [
         | inl far ↦
-            let other_man = not_king (slider_not_king (far_slider l.step.man.side l.step.man.kind one.number r one.on.is_ray far)) in
+            let other_man = not_king ((ray_is l.step.man.side l.step.man.kind one.number r one.on.is_ray).not_king far) in
             far_answer far (answers c sound l other_man) other_man
         | inr near ↦
             ap (λ f. steps_to f (off_line r.dx r.dy c.square c.king_square) (off_line (b.x -ℤ c.square.x) (b.y -ℤ c.square.y) c.square c.king_square) (distance b c.square)) near
@@ -227,13 +205,13 @@ same_stand o a P e h = let k : IsSomeAnd (Some a) P = subst (λ o. IsSomeAnd o P
 -- from the king and a man who gives check
 module _ (p : Position) (a k : Square) (h : IsCheckFrom p a k) where
   abbrev Reaches : Man → Square → Type 0
-  Reaches m a = HasReach m.side m.kind (k.x -ℤ a.x) (k.y -ℤ a.y) × (IsSlider m.kind → IsOpen p a k)
+  Reaches m a = HasReach m.side m.kind (k.x -ℤ a.x) (k.y -ℤ a.y) × IsOpen p a k
 
   checked_from : (c : IsChecked p) × (c.square ≡ a) × (c.king_square ≡ k)
   checked_from =
       let king = any_is p _ h.king in
       let checker = any_is p _ h.checker in
-      let bears : Reaches checker.1 a = same_stand (square_of checker.1) a (Reaches checker.1) checker.3.1 checker.3.2 in (
+      let bears : Reaches checker.1 a = same_stand (square_of checker.1) a (Reaches checker.1) checker.3.1 (bears_openly p checker.1 k checker.3.2) in (
         record {
           king_number = king.0;
           king = king.1;

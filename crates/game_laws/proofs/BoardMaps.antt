@@ -1,15 +1,16 @@
 -- Moving the board, reflecting it and exchanging its colours keep the game.
-use Rattle.std.proofs.Common.{◌≡◌, ◌≢◌, inl, inr, ℕ, zero, suc, ◌<◌, ℤ, pos, ◌+ℤ◌, ◌-ℤ◌, ◌*ℤ◌, unsigned_abs, refl, sym, ap, subst, ◌∙◌, arith}
+use Rattle.std.proofs.Common.{◌≡◌, ◌≢◌, inl, inr, ℕ, ◌+◌, ◌<◌, ◌≤◌, ℤ, pos, ◌+ℤ◌, ◌-ℤ◌, ◌*ℤ◌, unsigned_abs, refl, sym, ap, subst, ◌∙◌, arith}
 use Rattle.std.proofs.lemmas.Int.{ints}
-use Rattle.std.proofs.Math.IntN.{suc_ℤ-*ℤ, zero-*ℤ}
-use Rattle.game_rules.specs.Game.{HasReach, IsBetween, IsDiagonal, IsDirection, IsStraight, after_steps, forward, other}
+use Rattle.game_rules.specs.Game.{IsBetween, IsDiagonal, IsDirection, IsLeap, IsStraight, after_steps, forward, other}
 use Rattle.game_rules.specs.declared.men.Kind.{Kind}
-use Rattle.game_rules.specs.declared.men.Kind.TheVariants.{King, Queen, Rook, Bishop, Knight, Pawn}
+use Rattle.game_rules.specs.declared.men.Kind.TheVariants.{King, Queen, Rook, Bishop, Knight, Pawn, Chancellor, Archbishop, Amazon, Nightrider}
 use Rattle.game_rules.specs.declared.men.Side.{Side}
 use Rattle.game_rules.specs.declared.men.Side.TheVariants.{White, Black}
 use Rattle.game_rules.specs.declared.men.Square.{Square}
 use Rattle.game_laws.specs.Symmetry.{BoardMap, KeepsGame, colour_exchange, reflection, shift}
+use Rattle.game_laws.specs.Reach.{HasReach}
 use Rattle.game_laws.proofs.LineLemmas.{square_is}
+use Rattle.game_laws.proofs.Products.{negated_steps}
 use Rattle.game_laws.proofs.SoundLemmas.{other_other}
 use Rattle.game_laws.proofs.SymmetryLemmas.{IsCarrier, IsUndone, keeps_game}
 
@@ -41,13 +42,6 @@ moving e =
 staying : IsAxisMap unchanged unchanged
 staying = record { long = λ d. refl; steps = λ a b d t h. h; offset = λ a b. refl; less = λ a d. refl }
 
-one_more : (t : ℕ) (d : ℤ) → pos (suc t) *ℤ d ≡ (pos t *ℤ d) +ℤ d
-one_more t d = suc_ℤ-*ℤ (pos t) d
-
-negated_steps : (t : ℕ) (d : ℤ) → pos t *ℤ negated d ≡ pos 0 -ℤ (pos t *ℤ d)
-negated_steps zero d = omega (arith, ints, zero-*ℤ (negated d), zero-*ℤ d)
-negated_steps (suc t) d = omega (arith, ints, negated_steps t d, one_more t (negated d), one_more t d)
-
 negating : IsAxisMap negated negated
 negating =
     record {
@@ -71,19 +65,34 @@ diagonal_like : (u v x y : ℤ) → unsigned_abs x ≡ unsigned_abs u → unsign
 diagonal_like u v x y ex ey h = (ex ∙ h.0 ∙ sym ey, subst (λ n. 0 < n) (sym ex) h.1)
 
 direction_like : (u v x y : ℤ) → unsigned_abs x ≡ unsigned_abs u → unsigned_abs y ≡ unsigned_abs v → IsDirection u v → IsDirection x y
-direction_like u v x y ex ey h = rw (ex, ey) h
+direction_like u v x y ex ey (inl h) = inl (ex ∙ h.0, subst (λ n. n ≤ 2) (sym ey) h.1)
+direction_like u v x y ex ey (inr h) = inr (ey ∙ h.0, subst (λ n. n ≤ 2) (sym ex) h.1)
+
+leap_like : (u v x y : ℤ) → unsigned_abs x ≡ unsigned_abs u → unsigned_abs y ≡ unsigned_abs v → IsLeap u v → IsLeap x y
+leap_like u v x y ex ey (inl h) = inl (ex ∙ h.0, ey ∙ h.1)
+leap_like u v x y ex ey (inr h) = inr (ex ∙ h.0, ey ∙ h.1)
 
 -- reach goes by how long an offset is, and by the pawns' way
 reach_like : (s t : Side) (k : Kind) (u v x y : ℤ) → unsigned_abs x ≡ unsigned_abs u → unsigned_abs y ≡ unsigned_abs v
     → (v ≡ forward s → y ≡ forward t) → HasReach s k u v → HasReach t k x y
-reach_like s t King u v x y ex ey ahead h = direction_like u v x y ex ey h
+reach_like s t King u v x y ex ey ahead h = rw (ex, ey) h
 reach_like s t Queen u v x y ex ey ahead (inl h) = inl (straight_like u v x y ex ey h)
 reach_like s t Queen u v x y ex ey ahead (inr h) = inr (diagonal_like u v x y ex ey h)
 reach_like s t Rook u v x y ex ey ahead h = straight_like u v x y ex ey h
 reach_like s t Bishop u v x y ex ey ahead h = diagonal_like u v x y ex ey h
-reach_like s t Knight u v x y ex ey ahead (inl h) = inl (ex ∙ h.0, ey ∙ h.1)
-reach_like s t Knight u v x y ex ey ahead (inr h) = inr (ex ∙ h.0, ey ∙ h.1)
+reach_like s t Knight u v x y ex ey ahead h = leap_like u v x y ex ey h
 reach_like s t Pawn u v x y ex ey ahead h = (ex ∙ h.0, ahead h.1)
+reach_like s t Chancellor u v x y ex ey ahead (inl h) = inl (straight_like u v x y ex ey h)
+reach_like s t Chancellor u v x y ex ey ahead (inr h) = inr (leap_like u v x y ex ey h)
+reach_like s t Archbishop u v x y ex ey ahead (inl h) = inl (diagonal_like u v x y ex ey h)
+reach_like s t Archbishop u v x y ex ey ahead (inr h) = inr (leap_like u v x y ex ey h)
+reach_like s t Amazon u v x y ex ey ahead (inl (inl h)) = inl (inl (straight_like u v x y ex ey h))
+reach_like s t Amazon u v x y ex ey ahead (inl (inr h)) = inl (inr (diagonal_like u v x y ex ey h))
+reach_like s t Amazon u v x y ex ey ahead (inr h) = inr (leap_like u v x y ex ey h)
+reach_like s t Nightrider u v x y ex ey ahead (inl h) =
+    inl (subst (λ n. 0 < n) (sym ex) h.0, ey ∙ h.1 ∙ ap (λ n. n + n) (sym ex))
+reach_like s t Nightrider u v x y ex ey ahead (inr h) =
+    inr (subst (λ n. 0 < n) (sym ey) h.0, ex ∙ h.1 ∙ ap (λ n. n + n) (sym ey))
 
 -- a map by coordinates
 abbrev by_axes : (ℤ → ℤ) → (ℤ → ℤ) → (Side → Side) → BoardMap

@@ -3,11 +3,13 @@ use Rattle.std.proofs.Common.{◌≡◌, ◌≢◌, ℕ, suc, ◌<◌, ◌-ℤ�
 use Rattle.std.specs.Prelude.{IsSomeAnd}
 use Rattle.std.proofs.lemmas.Option.{slice_get-get_or}
 use Rattle.std.specs.List.{Any}
-use Rattle.game_rules.specs.Game.{Position, Attacked, Bears, HasReach, InCheck, IsBetween, IsLiveAnd, IsOpen, IsSlider, Legal, Sound, StandsOn, man_at, other, square_of}
+use Rattle.game_rules.specs.Game.{Position, Attacked, Bears, InCheck, IsBetween, IsLiveAnd, IsOpen, Legal, Sound, StandsOn, man_at, other, square_of}
 use Rattle.game_rules.specs.declared.men.Kind.TheVariants.{King}
 use Rattle.game_rules.specs.declared.men.Man.{Man}
 use Rattle.game_rules.specs.declared.men.Square.{Square}
+use Rattle.game_laws.specs.Reach.{HasReach}
 use Rattle.game_laws.proofs.MoveLemmas.{after_each}
+use Rattle.game_laws.proofs.OpenLemmas.{bears_openly, openly_bears}
 use Rattle.game_laws.proofs.SoundLemmas.{Fate, moved, taken, kept, any_at, at_same, fate, king_not_taken, live_at, other_differs}
 
 -- one man bears on the king of the side to move
@@ -26,7 +28,7 @@ pub record IsChecked (p : Position) : Type 0 where
   pub square : Square
   pub there : StandsOn checker square
   pub reach : HasReach checker.side checker.kind (king_square.x -ℤ square.x) (king_square.y -ℤ square.y)
-  pub clear : IsSlider checker.kind → IsOpen p square king_square
+  pub clear : IsOpen p square king_square
 
 pub some_and : (o : Option Square) (P : Square → Type 0) → IsSomeAnd o P → (a : Square) × (o ≡ Some a) × P a
 some_and None P h = absurd h
@@ -40,7 +42,7 @@ checked p check =
     let k = any_is p _ check in
     let at_king = some_and (square_of k.1) _ k.3.2 in
     let c = any_is p _ at_king.2 in
-    let at_checker = some_and (square_of c.1) _ c.3.1 in
+    let at_checker = some_and (square_of c.1) _ (bears_openly p c.1 at_king.0 c.3.1) in
     record {
       king_number = k.0;
       king = k.1;
@@ -97,11 +99,12 @@ module _ (p : Position) (c : IsChecked p) (i : ℕ) (z : Square) (q : Position) 
       after_each l.step.after j d before (λ m. IsLiveAnd m (IsBetween a k) → ⊥) (λ e. off) (λ ne s h. h) (λ ne s. clear j d before)
 
   -- a legal move of another man than the king is to the checker's square or between
-  pub not_elsewhere : i ≢ c.king_number → z ≢ c.square → (IsSlider c.checker.kind → IsBetween c.square c.king_square z → ⊥) → ⊥
+  pub not_elsewhere : i ≢ c.king_number → z ≢ c.square → (IsBetween c.square c.king_square z → ⊥) → ⊥
   not_elsewhere other_man off off_line =
       let bears : Bears q c.checker c.king_square =
-      live_at c.checker c.square (λ a. HasReach c.checker.side c.checker.kind (c.king_square.x -ℤ a.x) (c.king_square.y -ℤ a.y) × (IsSlider c.checker.kind → IsOpen q a c.king_square)) c.there
-      (c.reach, λ slider. stays_open c.square c.king_square (c.clear slider) (off_line slider)) in
+      openly_bears q c.checker c.king_square
+      (live_at c.checker c.square (λ a. HasReach c.checker.side c.checker.kind (c.king_square.x -ℤ a.x) (c.king_square.y -ℤ a.y) × IsOpen q a c.king_square) c.there
+      (c.reach, stays_open c.square c.king_square c.clear off_line)) in
       let attacked : Attacked q (other p.turn) c.king_square = any_at q _ c.number c.checker (checker_stays off) (c.checker_side, bears) in
       l.safe (any_at q _ c.king_number c.king (king_stays other_man)
       (c.king_side, c.king_kind, live_at c.king c.king_square (Attacked q (other p.turn)) c.king_there attacked))

@@ -1,18 +1,20 @@
 -- Each statement on one move of a position is true or false.
-use Rattle.std.proofs.Common.{◌≡◌, ◌≢◌, ◌⊎◌, inl, inr, ℕ, zero, suc, ◌<◌, max, ℤ, pos, ◌-ℤ◌, unsigned_abs, List, [], ◌∷◌, length, get_or, map, Option, Some, None, sym, ap, subst, ◌∙◌, arith, refl}
+use Rattle.std.proofs.Common.{◌≡◌, ◌≢◌, ◌⊎◌, inl, inr, ℕ, zero, suc, ◌+◌, ◌<◌, max, ℤ, pos, ◌-ℤ◌, unsigned_abs, List, [], ◌∷◌, length, get_or, map, Option, Some, None, sym, ap, subst, ◌∙◌, arith, refl}
 use Rattle.std.specs.Prelude.{IsSomeAnd}
 use Rattle.std.proofs.lemmas.Option.{slice_get-get_or, get_or_from_slice_get, same_Some}
 use Rattle.std.proofs.lemmas.Bool.Decides.{eqb_tells}
 use Rattle.std.specs.List.{All, Any, slice_get}
-use Rattle.game_rules.specs.Game.{Position, Attacked, Bears, Goes, GoesAs, HasReach, IsHeldBy, InCheck, IsAfter, IsBetween, IsDiagonal, IsEmptySquare, IsLeftBy, IsLiveAnd, IsOpen, IsSlider, IsStraight, Legal, StandsOn, forward, man_at, other, square_of}
+use Rattle.game_rules.specs.Game.{Position, Attacked, Bears, Goes, GoesAs, IsHeldBy, InCheck, IsAfter, IsBetween, IsDiagonal, IsEmptySquare, IsLeap, IsLeftBy, IsLiveAnd, IsOpen, IsStraight, Legal, StandsOn, forward, man_at, other, square_of}
 use Rattle.game_rules.specs.declared.men.Kind.{Kind}
-use Rattle.game_rules.specs.declared.men.Kind.TheVariants.{King, Queen, Rook, Bishop, Knight, Pawn}
+use Rattle.game_rules.specs.declared.men.Kind.TheVariants.{King, Queen, Rook, Bishop, Knight, Pawn, Chancellor, Archbishop, Amazon, Nightrider}
 use Rattle.game_rules.specs.declared.men.Man.{Man}
 use Rattle.game_rules.specs.declared.men.Place.TheVariants.{At, Gone}
 use Rattle.game_rules.specs.declared.men.Side.{Side}
 use Rattle.game_rules.specs.declared.men.Side.TheVariants.{White, Black}
 use Rattle.game_rules.specs.declared.men.Square.{Square}
 use Rattle.game_laws.specs.Answer.{CanGo, distance}
+use Rattle.game_laws.specs.Reach.{HasReach, ReachesOpenly}
+use Rattle.game_laws.proofs.OpenLemmas.{bears_openly, openly_bears}
 use Rattle.game_laws.proofs.LineLemmas.{IsAligned, IsOnWay, aligned, on_way, toward, way_between}
 use Rattle.game_laws.proofs.MoveLemmas.{same_after, same_or_not, square_or_not, stands_or_not}
 
@@ -63,14 +65,10 @@ is_king Rook = inr (λ e. cc)
 is_king Bishop = inr (λ e. cc)
 is_king Knight = inr (λ e. cc)
 is_king Pawn = inr (λ e. cc)
-
-pub is_slider : (k : Kind) → Decided (IsSlider k)
-is_slider King = inr (λ h. h)
-is_slider Queen = inl tt
-is_slider Rook = inl tt
-is_slider Bishop = inl tt
-is_slider Knight = inr (λ h. h)
-is_slider Pawn = inr (λ h. h)
+is_king Chancellor = inr (λ e. cc)
+is_king Archbishop = inr (λ e. cc)
+is_king Amazon = inr (λ e. cc)
+is_king Nightrider = inr (λ e. cc)
 
 pub some_decided : (o : Option Square) (P : Square → Type 0) → ((a : Square) → Decided (P a)) → Decided (IsSomeAnd o P)
 some_decided None P d = inr (λ h. h)
@@ -121,16 +119,26 @@ straight dx dy =
 diagonal : (dx dy : ℤ) → Decided (IsDiagonal dx dy)
 diagonal dx dy = both _ _ (number_same (unsigned_abs dx) (unsigned_abs dy)) (less 0 (unsigned_abs dx))
 
+leaps : (dx dy : ℤ) → Decided (IsLeap dx dy)
+leaps dx dy =
+    either _ _
+    (both _ _ (number_same (unsigned_abs dx) 1) (number_same (unsigned_abs dy) 2))
+    (both _ _ (number_same (unsigned_abs dx) 2) (number_same (unsigned_abs dy) 1))
+
 pub reaches : (s : Side) (k : Kind) (dx dy : ℤ) → Decided (HasReach s k dx dy)
 reaches s King dx dy = number_same (max (unsigned_abs dx) (unsigned_abs dy)) 1
 reaches s Queen dx dy = either _ _ (straight dx dy) (diagonal dx dy)
 reaches s Rook dx dy = straight dx dy
 reaches s Bishop dx dy = diagonal dx dy
-reaches s Knight dx dy =
-    either _ _
-    (both _ _ (number_same (unsigned_abs dx) 1) (number_same (unsigned_abs dy) 2))
-    (both _ _ (number_same (unsigned_abs dx) 2) (number_same (unsigned_abs dy) 1))
+reaches s Knight dx dy = leaps dx dy
 reaches s Pawn dx dy = both _ _ (number_same (unsigned_abs dx) 1) (same_or_not dy (forward s))
+reaches s Chancellor dx dy = either _ _ (straight dx dy) (leaps dx dy)
+reaches s Archbishop dx dy = either _ _ (diagonal dx dy) (leaps dx dy)
+reaches s Amazon dx dy = either _ _ (either _ _ (straight dx dy) (diagonal dx dy)) (leaps dx dy)
+reaches s Nightrider dx dy =
+    either _ _
+    (both _ _ (less 0 (unsigned_abs dx)) (number_same (unsigned_abs dy) (unsigned_abs dx + unsigned_abs dx)))
+    (both _ _ (less 0 (unsigned_abs dy)) (number_same (unsigned_abs dx) (unsigned_abs dy + unsigned_abs dy)))
 
 pub square_same : (a z : Square) → Decided (a ≡ z)
 square_same a z = map_decided (Some a ≡ Some z) (a ≡ z) (same_Some a z) (ap (λ b. Some b)) (square_or_not (Some a) z)
@@ -155,7 +163,8 @@ is_open p a b =
 
 pub bears : (p : Position) (m : Man) (z : Square) → Decided (Bears p m z)
 bears p m z =
-    some_decided (square_of m) _ (λ a. both _ _ (reaches m.side m.kind (z.x -ℤ a.x) (z.y -ℤ a.y)) (implied _ _ (is_slider m.kind) (is_open p a z)))
+    map_decided (ReachesOpenly p m z) (Bears p m z) (openly_bears p m z) (bears_openly p m z)
+    (some_decided (square_of m) _ (λ a. both _ _ (reaches m.side m.kind (z.x -ℤ a.x) (z.y -ℤ a.y)) (is_open p a z)))
 
 pub attacked : (p : Position) (s : Side) (z : Square) → Decided (Attacked p s z)
 attacked p s z = any_decided (λ m. (m.side ≡ s) × Bears p m z) (λ m. both _ _ (side_same m.side s) (bears p m z)) p.men
@@ -172,6 +181,10 @@ goes Queen p m z = bears p m z
 goes Rook p m z = bears p m z
 goes Bishop p m z = bears p m z
 goes Knight p m z = bears p m z
+goes Chancellor p m z = bears p m z
+goes Archbishop p m z = bears p m z
+goes Amazon p m z = bears p m z
+goes Nightrider p m z = bears p m z
 goes Pawn p m z =
     either _ _
     (both _ _ (bears p m z) (holds p (other m.side) z))

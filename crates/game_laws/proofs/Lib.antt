@@ -1,3 +1,5 @@
+pub mod Products
+pub mod OpenLemmas
 pub mod MoveLemmas
 pub mod SoundLemmas
 pub mod LineLemmas

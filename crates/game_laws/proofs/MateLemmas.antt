@@ -4,27 +4,29 @@ use Rattle.std.proofs.lemmas.Option.{slice_get_within, same_Some}
 use Rattle.std.proofs.lemmas.Bool.Decides.{eqb_tells}
 use Rattle.std.specs.List.{Any}
 use Rattle.std.specs.Prelude.{IsSomeAnd}
-use Rattle.game_rules.specs.Game.{Position, GoesAs, HasMove, HasReach, InCheck, IsBetween, IsOpen, IsSlider, Legal, Mate, Sound, StandsOn, man_at}
+use Rattle.game_rules.specs.Game.{Position, GoesAs, HasMove, InCheck, IsBetween, IsOpen, Legal, Mate, Sound, StandsOn, man_at}
 use Rattle.game_rules.specs.declared.men.Kind.TheVariants.{King}
 use Rattle.game_rules.specs.declared.men.Man.{Man}
 use Rattle.game_rules.specs.declared.men.Square.{Square}
 use Rattle.game_laws.specs.Answer.{CanGo, distance}
+use Rattle.game_laws.specs.Reach.{HasReach, ReachesOpenly}
+use Rattle.game_laws.proofs.OpenLemmas.{bears_openly}
 use Rattle.game_laws.proofs.LineLemmas.{around, around_has, on_way, toward}
 use Rattle.game_laws.proofs.CheckLemmas.{IsChecked, checked, not_elsewhere}
-use Rattle.game_laws.proofs.DecideLemmas.{Decided, square_same, any_decided, below, between, both, can_go, either, is_slider}
+use Rattle.game_laws.proofs.DecideLemmas.{Decided, square_same, any_decided, below, between, can_go, either}
 
 -- the checker's square, or one between
 abbrev pub IsAnswerSquare : (p : Position) → IsChecked p → Square → Type 0
-IsAnswerSquare p c z = (z ≡ c.square) ⊎ (IsSlider c.checker.kind × IsBetween c.square c.king_square z)
+IsAnswerSquare p c z = (z ≡ c.square) ⊎ IsBetween c.square c.king_square z
 
 -- a legal move of another man than the king takes the checker, or comes between
 pub answers : {p : Position} (c : IsChecked p) {i : ℕ} {z : Square} {q : Position} → Sound p → Legal p i z q → i ≢ c.king_number → IsAnswerSquare p c z
 answers {p} c {i} {z} {q} sound l other_man =
     elim (square_same z c.square) [
       | inl e ↦ inl e
-      | inr off ↦ elim (both _ _ (is_slider c.checker.kind) (between c.square c.king_square z)) [
-        | inl h ↦ inr h
-        | inr n ↦ absurd (not_elsewhere p c i z q sound l other_man off (λ slider line. n (slider, line)))
+      | inr off ↦ elim (between c.square c.king_square z) [
+        | inl line ↦ inr line
+        | inr n ↦ absurd (not_elsewhere p c i z q sound l other_man off n)
       ]
     ]
 
@@ -41,7 +43,7 @@ has_answer {p} c i =
 answer_found : {p : Position} (c : IsChecked p) (i : ℕ) (z : Square) → CanGo p i z → IsAnswerSquare p c z → CanAnswer p c i
 answer_found {p} c i z go (inl e) = inl (subst (CanGo p i) e go)
 answer_found {p} c i z go (inr h) =
-    let w = on_way h.1 in inr (w.part, w.fewer, subst (CanGo p i) w.is go)
+    let w = on_way h in inr (w.part, w.fewer, subst (CanGo p i) w.is go)
 
 move_of : {p : Position} (c : IsChecked p) (i : ℕ) → CanAnswer p c i → HasMove p
 move_of c i (inl go) = (i, c.square, go.0, go.1)
@@ -54,8 +56,9 @@ number_within p (suc j) m is = omega (arith, slice_get_within p.men j m is)
 -- a king goes at most one step from where he stands
 live_reach : (p : Position) (m : Man) (z a : Square) → StandsOn m a → GoesAs King p m z → HasReach m.side m.kind (z.x -ℤ a.x) (z.y -ℤ a.y)
 live_reach p m z a s goes =
-    let both : IsSomeAnd (Some a) (λ b. HasReach m.side m.kind (z.x -ℤ b.x) (z.y -ℤ b.y) × (IsSlider m.kind → IsOpen p b z)) =
-    subst (λ o. IsSomeAnd o (λ b. HasReach m.side m.kind (z.x -ℤ b.x) (z.y -ℤ b.y) × (IsSlider m.kind → IsOpen p b z))) s goes in
+    let reaches : ReachesOpenly p m z = bears_openly p m z goes in
+    let both : IsSomeAnd (Some a) (λ b. HasReach m.side m.kind (z.x -ℤ b.x) (z.y -ℤ b.y) × IsOpen p b z) =
+    subst (λ o. IsSomeAnd o (λ b. HasReach m.side m.kind (z.x -ℤ b.x) (z.y -ℤ b.y) × IsOpen p b z)) s reaches in
     both.0
 
 -- a move of the king is a step

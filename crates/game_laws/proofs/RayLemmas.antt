@@ -1,17 +1,19 @@
 -- Each step lies on one ray of the table, and men bear along rays.
-use Rattle.std.proofs.Common.{◌≡◌, ◌⊎◌, ℕ, ℤ, pos, ◌+ℤ◌, ◌-ℤ◌, ◌*ℤ◌, Bool, true, false, Some, inl, inr, refl, subst, sym, ap, ◌∙◌, arith}
+use Rattle.std.proofs.Common.{◌≡◌, ◌⊎◌, ℕ, ℤ, pos, unsigned_abs, ◌+ℤ◌, ◌-ℤ◌, ◌*ℤ◌, Bool, true, false, Some, inl, inr, refl, subst, sym, ap, ◌∙◌, arith}
 use Rattle.std.specs.Prelude.{IsTrue}
 use Rattle.std.proofs.lemmas.Int.{ints}
 use Rattle.game_rules.specs.declared.men.Kind.{Kind}
-use Rattle.game_rules.specs.declared.men.Kind.TheVariants.{King, Queen, Rook, Bishop, Knight, Pawn}
+use Rattle.game_rules.specs.declared.men.Kind.TheVariants.{King, Queen, Rook, Bishop, Knight, Pawn, Chancellor, Archbishop, Amazon, Nightrider}
 use Rattle.game_rules.specs.declared.men.Man.{Man}
 use Rattle.game_rules.specs.declared.men.Ray.{Ray}
 use Rattle.game_rules.specs.declared.men.Side.{Side}
 use Rattle.game_rules.specs.declared.men.Square.{Square}
-use Rattle.game_rules.specs.Game.{Position, Bears, GoesAs, HasReach, IsHeldBy, IsEmptySquare, IsLiveAnd, IsOpen, IsSlider, StandsOn, Step, after_steps, forward, other, square_of}
+use Rattle.game_rules.specs.Game.{Position, Bears, GoesAs, IsDirection, IsHeldBy, IsEmptySquare, IsLiveAnd, IsOpen, StandsOn, Step, after_steps, forward, other, square_of}
 use Rattle.game_rules.specs.Rays.{IsAt, leap, ray_of, serves_captures, serves_moves}
+use Rattle.game_laws.specs.Reach.{HasReach}
 use Rattle.game_laws.specs.OnRay.{IsBorneAlong, IsOnOneRay, IsOnRay}
 use Rattle.game_laws.proofs.LineLemmas.{offset_of, square_is, steps_distance, steps_toward_x, steps_toward_y}
+use Rattle.game_laws.proofs.OpenLemmas.{IsSingle, bears_openly, openly_bears, single_open}
 use Rattle.game_laws.proofs.TableLemmas.{IsReached, one_number, ray_is, reached}
 use Rattle.game_laws.proofs.SoundLemmas.{live_at}
 use Rattle.game_laws.proofs.CheckLemmas.{some_and}
@@ -32,12 +34,21 @@ reached_at a z r =
       leads = square_is z _ _ (is_offset a.x z.x (pos r.times *ℤ r.ray.dx) r.right) (is_offset a.y z.y (pos r.times *ℤ r.ray.dy) r.up);
     }
 
--- a far ray is a slider's, and its step a direction
-pub far_slider : (s : Side) (k : Kind) (n : ℕ) (r : Ray) → ray_of k s n ≡ Some r → r.far ≡ true → IsSlider k
-far_slider s k n r is far = (ray_is s k n r is).slider far
+-- one step of a direction is a single step
+single_step : (a z : Square) (dx dy : ℤ) → IsDirection dx dy → z ≡ after_steps a 1 dx dy → IsSingle a z
+single_step a z dx dy (inl d) leads = inl (ap unsigned_abs (one_on a.x z.x dx (ap (λ b. b.x) leads)) ∙ d.0)
+  where
+    one_on : (a z d : ℤ) → z ≡ a +ℤ (pos 1 *ℤ d) → z -ℤ a ≡ d
+    one_on a z d h = omega (arith, ints, h)
+single_step a z dx dy (inr d) leads = inr (ap unsigned_abs (one_on a.y z.y dy (ap (λ b. b.y) leads)) ∙ d.0)
+  where
+    one_on : (a z d : ℤ) → z ≡ a +ℤ (pos 1 *ℤ d) → z -ℤ a ≡ d
+    one_on a z d h = omega (arith, ints, h)
 
-pub slider_far : (s : Side) (k : Kind) (n : ℕ) (r : Ray) → ray_of k s n ≡ Some r → IsSlider k → r.far ≡ true
-slider_far s k n r is slider = elim (true_or_not r.far) [ inl far ↦ far | inr near ↦ absurd ((ray_is s k n r is).leaper near slider) ]
+-- a ray of the table that is not far leads over no square
+pub near_open : (p : Position) (s : Side) (k : Kind) (n : ℕ) (r : Ray) (t : ℕ) (a z : Square) → ray_of k s n ≡ Some r → r.far ≡ false → IsAt r t a z → IsOpen p a z
+near_open p s k n r t a z is near h =
+    single_open p a z (single_step a z r.dx r.dy (ray_is s k n r is).direction (subst (λ j. z ≡ after_steps a j r.dx r.dy) (h.one near) h.leads))
 
 -- a man reaches what his rays of captures lead to
 pub reach_at : (s : Side) (k : Kind) (n : ℕ) {r : Ray} {t : ℕ} {a z : Square} → ray_of k s n ≡ Some r
@@ -48,57 +59,22 @@ reach_at s k n {r} {t} {a} {z} is serves h =
 
 -- two rays of a man that lead from a to z are one, and as far
 module _ (m : Man) (a z : Square) (n k i j : ℕ) (on : IsOnRay m a z n k) (also : IsOnRay m a z i j) where
-  same_far : on.ray.far ≡ also.ray.far
-  same_far =
-      elim (true_or_not on.ray.far) [
-        | inl far ↦ far ∙ sym (slider_far m.side m.kind i also.ray also.is_ray (far_slider m.side m.kind n on.ray on.is_ray far))
-        | inr near ↦ elim (true_or_not also.ray.far) [
-          | inl far ↦ slider_far m.side m.kind n on.ray on.is_ray (far_slider m.side m.kind i also.ray also.is_ray far) ∙ sym far
-          | inr near' ↦ near ∙ sym near'
-        ]
-      ]
+  abbrev d : IsDirection on.ray.dx on.ray.dy
+  d = (ray_is m.side m.kind n on.ray on.is_ray).direction
 
-  ray_same : (r q : Ray) → r.dx ≡ q.dx → r.dy ≡ q.dy → r.far ≡ q.far → r ≡ q
-  ray_same r q x y f =
-      ap (λ d. record { dx = d; dy = r.dy; far = r.far }) x ∙ ap (λ d. record { dx = q.dx; dy = d; far = r.far }) y ∙ ap (λ d. record { dx = q.dx; dy = q.dy; far = d }) f
-
-  step_same : (a z d e : ℤ) → z ≡ a +ℤ (pos 1 *ℤ d) → z ≡ a +ℤ (pos 1 *ℤ e) → d ≡ e
-  step_same a z d e h g = omega (arith, ints, h, g)
-
-  abbrev AreSame : Type 0
-  AreSame = (on.ray ≡ also.ray) × (k ≡ j)
-
-  far_same : on.ray.far ≡ true → AreSame
-  far_same far =
-      let d = (ray_is m.side m.kind n on.ray on.is_ray).direction far in
-      let e = (ray_is m.side m.kind i also.ray also.is_ray).direction (sym same_far ∙ far) in (
-        ray_same on.ray also.ray
-            (sym (steps_toward_x a z _ _ d k on.leads.leads on.leads.begun) ∙ steps_toward_x a z _ _ e j also.leads.leads also.leads.begun)
-            (sym (steps_toward_y a z _ _ d k on.leads.leads on.leads.begun) ∙ steps_toward_y a z _ _ e j also.leads.leads also.leads.begun)
-            same_far,
-        sym (steps_distance a z _ _ d k on.leads.leads) ∙ steps_distance a z _ _ e j also.leads.leads,
-      )
-
-  near_same : on.ray.far ≡ false → AreSame
-  near_same near =
-      let k_one : k ≡ 1 = on.leads.one near in
-      let j_one : j ≡ 1 = also.leads.one (sym same_far ∙ near) in
-      let h : z ≡ after_steps a 1 on.ray.dx on.ray.dy = subst (λ t. z ≡ after_steps a t on.ray.dx on.ray.dy) k_one on.leads.leads in
-      let g : z ≡ after_steps a 1 also.ray.dx also.ray.dy = subst (λ t. z ≡ after_steps a t also.ray.dx also.ray.dy) j_one also.leads.leads in (
-        ray_same on.ray also.ray
-            (step_same a.x z.x on.ray.dx also.ray.dx (ap (λ b. b.x) h) (ap (λ b. b.x) g))
-            (step_same a.y z.y on.ray.dy also.ray.dy (ap (λ b. b.y) h) (ap (λ b. b.y) g))
-            same_far,
-        k_one ∙ sym j_one,
-      )
+  abbrev e : IsDirection also.ray.dx also.ray.dy
+  e = (ray_is m.side m.kind i also.ray also.is_ray).direction
 
   pub one_ray : (i ≡ n) × (j ≡ k)
-  one_ray =
-      let same : AreSame = elim (true_or_not on.ray.far) [ inl far ↦ far_same far | inr near ↦ near_same near ] in
-      (one_number m.side m.kind i n also.ray also.is_ray (on.is_ray ∙ ap (λ r. Some r) same.0), sym same.1)
+  one_ray = (
+    one_number m.side m.kind i n also.ray on.ray also.is_ray on.is_ray
+        (sym (steps_toward_x a z _ _ e j also.leads.leads also.leads.begun) ∙ steps_toward_x a z _ _ d k on.leads.leads on.leads.begun)
+        (sym (steps_toward_y a z _ _ e j also.leads.leads also.leads.begun) ∙ steps_toward_y a z _ _ d k on.leads.leads on.leads.begun),
+    sym (steps_distance a z _ _ e j also.leads.leads) ∙ steps_distance a z _ _ d k on.leads.leads,
+  )
 
 -- a man bears along a ray
-pub borne : (p : Position) (m : Man) (a z : Square) → HasReach m.side m.kind (z.x -ℤ a.x) (z.y -ℤ a.y) → (IsSlider m.kind → IsOpen p a z) → IsBorneAlong p m a z
+pub borne : (p : Position) (m : Man) (a z : Square) → HasReach m.side m.kind (z.x -ℤ a.x) (z.y -ℤ a.y) → IsOpen p a z → IsBorneAlong p m a z
 borne p m a z reach clear =
     let r : IsReached m.side m.kind (z.x -ℤ a.x) (z.y -ℤ a.y) = reached m.side m.kind _ _ reach in
     record {
@@ -107,20 +83,24 @@ borne p m a z reach clear =
       is_ray = r.is_ray;
       serves = r.serves;
       along = (r.times, reached_at a z r);
-      clear = λ far. clear (far_slider m.side m.kind r.number r.ray r.is_ray far);
+      clear = λ far. clear;
     }
 
 pub bears_borne : (p : Position) (m : Man) (z : Square) → Bears p m z → IsLiveAnd m (λ a. IsBorneAlong p m a z)
 bears_borne p m z h =
-    let w = some_and (square_of m) _ h in
+    let w = some_and (square_of m) _ (bears_openly p m z h) in
     live_at m w.0 (λ a. IsBorneAlong p m a z) w.1 (borne p m w.0 z w.2.0 w.2.1)
 
 pub borne_bears : (p : Position) (m : Man) (z : Square) → IsLiveAnd m (λ a. IsBorneAlong p m a z) → Bears p m z
 borne_bears p m z h =
     let w = some_and (square_of m) _ h in
     let b : IsBorneAlong p m w.0 z = w.2 in
-    live_at m w.0 (λ a. HasReach m.side m.kind (z.x -ℤ a.x) (z.y -ℤ a.y) × (IsSlider m.kind → IsOpen p a z)) w.1
-    (reach_at m.side m.kind b.number b.is_ray b.serves b.along.1, λ slider. b.clear (slider_far m.side m.kind b.number b.ray b.is_ray slider))
+    let clear : IsOpen p w.0 z = elim (true_or_not b.ray.far) [
+      | inl far ↦ b.clear far
+      | inr near ↦ near_open p m.side m.kind b.number b.ray b.along.0 w.0 z b.is_ray near b.along.1
+    ] in
+    openly_bears p m z
+    (live_at m w.0 (λ a. HasReach m.side m.kind (z.x -ℤ a.x) (z.y -ℤ a.y) × IsOpen p a z) w.1 (reach_at m.side m.kind b.number b.is_ray b.serves b.along.1, clear))
 
 -- a square is not both held and empty
 held_empty : (p : Position) (s : Side) (z : Square) → IsHeldBy p s z → IsEmptySquare p z → ⊥
@@ -178,6 +158,10 @@ module _ (p : Position) (m : Man) (z : Square) where
   goes_one Rook is h = borne_one (serving Rook is (λ n. refl)) h
   goes_one Bishop is h = borne_one (serving Bishop is (λ n. refl)) h
   goes_one Knight is h = borne_one (serving Knight is (λ n. refl)) h
+  goes_one Chancellor is h = borne_one (serving Chancellor is (λ n. refl)) h
+  goes_one Archbishop is h = borne_one (serving Archbishop is (λ n. refl)) h
+  goes_one Amazon is h = borne_one (serving Amazon is (λ n. refl)) h
+  goes_one Nightrider is h = borne_one (serving Nightrider is (λ n. refl)) h
   goes_one Pawn is (inl h) = borne_one (λ n none. absurd (held_empty p (other m.side) z h.1 none)) h.0
   goes_one Pawn is (inr h) = ahead_one is h.0 h.1
 

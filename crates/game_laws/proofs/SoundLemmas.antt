@@ -5,7 +5,7 @@ use Rattle.std.proofs.lemmas.Bool.Decides.{eqb_tells}
 use Rattle.std.specs.List.{Any}
 use Rattle.game_rules.specs.Game.{Position, Attacked, Bears, GoesAs, HasOneKing, InCheck, IsAfter, IsLeftBy, IsLiveAnd, Legal, Sound, StandsOn, Step, man_at, other}
 use Rattle.game_rules.specs.declared.men.Kind.{Kind}
-use Rattle.game_rules.specs.declared.men.Kind.TheVariants.{King, Queen, Rook, Bishop, Knight, Pawn}
+use Rattle.game_rules.specs.declared.men.Kind.TheVariants.{King, Queen, Rook, Bishop, Knight, Pawn, Chancellor, Archbishop, Amazon, Nightrider}
 use Rattle.game_rules.specs.declared.men.Man.{Man}
 use Rattle.game_rules.specs.declared.men.Place.TheVariants.{At, Gone}
 use Rattle.game_rules.specs.declared.men.Side.{Side}
@@ -67,6 +67,10 @@ goes_bears Queen p m z h j n is s = h
 goes_bears Rook p m z h j n is s = h
 goes_bears Bishop p m z h j n is s = h
 goes_bears Knight p m z h j n is s = h
+goes_bears Chancellor p m z h j n is s = h
+goes_bears Archbishop p m z h j n is s = h
+goes_bears Amazon p m z h j n is s = h
+goes_bears Nightrider p m z h j n is s = h
 goes_bears Pawn p m z (inl h) j n is s = h.0
 goes_bears Pawn p m z (inr h) zero n is s = cc
 goes_bears Pawn p m z (inr h) (suc j) n is s =

@@ -4,16 +4,18 @@ use Rattle.std.specs.Prelude.{IsSomeAnd}
 use Rattle.std.specs.List.{All, Any, slice_get}
 use Rattle.std.proofs.lemmas.List.{length-map}
 use Rattle.std.proofs.lemmas.Option.{get_or_from_slice_get, same_Some, slice_get-get_or, slice_get_within}
-use Rattle.game_rules.specs.Game.{Position, Attacked, Bears, GoesAs, HasOneKing, HasReach, InCheck, IsAfter, IsApart, IsBetween, IsEmptySquare, IsHeldBy, IsLeftBy, IsLiveAnd, IsOpen, IsSlider, Legal, LostInto, Mate, Sound, StandsOn, Step, Value, Win, forward, man_at, other, place_square}
+use Rattle.game_rules.specs.Game.{Position, Attacked, Bears, GoesAs, HasOneKing, InCheck, IsAfter, IsApart, IsBetween, IsEmptySquare, IsHeldBy, IsLeftBy, IsLiveAnd, IsOpen, Legal, LostInto, Mate, Sound, StandsOn, Step, Value, Win, forward, man_at, other, place_square}
 use Rattle.game_rules.specs.declared.men.Kind.{Kind}
-use Rattle.game_rules.specs.declared.men.Kind.TheVariants.{King, Queen, Rook, Bishop, Knight, Pawn}
+use Rattle.game_rules.specs.declared.men.Kind.TheVariants.{King, Queen, Rook, Bishop, Knight, Pawn, Chancellor, Archbishop, Amazon, Nightrider}
 use Rattle.game_rules.specs.declared.men.Man.{Man}
 use Rattle.game_rules.specs.declared.men.Place.{Place}
 use Rattle.game_rules.specs.declared.men.Place.TheVariants.{At, Gone}
 use Rattle.game_rules.specs.declared.men.Side.{Side}
 use Rattle.game_rules.specs.declared.men.Square.{Square}
 use Rattle.game_laws.specs.Symmetry.{BoardMap, KeepsGame, mapped, mapped_man, mapped_place, place_on}
+use Rattle.game_laws.specs.Reach.{HasReach}
 use Rattle.game_laws.proofs.CheckLemmas.{any_is}
+use Rattle.game_laws.proofs.OpenLemmas.{bears_openly, openly_bears}
 use Rattle.game_laws.proofs.SoundLemmas.{any_at}
 
 -- men go on the mapped board as they go here
@@ -149,9 +151,10 @@ module _ (f g : BoardMap) (u : IsUndone f g) where
 
   bears_to : (p : Position) (m : Man) (z : Square) → Bears p m z → Bears (mapped f p) (mapped_man f m) (f.square z)
   bears_to p m z h =
-      live_to f m (λ a. HasReach m.side m.kind (z.x -ℤ a.x) (z.y -ℤ a.y) × (IsSlider m.kind → IsOpen p a z))
-      (λ a. HasReach (f.side m.side) m.kind ((f.square z).x -ℤ a.x) ((f.square z).y -ℤ a.y) × (IsSlider m.kind → IsOpen (mapped f p) a (f.square z)))
-      (λ a h. (u.carrier.reach m.side m.kind a z h.0, λ slider. open_to p a z (h.1 slider))) h
+      openly_bears (mapped f p) (mapped_man f m) (f.square z)
+      (live_to f m (λ a. HasReach m.side m.kind (z.x -ℤ a.x) (z.y -ℤ a.y) × IsOpen p a z)
+      (λ a. HasReach (f.side m.side) m.kind ((f.square z).x -ℤ a.x) ((f.square z).y -ℤ a.y) × IsOpen (mapped f p) a (f.square z))
+      (λ a h. (u.carrier.reach m.side m.kind a z h.0, open_to p a z h.1)) (bears_openly p m z h))
 
   attacked_to : (p : Position) (s : Side) (z : Square) → Attacked p s z → Attacked (mapped f p) (f.side s) (f.square z)
   attacked_to p s z h =
@@ -178,6 +181,10 @@ module _ (f g : BoardMap) (u : IsUndone f g) where
   goes_to Rook p m z h = bears_to p m z h
   goes_to Bishop p m z h = bears_to p m z h
   goes_to Knight p m z h = bears_to p m z h
+  goes_to Chancellor p m z h = bears_to p m z h
+  goes_to Archbishop p m z h = bears_to p m z h
+  goes_to Amazon p m z h = bears_to p m z h
+  goes_to Nightrider p m z h = bears_to p m z h
   goes_to Pawn p m z (inl h) =
       inl (bears_to p m z h.0, subst (λ s. IsHeldBy (mapped f p) s (f.square z)) (u.carrier.opponent m.side) (held_to p (other m.side) z h.1))
   goes_to Pawn p m z (inr h) =

@@ -1,5 +1,5 @@
 -- The squares to which a man may go in answer to a check: at most one on each of his rays.
-use Rattle.std.specs.Prelude.{◌≡◌, ℕ, zero, suc, ◌/◌, max, Bool, true, false, ℤ, ◌-ℤ◌, ◌*ℤ◌, unsigned_abs, IsSomeAnd}
+use Rattle.std.specs.Prelude.{◌≡◌, ℕ, zero, suc, ◌+◌, ◌/◌, ◌==◌, if◌then◌else◌, min, Bool, true, false, ℤ, ◌+ℤ◌, ◌-ℤ◌, ◌*ℤ◌, unsigned_abs, IsSomeAnd}
 use Rattle.std.specs.Int.{int_signum}
 use Rattle.std.specs.List.{Any}
 use Rattle.game_rules.specs.Game.{Position, Bears, IsLiveAnd, Legal, StandsOn, after_steps, man_at, other}
@@ -8,16 +8,29 @@ use Rattle.game_rules.specs.declared.men.Kind.TheVariants.{King}
 use Rattle.game_rules.specs.declared.men.Ray.{Ray}
 use Rattle.game_rules.specs.declared.men.Square.{Square}
 
+-- how many equal steps of a direction an offset of these two sizes is, if it is some: the lesser of the two, or the other
+-- where one is 0
+abbrev pub steps_of : ℕ → ℕ → ℕ
+steps_of zero n = n
+steps_of (suc m) zero = suc m
+steps_of (suc m) (suc n) = min (suc m) (suc n)
+
+-- one coordinate of the step towards an offset, by that coordinate and the other: a king's, but 2 in size where it is twice
+-- the other
+abbrev pub step_toward : ℤ → ℤ → ℤ
+step_toward d e =
+    if unsigned_abs d == unsigned_abs e + unsigned_abs e then int_signum d +ℤ int_signum d else int_signum d
+
 -- the step that leads from a toward b
 abbrev pub toward_x : Square → Square → ℤ
-toward_x a b = int_signum (b.x -ℤ a.x)
+toward_x a b = step_toward (b.x -ℤ a.x) (b.y -ℤ a.y)
 
 abbrev pub toward_y : Square → Square → ℤ
-toward_y a b = int_signum (b.y -ℤ a.y)
+toward_y a b = step_toward (b.y -ℤ a.y) (b.x -ℤ a.x)
 
--- how many steps of a king lie between two squares
+-- how many equal steps of a direction lie between two squares on one line
 abbrev pub distance : Square → Square → ℕ
-distance a b = max (unsigned_abs (b.x -ℤ a.x)) (unsigned_abs (b.y -ℤ a.y))
+distance a b = steps_of (unsigned_abs (b.x -ℤ a.x)) (unsigned_abs (b.y -ℤ a.y))
 
 -- the cross product of two offsets, which is 0 where they are parallel
 abbrev pub cross : ℤ → ℤ → ℤ → ℤ → ℤ

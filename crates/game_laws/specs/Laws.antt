@@ -8,6 +8,7 @@ use Rattle.game_rules.specs.declared.men.Square.{Square}
 use Rattle.game_laws.specs.Answer.{HasAnswer, IsCheckFrom}
 use Rattle.game_laws.specs.Lost.{FlatLost}
 use Rattle.game_laws.specs.OnRay.{IsBorneAlong, IsOnOneRay}
+use Rattle.game_laws.specs.Reach.{ReachesOpenly}
 use Rattle.game_laws.specs.Symmetry.{KeepsGame, colour_exchange, mapped, reflection, shift}
 
 -- from a sound position no step leads to the square of a king
@@ -40,7 +41,11 @@ StepsOnOneRay =
     (p : Position) (i : ℕ) (z : Square) (q : Position) (s : Step p i z q)
     → IsLiveAnd s.man (λ a. IsOnOneRay p s.man a z)
 
--- a man bears on a square exactly where he is borne there along a ray
+-- a man bears on a square exactly where he reaches it and nobody is in between: a single step leaps over no square
+abbrev pub BearsOpenly : Type 0
+BearsOpenly = (p : Position) (m : Man) (z : Square) → Bears p m z ↔ ReachesOpenly p m z
+
+-- a man bears on a square exactly where he is borne there along a ray of the table
 abbrev pub BearsAlongRays : Type 0
 BearsAlongRays = (p : Position) (m : Man) (z : Square) → Bears p m z ↔ IsLiveAnd m (λ a. IsBorneAlong p m a z)
 

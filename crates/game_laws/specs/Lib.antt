@@ -1,4 +1,5 @@
 pub mod Lost
+pub mod Reach
 pub mod OnRay
 pub mod Answer
 pub mod Symmetry

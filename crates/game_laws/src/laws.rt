@@ -1,6 +1,6 @@
 //! The laws of the game (FIDE Laws of Chess, Articles 3 and 5).
 
-ghost use Rattle.game_laws.specs.Laws.{BearsAlongRays, ExchangeKeepsValue, KeepsSound, LosesMonotonically, LostAtOnceIsMate, LostIsFlat, MateByRays, MateOrMove, ReflectionKeepsValue, ShiftKeepsGame, ShiftKeepsValue, SparesKings, StepsOnOneRay, WinsMonotonically};
+ghost use Rattle.game_laws.specs.Laws.{BearsAlongRays, BearsOpenly, ExchangeKeepsValue, KeepsSound, LosesMonotonically, LostAtOnceIsMate, LostIsFlat, MateByRays, MateOrMove, ReflectionKeepsValue, ShiftKeepsGame, ShiftKeepsValue, SparesKings, StepsOnOneRay, WinsMonotonically};
 ghost use Rattle.game_laws.specs.Symmetry.{KeepsGame, colour_exchange, reflection};
 
 /// From a sound position no step takes a king.
@@ -47,6 +47,11 @@ pub fn exchanging_the_colours_keeps_the_game()
 /// Each step lies on exactly one ray of the table at exactly one distance, and that ray serves what the step is.
 pub fn steps_lie_on_one_ray()
     ensures { StepsOnOneRay }
+{}
+
+/// A man bears on the squares that he would reach on an empty board, where nobody is in between.
+pub fn men_bear_over_open_lines()
+    ensures { BearsOpenly }
 {}
 
 /// A man bears along the rays that serve captures, and along a far one where nothing stands in between.
