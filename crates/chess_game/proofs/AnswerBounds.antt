@@ -1,25 +1,26 @@
 -- How far the squares lie where a check may be answered. Crates above cite these lemmas.
-use Rattle.std.proofs.Common.{◌≡◌, ℕ, zero, suc, ◌<◌, ◌≤◌, ◌*◌, ℤ, pos, ◌*ℤ◌, unsigned_abs, Bool, true, false, ap, subst, sym, ◌∙◌, refl, arith, List, [], ◌∷◌, Some, length, lit≤}
+use Rattle.std.proofs.Common.{◌≡◌, ℕ, zero, suc, ◌+◌, ◌<◌, ◌≤◌, ◌*◌, ℤ, pos, ◌*ℤ◌, unsigned_abs, Bool, true, false, ap, subst, sym, ◌∙◌, refl, arith, List, [], ◌∷◌, Some, length, lit≤}
 use Rattle.std.proofs.lemmas.Int.{ints, unsigned_abs-mul}
 use Rattle.std.specs.Prelude.{IsSomeAnd, slice_get}
 use Rattle.std.specs.List.{Any}
 use Rattle.std.proofs.Math.Nat.{div-le_self}
 use Rattle.std.proofs.lemmas.Option.{slice_get-get_or}
 use Rattle.game_rules.specs.declared.men.Kind.{Kind}
-use Rattle.game_rules.specs.declared.men.Kind.TheVariants.{King, Queen, Rook, Bishop, Knight, Pawn}
+use Rattle.game_rules.specs.declared.men.Kind.TheVariants.{King, Queen, Rook, Bishop, Knight, Pawn, Chancellor, Archbishop, Amazon, Nightrider}
 use Rattle.game_rules.specs.declared.men.Ray.{Ray}
 use Rattle.game_rules.specs.declared.men.Side.{Side}
 use Rattle.game_rules.specs.declared.men.Side.TheVariants.{White, Black}
 use Rattle.game_rules.specs.Rays.{ray_of, rays_of}
-use Rattle.game_laws.specs.Answer.{steps_to}
+use Rattle.game_laws.specs.Answer.{steps_of, steps_to}
 use Rattle.chess_game.specs.Along.{IsStepwise}
 use Rattle.game_laws.proofs.TableLemmas.{ray_is}
-use Rattle.game_laws.proofs.LineLemmas.{each_unit}
+use Rattle.game_laws.proofs.LineLemmas.{each_small}
 
--- a product by a unit is no greater
-pub unit_product : (x e : ℤ) → unsigned_abs e ≤ 1 → unsigned_abs (x *ℤ e) ≤ unsigned_abs x
-unit_product x e small =
-    each_unit (λ e. unsigned_abs (x *ℤ e) ≤ unsigned_abs x) (omega (arith, ints)) (omega (arith, ints)) (omega (arith, ints)) e small
+-- a product by a small number is no more than twice as great
+pub small_product : (x e : ℤ) → unsigned_abs e ≤ 2 → unsigned_abs (x *ℤ e) ≤ unsigned_abs x + unsigned_abs x
+small_product x e small =
+    each_small (λ e. unsigned_abs (x *ℤ e) ≤ unsigned_abs x + unsigned_abs x)
+    (omega (arith, ints)) (omega (arith, ints)) (omega (arith, ints)) (omega (arith, ints)) (omega (arith, ints)) e small
 
 pub times_abs : (steps : ℕ) (step : ℤ) → unsigned_abs (pos steps *ℤ step) ≡ steps * unsigned_abs step
 times_abs steps step = unsigned_abs-mul (pos steps) step
@@ -30,27 +31,33 @@ steps_within false each off direct b one h k = one
 steps_within true zero off direct b one h k = k
 steps_within true (suc each) off direct b one h k = omega (arith, h, div-le_self off (suc each))
 
--- and so is the way that they lead to one side
-pub way_within : (far : Bool) (each off direct b d : ℕ) → 1 ≤ b → off ≤ b → direct ≤ b → d ≤ b → (far ≡ true → d ≤ 1) → steps_to far each off direct * d ≤ b
-way_within false each off direct b d one h k small unit = omega (arith, small)
-way_within true each off direct b d one h k small unit =
-    unit_way (steps_to true each off direct) b d (steps_within true each off direct b one h k) (unit refl)
-  where
-    unit_way : (n b d : ℕ) → n ≤ b → d ≤ 1 → n * d ≤ b
-    unit_way n b zero h unit = omega arith
-    unit_way n b (suc zero) h unit = omega (arith, h)
-    unit_way n b (suc (suc d)) h unit = absurd (omega arith)
+-- equal steps are no more than the ways to both sides
+pub steps_below : (m n b : ℕ) → m ≤ b → n ≤ b → steps_of m n ≤ b
+steps_below zero n b h k = k
+steps_below (suc m) zero b h k = h
+steps_below (suc m) (suc n) b h k = omega (arith, h)
 
--- the far rays of the table go by steps of a king
+-- and so is the way that they lead to one side
+pub way_within : (n b d : ℕ) → n ≤ b → d ≤ 2 → n * d ≤ b + b
+way_within n b zero h small = omega arith
+way_within n b (suc zero) h small = omega (arith, h)
+way_within n b (suc (suc zero)) h small = omega (arith, h)
+way_within n b (suc (suc (suc d))) h small = absurd (omega (arith, small))
+
+-- the rays of the table go by steps of a direction
 pub ray_stepwise : (k : Kind) (s : Side) (n : ℕ) (r : Ray) → ray_of k s n ≡ Some r → IsStepwise r
 ray_stepwise k s n r is = (ray_is s k n r is).direction
 
-pub rays_few : (k : Kind) (s : Side) → length (rays_of k s) ≤ 8
+pub rays_few : (k : Kind) (s : Side) → length (rays_of k s) ≤ 16
 rays_few King s = lit≤ tt
 rays_few Queen s = lit≤ tt
 rays_few Rook s = lit≤ tt
 rays_few Bishop s = lit≤ tt
 rays_few Knight s = lit≤ tt
+rays_few Chancellor s = lit≤ tt
+rays_few Archbishop s = lit≤ tt
+rays_few Amazon s = lit≤ tt
+rays_few Nightrider s = lit≤ tt
 rays_few Pawn White = lit≤ tt
 rays_few Pawn Black = lit≤ tt
 
@@ -63,7 +70,7 @@ some_ray k s n P h = some_in (rays_of k s) n P h
     some_in (r ∷ rs) zero P h = (zero, r, omega arith, refl, h)
     some_in (r ∷ rs) (suc n) P h = let w = some_in rs n P h in (suc w.0, w.1, omega (arith, w.2), w.3, w.4)
 
-pub no_ray : (k : Kind) (s : Side) (P : Ray → Type 0) → ((n : ℕ) → n < 8 → IsSomeAnd (ray_of k s n) P → ⊥) → Any P (rays_of k s) → ⊥
+pub no_ray : (k : Kind) (s : Side) (P : Ray → Type 0) → ((n : ℕ) → n < 16 → IsSomeAnd (ray_of k s n) P → ⊥) → Any P (rays_of k s) → ⊥
 no_ray k s P none (n, r, within, is, h) =
     none n (omega (arith, within, rays_few k s))
     (subst (λ o. IsSomeAnd o P) (sym (slice_get-get_or (rays_of k s) n r within ∙ ap (λ q. Some q) is)) h)

@@ -6,3 +6,5 @@ pub mod UnsoundnessLemmas
 pub mod MaskLemmas
 pub mod AnswerBounds
 pub mod MatedLemmas
+pub mod RayLemmas
+pub mod BearLemmas

@@ -1,34 +1,36 @@
 -- Lemmas on offsets and on equal steps.
-use Rattle.std.proofs.Common.{◌≡◌, ℕ, ◌<◌, ◌≤◌, max, ℤ, pos, ◌+ℤ◌, ◌*ℤ◌, unsigned_abs, ◌-ℤ◌, ap, subst, sym, ◌∙◌, arith}
-use Rattle.std.specs.Int.{int_signum}
+use Rattle.std.proofs.Common.{◌≡◌, ℕ, ◌<◌, ◌*◌, ℤ, pos, negsuc, ◌+ℤ◌, ◌*ℤ◌, unsigned_abs, ◌-ℤ◌, neg_ℤ, ap, subst, sym, ◌∙◌, arith}
+use Rattle.std.specs.Prelude.{◌<ℤ◌}
 use Rattle.std.proofs.lemmas.Int.{ints}
+use Rattle.std.proofs.Math.IntN.{pos-*ℤ-pos, pos-*ℤ-negsuc}
 use Rattle.game_rules.specs.Game.{IsBetween, IsDirection, after_steps}
 use Rattle.game_rules.specs.declared.men.Square.{Square}
-use Rattle.game_laws.proofs.LineLemmas.{far_steps, sign_steps, square_is}
+use Rattle.game_laws.proofs.LineLemmas.{direction_turned, far_steps, square_is, step_direction, step_steps}
+use Rattle.game_laws.specs.Answer.{step_toward, steps_of}
 use Rattle.chess_game.specs.Offsets.{IsPart, IsTimes}
 
--- which way a multiple of a step leads
-signum_multiple : (t : ℕ) (d o : ℤ) → 0 < t → unsigned_abs d ≤ 1 → o ≡ pos t *ℤ d → int_signum o ≡ d
-signum_multiple t d o some small is = ap int_signum is ∙ sign_steps d small t some
-
-pub times_is : {dx dy ox oy : ℤ} {t : ℕ} → IsDirection dx dy → IsTimes dx dy ox oy t → t ≡ max (unsigned_abs ox) (unsigned_abs oy)
+pub times_is : {dx dy ox oy : ℤ} {t : ℕ} → IsDirection dx dy → IsTimes dx dy ox oy t → t ≡ steps_of (unsigned_abs ox) (unsigned_abs oy)
 times_is {dx} {dy} {t} unit is = sym (rw (is.right, is.up) (far_steps dx dy unit t))
 
-pub no_times : {dx dy ox oy : ℤ} (m : ℕ) {t : ℕ} → IsTimes dx dy ox oy t → IsDirection dx dy → m ≡ max (unsigned_abs ox) (unsigned_abs oy) → (IsTimes dx dy ox oy m → ⊥) → ⊥
+pub no_times : {dx dy ox oy : ℤ} (m : ℕ) {t : ℕ} → IsTimes dx dy ox oy t → IsDirection dx dy → m ≡ steps_of (unsigned_abs ox) (unsigned_abs oy) → (IsTimes dx dy ox oy m → ⊥) → ⊥
 no_times {dx} {dy} {ox} {oy} m h unit is off =
     off (subst (IsTimes dx dy ox oy) (times_is unit h ∙ sym is) h)
 
-signum_direction : (ox oy : ℤ) → 0 < max (unsigned_abs ox) (unsigned_abs oy) → IsDirection (int_signum ox) (int_signum oy)
-signum_direction ox oy some = grind arith
+-- the step toward a multiple of a direction is the direction
+step_multiple : {dx dy ox oy : ℤ} {t : ℕ} → IsDirection dx dy → IsTimes dx dy ox oy t → (step_toward ox oy ≡ dx) × (step_toward oy ox ≡ dy)
+step_multiple {dx} {dy} {t} d h = (
+  rw (h.right, h.up) (step_steps dx dy d t h.positive),
+  rw (h.right, h.up) (step_steps dy dx (direction_turned dx dy d) t h.positive),
+)
 
 -- the two tests with the first step toward the whole tell of a part
-pub part_from : {ox oy ex ey ux uy : ℤ} (s t : ℕ) → ux ≡ int_signum ox → uy ≡ int_signum oy → s ≡ max (unsigned_abs ox) (unsigned_abs oy) → t < s
+pub part_from : {ox oy ex ey ux uy : ℤ} (s t : ℕ) → ux ≡ step_toward ox oy → uy ≡ step_toward oy ox → s ≡ steps_of (unsigned_abs ox) (unsigned_abs oy) → t < s
     → IsTimes ux uy ox oy s → IsTimes ux uy ex ey t → IsPart ox oy ex ey
 part_from {ox} {oy} {ux} {uy} s t is_x is_y is fewer whole part =
     record {
       dx = ux;
       dy = uy;
-      direction = rw (is_x, is_y) (signum_direction ox oy (omega arith));
+      direction = rw (is_x, is_y) (step_direction ox oy (omega (arith, is, fewer)));
       whole = s;
       part = t;
       fewer = fewer;
@@ -37,12 +39,12 @@ part_from {ox} {oy} {ux} {uy} s t is_x is_y is fewer whole part =
     }
 
 -- a part passes the two tests
-pub part_unit : (ox oy ex ey ux uy : ℤ) (s t : ℕ) → ux ≡ int_signum ox → uy ≡ int_signum oy → s ≡ max (unsigned_abs ox) (unsigned_abs oy)
-    → t ≡ max (unsigned_abs ex) (unsigned_abs ey) → IsPart ox oy ex ey → (t < s) × IsTimes ux uy ox oy s × IsTimes ux uy ex ey t
+pub part_unit : (ox oy ex ey ux uy : ℤ) (s t : ℕ) → ux ≡ step_toward ox oy → uy ≡ step_toward oy ox → s ≡ steps_of (unsigned_abs ox) (unsigned_abs oy)
+    → t ≡ steps_of (unsigned_abs ex) (unsigned_abs ey) → IsPart ox oy ex ey → (t < s) × IsTimes ux uy ox oy s × IsTimes ux uy ex ey t
 part_unit ox oy ex ey ux uy s t is_x is_y is_s is_t h =
-    let direction : max (unsigned_abs h.dx) (unsigned_abs h.dy) ≡ 1 = h.direction in
-    let same_x : h.dx ≡ ux = sym (signum_multiple h.whole h.dx ox h.to_whole.positive (omega arith) h.to_whole.right) ∙ sym is_x in
-    let same_y : h.dy ≡ uy = sym (signum_multiple h.whole h.dy oy h.to_whole.positive (omega arith) h.to_whole.up) ∙ sym is_y in
+    let steps = step_multiple h.direction h.to_whole in
+    let same_x : h.dx ≡ ux = sym steps.0 ∙ sym is_x in
+    let same_y : h.dy ≡ uy = sym steps.1 ∙ sym is_y in
     let same_s : h.whole ≡ s = times_is h.direction h.to_whole ∙ sym is_s in
     let same_t : h.part ≡ t = times_is h.direction h.to_part ∙ sym is_t in
     let whole : IsTimes ux uy ox oy s =
@@ -51,6 +53,15 @@ part_unit ox oy ex ey ux uy s t is_x is_y is_s is_t h =
     subst (λ n. IsTimes ux uy ex ey n) same_t (subst (λ d. IsTimes ux d ex ey h.part) same_y (subst (λ d. IsTimes d h.dy ex ey h.part) same_x h.to_part)) in
     let fewer : h.part < h.whole = h.fewer in
     (omega arith, whole, part)
+
+-- a multiple of a positive number, and of a negative one
+pub times_up : (t : ℕ) (d : ℤ) → pos 0 <ℤ d → pos t *ℤ d ≡ pos (t * unsigned_abs d)
+times_up t (pos n) above = pos-*ℤ-pos t n
+times_up t (negsuc n) above = absurd (omega (arith, ints, above))
+
+pub times_down : (t : ℕ) (d : ℤ) → d <ℤ pos 0 → pos t *ℤ d ≡ neg_ℤ (pos (t * unsigned_abs d))
+times_down t (pos n) below = absurd (omega (arith, ints, below))
+times_down t (negsuc n) below = pos-*ℤ-negsuc t n
 
 pub z_from : (o z a : ℤ) (t : ℕ) (d : ℤ) → o ≡ z -ℤ a → o ≡ pos t *ℤ d → z ≡ a +ℤ (pos t *ℤ d)
 z_from o z a t d is times = rw (← times) (omega (arith, ints))

@@ -3,7 +3,7 @@ use Rattle.std.proofs.Common.{◌≡◌, inl, inr, ℕ, ◌<◌, length, Option,
 use Rattle.std.specs.Prelude.{IsNone, IsSomeAnd}
 use Rattle.game_rules.specs.Game.{Position, GoesAs, InCheck, IsAfter, Legal, square_of}
 use Rattle.game_rules.specs.declared.men.Kind.{Kind}
-use Rattle.game_rules.specs.declared.men.Kind.TheVariants.{King, Queen, Rook, Bishop, Knight, Pawn}
+use Rattle.game_rules.specs.declared.men.Kind.TheVariants.{King, Queen, Rook, Bishop, Knight, Pawn, Chancellor, Archbishop, Amazon, Nightrider}
 use Rattle.game_rules.specs.declared.men.Man.{Man}
 use Rattle.game_rules.specs.declared.men.Square.{Square}
 use Rattle.chess_game.specs.Near.{IsNarrow, IsNarrowMan, IsNarrowPosition}
@@ -28,6 +28,10 @@ goes_live Queen p m z h n = some_not_none (square_of m) _ h n
 goes_live Rook p m z h n = some_not_none (square_of m) _ h n
 goes_live Bishop p m z h n = some_not_none (square_of m) _ h n
 goes_live Knight p m z h n = some_not_none (square_of m) _ h n
+goes_live Chancellor p m z h n = some_not_none (square_of m) _ h n
+goes_live Archbishop p m z h n = some_not_none (square_of m) _ h n
+goes_live Amazon p m z h n = some_not_none (square_of m) _ h n
+goes_live Nightrider p m z h n = some_not_none (square_of m) _ h n
 goes_live Pawn p m z (inl h) n = some_not_none (square_of m) _ h.0 n
 goes_live Pawn p m z (inr h) n = stands_not_none (square_of m) _ h.0 n
 

@@ -1,5 +1,5 @@
 -- Lemmas on rays and frames.
-use Rattle.std.proofs.Common.{◌≡◌, ◌≢◌, ◌⊎◌, inl, inr, ℕ, zero, suc, ◌<◌, ◌≤◌, ◌+◌, true, false, List, length, get_or, add-one, ℤ, pos, negsuc, ◌+ℤ◌, ◌-ℤ◌, ◌*ℤ◌, neg_ℤ, unsigned_abs, Option, Some, None, refl, sym, ap, ◌∙◌, subst, arith}
+use Rattle.std.proofs.Common.{◌≡◌, ◌≢◌, ◌⊎◌, inl, inr, ℕ, zero, suc, ◌<◌, ◌≤◌, ◌+◌, true, false, List, length, get_or, add-one, ℤ, pos, ◌+ℤ◌, ◌-ℤ◌, ◌*ℤ◌, neg_ℤ, unsigned_abs, Option, Some, None, refl, sym, ap, ◌∙◌, subst, arith}
 use Rattle.std.specs.Prelude.{◌↔◌, IfNone, IfSome, IsSomeAnd, slice_get}
 use Rattle.std.proofs.lemmas.Int.{ints}
 use Rattle.std.proofs.lemmas.Option.{get_or_from_slice_get, slice_get_within, slice_get-get_or}
@@ -8,8 +8,8 @@ use Rattle.game_rules.specs.Rays.{IsAt}
 use Rattle.game_rules.specs.declared.men.Man.{Man}
 use Rattle.game_rules.specs.declared.men.Ray.{Ray}
 use Rattle.game_rules.specs.declared.men.Square.{Square}
-use Rattle.game_laws.proofs.LineLemmas.{square_is}
-use Rattle.game_laws.proofs.RayLemmas.{true_or_not}
+use Rattle.game_laws.proofs.LineLemmas.{square_is, steps_distance}
+use Rattle.game_laws.proofs.Products.{negated_steps}
 use Rattle.chess_game.specs.Unsoundness.{StandsAt}
 use Rattle.chess_game.specs.Along.{IsIn, IsNearest, IsNearestMan, IsReach, IsStepwise, IsWithin, IsWithinAfter, StandsOff}
 use Rattle.chess_game.specs.Offsets.{IsTimes}
@@ -19,7 +19,7 @@ use Rattle.chess_game.specs.declared.way.Frame.{Frame}
 use Rattle.chess_game.specs.declared.way.Hit.{Hit}
 use Rattle.chess_game.specs.declared.way.Span.{Span}
 use Rattle.chess_game.proofs.UnsoundnessLemmas.{man_of_some, number_cases}
-use Rattle.chess_game.proofs.OffsetLemmas.{times_from, times_is, times_to}
+use Rattle.chess_game.proofs.OffsetLemmas.{times_from, times_to}
 
 -- no step
 pub level : (t : ℕ) (x : Axis) → x.step ≡ pos 0 → IsWithin x x.at t ↔ IsWithinAfter x t
@@ -36,16 +36,21 @@ rising t x e =
     let far : pos t *ℤ x.step ≡ pos t = rw e once in
     (λ h. rw far h, λ h. rw far at h)
 
--- steps of -1, seen from the other end
-pub falling : (t : ℕ) (x y : Axis) → x.step ≡ negsuc 0 → y.at ≡ neg_ℤ x.at → y.low ≡ neg_ℤ x.high
-    → y.high ≡ neg_ℤ x.low → IsWithin y (y.at +ℤ pos t) t ↔ IsWithinAfter x t
-falling t x y e at low high =
-    let once : pos t *ℤ negsuc 0 ≡ neg_ℤ (pos t) = grind (arith, ints) in
-    let far : pos t *ℤ x.step ≡ neg_ℤ (pos t) = rw e once in (
-      λ h. rw far (h.0, omega (arith, ints, h.1, h.2, at, low, high), omega (arith, ints, h.1, h.2, at, low, high)),
-      λ h.
-          let w = rw far at h in
-          (w.0, omega (arith, ints, w.1, w.2, at, low, high), omega (arith, ints, w.1, w.2, at, low, high)),
+-- steps of 2
+pub doubled : (t : ℕ) (x : Axis) → x.step ≡ pos 2 → IsWithin x (x.at +ℤ pos (t + t)) t ↔ IsWithinAfter x t
+doubled t x e =
+    let once : pos t *ℤ pos 2 ≡ pos (t + t) = omega (arith, ints) in
+    let far : pos t *ℤ x.step ≡ pos (t + t) = rw e once in
+    (λ h. rw far h, λ h. rw far at h)
+
+-- steps the other way, seen from the other end
+pub falling : (t : ℕ) (x y : Axis) → y.step ≡ neg_ℤ x.step → y.at ≡ neg_ℤ x.at → y.low ≡ neg_ℤ x.high
+    → y.high ≡ neg_ℤ x.low → IsWithinAfter y t ↔ IsWithinAfter x t
+falling t x y step at low high =
+    let turned : neg_ℤ x.step ≡ pos 0 -ℤ x.step = omega (arith, ints) in
+    let far : pos t *ℤ y.step ≡ pos 0 -ℤ (pos t *ℤ x.step) = ap (λ d. pos t *ℤ d) (step ∙ turned) ∙ negated_steps t x.step in (
+      λ h. (h.0, omega (arith, ints, h.1, h.2, at, low, high, far), omega (arith, ints, h.1, h.2, at, low, high, far)),
+      λ h. (h.0, omega (arith, ints, h.1, h.2, at, low, high, far), omega (arith, ints, h.1, h.2, at, low, high, far)),
     )
 
 -- the two axes of a ray tell of the square
@@ -61,9 +66,8 @@ axes_inside t a r f x y ax sx lx hx ay sy ly hy = (
 )
 
 pub direction_moves : (dx dy : ℤ) → IsDirection dx dy → (dx ≢ pos 0) ⊎ (dy ≢ pos 0)
-direction_moves (pos zero) dy h = inr (λ e. absurd (omega (arith, ap unsigned_abs e)))
-direction_moves (pos (suc n)) dy h = inl (λ e. cc)
-direction_moves (negsuc n) dy h = inl (λ e. cc)
+direction_moves dx dy (inl h) = inl (λ e. omega (arith, h.0, ap unsigned_abs e))
+direction_moves dx dy (inr h) = inr (λ e. omega (arith, h.0, ap unsigned_abs e))
 
 once : (d : ℤ) → pos 1 *ℤ d ≡ d
 once d = grind (arith, ints)
@@ -132,9 +136,6 @@ near_reach r a f t near = (
   λ h. (h.0.one near, h.1),
 )
 
-far_or_not : (r : Ray) → (r.far ≡ true) ⊎ (r.far ≡ false)
-far_or_not r = true_or_not r.far
-
 square_of_some : (o : Option Square) (P : Square → Type 0) → IsSomeAnd o P → (z : Square) × (o ≡ Some z) × P z
 square_of_some None P h = absurd h
 square_of_some (Some z) P h = (z, refl, h)
@@ -142,16 +143,7 @@ square_of_some (Some z) P h = (z, refl, h)
 -- a distance along a ray is the only one
 pub at_unique : {r : Ray} {a z : Square} {s t : ℕ} → IsStepwise r → IsAt r s a z → IsAt r t a z → s ≡ t
 at_unique {r} {a} {z} {s} {t} stepwise hs ht =
-    elim (far_or_not r) [
-      | inl far ↦
-          let offset_x : ℤ = z.x -ℤ a.x in
-          let offset_y : ℤ = z.y -ℤ a.y in
-          let some_s : 1 ≤ s = hs.begun in
-          let some_t : 1 ≤ t = ht.begun in
-          times_is (stepwise far) (times_to a z r.dx r.dy (z.x -ℤ a.x) (z.y -ℤ a.y) s refl refl (omega arith) hs.leads)
-          ∙ sym (times_is (stepwise far) (times_to a z r.dx r.dy (z.x -ℤ a.x) (z.y -ℤ a.y) t refl refl (omega arith) ht.leads))
-      | inr near ↦ hs.one near ∙ sym (ht.one near)
-    ]
+    sym (steps_distance a z r.dx r.dy stepwise s hs.leads) ∙ steps_distance a z r.dx r.dy stepwise t ht.leads
 
 -- so is the distance at which a man stands
 pub off_unique : (o : Option Square) (r : Ray) (a : Square) (s t : ℕ) → IsStepwise r → IsSomeAnd o (IsAt r s a) → IsSomeAnd o (IsAt r t a) → s ≡ t

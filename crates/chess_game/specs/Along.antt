@@ -1,5 +1,5 @@
 -- The men along a ray.
-use Rattle.std.specs.Prelude.{◌≡◌, ℕ, ◌<◌, ◌≤◌, ◌^◌, ℤ, pos, ◌+ℤ◌, ◌*ℤ◌, ◌≤ℤ◌, unsigned_abs, true, List, Option, Some, None, IsSomeAnd, slice_get}
+use Rattle.std.specs.Prelude.{◌≡◌, ℕ, ◌<◌, ◌≤◌, ◌^◌, ℤ, pos, ◌+ℤ◌, ◌*ℤ◌, ◌≤ℤ◌, unsigned_abs, List, Option, Some, None, IsSomeAnd, slice_get}
 use Rattle.game_rules.specs.Game.{IsDirection, IsLiveAnd, after_steps}
 use Rattle.game_rules.specs.Rays.{IsAt}
 use Rattle.game_rules.specs.declared.men.Man.{Man}
@@ -11,9 +11,9 @@ use Rattle.chess_game.specs.declared.way.Hit.{Hit}
 use Rattle.chess_game.specs.declared.way.Span.{Span}
 use Rattle.chess_game.specs.Way.{IsInside}
 
--- a far ray goes by steps of a king
+-- a ray goes by steps of a direction
 abbrev pub IsStepwise : Ray → Type 0
-IsStepwise r = r.far ≡ true → IsDirection r.dx r.dy
+IsStepwise r = IsDirection r.dx r.dy
 
 -- the man is live and stands so far along the ray
 abbrev pub StandsOff : Ray → Square → Man → ℕ → Type 0

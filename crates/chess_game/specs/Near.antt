@@ -7,10 +7,10 @@ use Rattle.game_rules.specs.Game.{Position, square_of}
 use Rattle.game_rules.specs.declared.men.Man.{Man}
 use Rattle.game_rules.specs.declared.men.Square.{Square}
 
--- a square no farther out than 2 ^ 66: those that an i64 can name, and those past them where a check may have to be
+-- a square no farther out than 2 ^ 68: those that an i64 can name, and those past them where a check may have to be
 -- answered
 abbrev pub IsNear : Square → Type 0
-IsNear z = (unsigned_abs z.x ≤ 2 ^ 66) × (unsigned_abs z.y ≤ 2 ^ 66)
+IsNear z = (unsigned_abs z.x ≤ 2 ^ 68) × (unsigned_abs z.y ≤ 2 ^ 68)
 
 -- a square that an i64 can name
 abbrev pub IsNarrow : Square → Type 0

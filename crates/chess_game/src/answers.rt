@@ -11,10 +11,10 @@ ghost use Rattle.chess_game.specs.Check.{AnswersAlong, AnswersAlongNth, IsCheckO
 
 use crate::attack::attacks;
 use crate::board::Board;
-use crate::geometry::{Offset, offset_between, steps_of};
+use crate::geometry::{Offset, offset_between, steps_of, unit_toward};
 use crate::moves::can_go;
 use crate::piece::Piece;
-use crate::rays::ray;
+use crate::rays::{MOST_RAYS, ray};
 use game_rules::{Kind, Ray, Side, Square};
 
 /// A check: a man at `from` bears on the king.
@@ -31,32 +31,25 @@ pub(crate) struct Standing {
     pub(crate) square: Square,
 }
 
-/// The most rays that a man has.
-const MOST_RAYS: u8 = 8;
-
-/// The step of a king from one square toward another.
+/// The step from one square toward another.
 fn step_toward(from: Square, to: Square) -> Offset
     requires from { IsClose from }
     requires to { IsClose to }
     ensures right { result.x ≡ toward_x from to }
     ensures up { result.y ≡ toward_y from to }
-    ensures small_x { unsigned_abs result.x ≤ 1 }
-    ensures small_y { unsigned_abs result.y ≤ 1 }
+    ensures small_x { unsigned_abs result.x ≤ 2 }
+    ensures small_y { unsigned_abs result.y ≤ 2 }
 {
-    let offset = offset_between(from, to);
-    Offset {
-        x: offset.x.signum(),
-        y: offset.y.signum(),
-    }
+    unit_toward(offset_between(from, to))
 }
 
-/// A number times a step of a king.
-#[tactic(auto, using(crate::proofs::AnswerBounds::unit_product))]
+/// A number times one coordinate of a direction.
+#[tactic(auto, using(crate::proofs::AnswerBounds::small_product))]
 fn scaled(number: i128, by: i128) -> i128
     requires number { unsigned_abs number ≤ 2 ^ 64 }
-    requires by { unsigned_abs by ≤ 1 }
+    requires by { unsigned_abs by ≤ 2 }
     ensures product { result ≡ number *ℤ by }
-    ensures bound { unsigned_abs result ≤ 2 ^ 64 }
+    ensures bound { unsigned_abs result ≤ 2 ^ 65 }
 {
     number * by
 }
@@ -65,10 +58,10 @@ fn scaled(number: i128, by: i128) -> i128
 fn off_by(offset: Offset, direction: Offset) -> u128
     requires x { unsigned_abs offset.x ≤ 2 ^ 64 }
     requires y { unsigned_abs offset.y ≤ 2 ^ 64 }
-    requires direction_x { unsigned_abs direction.x ≤ 1 }
-    requires direction_y { unsigned_abs direction.y ≤ 1 }
+    requires direction_x { unsigned_abs direction.x ≤ 2 }
+    requires direction_y { unsigned_abs direction.y ≤ 2 }
     ensures far { result ≡ unsigned_abs (cross offset.x offset.y direction.x direction.y) }
-    ensures bound { result ≤ 2 ^ 65 }
+    ensures bound { result ≤ 2 ^ 66 }
 {
     scaled(offset.x, direction.y).abs_diff(scaled(offset.y, direction.x))
 }
@@ -93,9 +86,9 @@ fn steps_to_answer(check: Check, from: Square, ray: Ray) -> u128
     requires from { IsClose from }
     requires ray { IsStepwise ray }
     ensures steps { result ≡ answer_steps ray from check.from check.king }
-    ensures bound { result ≤ 2 ^ 65 }
-    ensures across { result * unsigned_abs ray.dx ≤ 2 ^ 65 }
-    ensures along { result * unsigned_abs ray.dy ≤ 2 ^ 65 }
+    ensures bound { result ≤ 2 ^ 66 }
+    ensures across { result * unsigned_abs ray.dx ≤ 2 ^ 67 }
+    ensures along { result * unsigned_abs ray.dy ≤ 2 ^ 67 }
 {
     let direction = step_toward(check.from, check.king);
     let step = Offset {
@@ -112,10 +105,10 @@ fn steps_to_answer(check: Check, from: Square, ray: Ray) -> u128
 #[tactic(auto, using(crate::proofs::AnswerBounds::times_abs))]
 fn advanced(from: i128, steps: u128, step: i128) -> i128
     requires from { unsigned_abs from ≤ 2 ^ 63 }
-    requires steps { steps ≤ 2 ^ 65 }
-    requires way { steps * unsigned_abs step ≤ 2 ^ 65 }
+    requires steps { steps ≤ 2 ^ 66 }
+    requires way { steps * unsigned_abs step ≤ 2 ^ 67 }
     ensures number { result ≡ from +ℤ (pos steps *ℤ step) }
-    ensures near { unsigned_abs result ≤ 2 ^ 66 }
+    ensures near { unsigned_abs result ≤ 2 ^ 68 }
 {
     from + steps as i128 * step
 }
@@ -233,8 +226,9 @@ fn checker_square(board: &Board, king: Square) -> Option<Square>
     requires { IsNear king }
     ensures { MatchOption result (Attacked board.now (other board.now.turn) king → ⊥) (IsCheckedFrom board.now king) }
 {
+    let setup = board.setup();
     for man in board.men() {
-        if attacks(board, man, board.turn().other(), king) {
+        if attacks(&setup, man, board.turn().other(), king) {
             return man.square();
         }
     }

@@ -5,9 +5,9 @@ ghost use Rattle.game_rules.specs.Game.{Attacked, Bears, InCheck, other, IsBetwe
 ghost use Rattle.chess_game.specs.Check.{IsAttackedKing};
 ghost use Rattle.chess_game.specs.Near.{IsNear};
 
-use crate::board::Board;
-use crate::geometry::{is_between, is_slider, offset_between, reaches};
+use crate::geometry::{is_between, is_single, offset_between, reaches};
 use crate::piece::Piece;
+use crate::setup::Setup;
 use game_rules::{Kind, Side, Square};
 
 /// Whether the man is live and strictly between the two squares.
@@ -22,29 +22,31 @@ fn stands_between(man: &Piece, from: Square, to: Square) -> bool
     }
 }
 
-/// Whether no live man is strictly between the two squares.
-fn is_open(p: &Board, from: Square, to: Square) -> bool
+/// Whether no live man is strictly between the two squares. A single step leads over no square.
+fn is_open(p: &Setup, from: Square, to: Square) -> bool
     requires from { IsNear from }
     requires to { IsNear to }
     ensures { IsTrue result ↔ IsOpen p.now from to }
 {
+    if is_single(offset_between(from, to)) {
+        return true;
+    }
     !p.men().iter().any(|man| stands_between(man, from, to))
 }
 
 /// Whether the man is live and bears on the square.
-pub(crate) fn bears(p: &Board, man: &Piece, to: Square) -> bool
+pub(crate) fn bears(p: &Setup, man: &Piece, to: Square) -> bool
     requires { IsNear to }
     ensures { IsTrue result ↔ Bears p.now man.now to }
 {
     let Some(from) = man.square() else {
         return false;
     };
-    reaches(man.side(), man.kind(), offset_between(from, to))
-        && (!is_slider(man.kind()) || is_open(p, from, to))
+    reaches(man.side(), man.kind(), offset_between(from, to)) && is_open(p, from, to)
 }
 
 /// Whether the man is of the side, live, and bears on the square.
-pub(crate) fn attacks(p: &Board, man: &Piece, by: Side, square: Square) -> bool
+pub(crate) fn attacks(p: &Setup, man: &Piece, by: Side, square: Square) -> bool
     requires { IsNear square }
     ensures { IsTrue result ↔ ((man.now.side ≡ by) × Bears p.now man.now square) }
 {
@@ -52,7 +54,7 @@ pub(crate) fn attacks(p: &Board, man: &Piece, by: Side, square: Square) -> bool
 }
 
 /// Whether some live man of the side bears on the square.
-pub(crate) fn is_attacked(p: &Board, by: Side, square: Square) -> bool
+pub(crate) fn is_attacked(p: &Setup, by: Side, square: Square) -> bool
     requires { IsNear square }
     ensures { IsTrue result ↔ Attacked p.now by square }
 {
@@ -60,24 +62,24 @@ pub(crate) fn is_attacked(p: &Board, by: Side, square: Square) -> bool
 }
 
 /// Whether the man is the king of the side, and attacked by the other side.
-fn is_king_attacked(board: &Board, man: &Piece, side: Side) -> bool
-    ensures { IsTrue result ↔ IsAttackedKing board.now side man.now }
+fn is_king_attacked(setup: &Setup, man: &Piece, side: Side) -> bool
+    ensures { IsTrue result ↔ IsAttackedKing setup.now side man.now }
 {
     if man.side() != side || man.kind() != Kind::King {
         return false;
     }
     match man.square() {
         None => false,
-        Some(square) => is_attacked(board, side.other(), square),
+        Some(square) => is_attacked(setup, side.other(), square),
     }
 }
 
 /// Whether the king of the side is attacked by the other side.
-pub(crate) fn in_check(board: &Board, side: Side) -> bool
-    ensures { IsTrue result ↔ InCheck board.now side }
+pub(crate) fn in_check(setup: &Setup, side: Side) -> bool
+    ensures { IsTrue result ↔ InCheck setup.now side }
 {
-    board
+    setup
         .men()
         .iter()
-        .any(|man| is_king_attacked(board, man, side))
+        .any(|man| is_king_attacked(setup, man, side))
 }

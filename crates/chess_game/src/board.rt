@@ -1,4 +1,4 @@
-//! Positions whose men may stand past the squares that an i64 can name, as far out as 2^66.
+//! Positions whose men may stand past the squares that an i64 can name, as far out as 2^68.
 
 ghost use Rattle.std.specs.Int.{bit_at};
 ghost use Rattle.std.specs.Prelude.{◌≡◌, ◌≢◌, ◌↔◌, ◌+◌, ◌^◌, ◌<◌, ◌≤◌, ℕ, length, slice_get, slice_index_or, Some};
@@ -6,10 +6,12 @@ ghost use Rattle.game_rules.specs.Game.{IsAfter, IsLeftBy, IsMaskOf, man_at};
 ghost use Rattle.game_rules.specs.declared.men.Man.{Man};
 ghost use Rattle.chess_game.specs.Going.{AreLeftBut, GoesTo};
 ghost use Rattle.chess_game.specs.Mask.{IsMaskBelow};
+ghost use Rattle.chess_game.specs.Storage.{nobody};
 ghost use Rattle.chess_game.specs.Near.{IsNarrowMan, IsNarrowPosition, IsNear};
 ghost use Rattle.std.specs.List.{All};
 
 use crate::piece::Piece;
+use crate::setup::Setup;
 use game_rules::{Kind, Man, Place, Side, Square};
 use std::marker::Model;
 
@@ -45,12 +47,7 @@ impl Board {
         ensures position { result ≡ record { men = men.now; turn = turn } }
         ensures narrow { IsNarrowPosition result }
     {
-        let nobody = Piece::new(Man {
-            side: Side::White,
-            kind: Kind::King,
-            place: Place::Gone,
-        });
-        let mut all = [nobody; 8];
+        let mut all = [nobody(); 8];
         place(&mut all[..men.len()], men);
         Board {
             men: all,
@@ -79,6 +76,13 @@ impl Board {
         ensures few { length result.now ≤ 8 }
     {
         &self.men[..self.count]
+    }
+
+    /// The men and the side to move, lent.
+    pub(crate) fn setup(&self) -> Setup<'_>
+        ensures { result ≡ self.now }
+    {
+        Setup::new(self.men(), self.turn)
     }
 
     /// The man of this number, counted from 1.
@@ -113,6 +117,17 @@ impl Board {
             turn: self.turn.other(),
         }
     }
+}
+
+/// A captured man, who stands where there is none.
+pub(crate) fn nobody() -> Piece
+    ensures { result ≡ nobody }
+{
+    Piece::new(Man {
+        side: Side::White,
+        kind: Kind::King,
+        place: Place::Gone,
+    })
 }
 
 /// The mask with one more bit.
@@ -153,7 +168,7 @@ fn marked(men: &[Piece], index: usize, mask: u8) -> u8
 }
 
 /// Writes the men over the pieces.
-fn place(pieces: &mut [Piece], men: &[Man])
+pub(crate) fn place(pieces: &mut [Piece], men: &[Man])
     requires { length pieces.old ≡ length men.now }
     ensures men { pieces.new ≡ men.now }
     ensures narrow { All IsNarrowMan men.now }

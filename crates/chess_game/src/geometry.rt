@@ -1,8 +1,9 @@
 //! Offsets, and which of them a man reaches.
 
-ghost use Rattle.std.specs.Prelude.{◌≡◌, ◌↔◌, ◌≤◌, ◌-ℤ◌, ◌*ℤ◌, max, pos, unsigned_abs, IsTrue};
-ghost use Rattle.std.specs.Int.{int_signum};
-ghost use Rattle.game_rules.specs.Game.{HasReach, IsBetween, IsDiagonal, IsDirection, IsSlider, IsStraight};
+ghost use Rattle.std.specs.Prelude.{◌≡◌, ◌↔◌, ◌⊎◌, ◌≤◌, ◌+◌, ◌*◌, ◌-ℤ◌, ◌*ℤ◌, max, neg_ℤ, pos, unsigned_abs, IsTrue};
+ghost use Rattle.game_rules.specs.Game.{IsBetween, IsDiagonal, IsLeap, IsLeaps, IsStraight, forward};
+ghost use Rattle.game_laws.specs.Answer.{step_toward, steps_of};
+ghost use Rattle.game_laws.specs.Reach.{HasReach};
 ghost use Rattle.chess_game.specs.Near.{IsNear};
 ghost use Rattle.chess_game.specs.Offsets.{IsPart, IsTimes};
 
@@ -41,71 +42,165 @@ fn is_diagonal(dx: i128, dy: i128) -> bool
     dx != 0 && dx.unsigned_abs() == dy.unsigned_abs()
 }
 
+/// Whether `size` is twice `half`.
+fn is_double(size: u128, half: u128) -> bool
+    ensures { IsTrue result ↔ (size ≡ half + half) }
+{
+    size % 2 == 0 && size / 2 == half
+}
+
+/// Whether the offset is one leap of a knight.
+fn is_leap(dx: i128, dy: i128) -> bool
+    ensures { IsTrue result ↔ IsLeap dx dy }
+{
+    let across = dx.unsigned_abs();
+    let along = dy.unsigned_abs();
+    (across == 1 && along == 2) || (across == 2 && along == 1)
+}
+
+/// Whether the offset is some leaps of a knight in one direction.
+fn is_leaps(dx: i128, dy: i128) -> bool
+    ensures { IsTrue result ↔ IsLeaps dx dy }
+{
+    let across = dx.unsigned_abs();
+    let along = dy.unsigned_abs();
+    (across != 0 && is_double(along, across)) || (along != 0 && is_double(across, along))
+}
+
+/// Whether the offset is one step of a king.
+fn is_step(dx: i128, dy: i128) -> bool
+    ensures { IsTrue result ↔ (max (unsigned_abs dx) (unsigned_abs dy) ≡ 1) }
+{
+    dx.unsigned_abs().max(dy.unsigned_abs()) == 1
+}
+
+/// Whether the offset is one at which a pawn of the side captures.
+fn is_pawn_capture(side: Side, dx: i128, dy: i128) -> bool
+    ensures { IsTrue result ↔ ((unsigned_abs dx ≡ 1) × (dy ≡ forward side)) }
+{
+    let forward = match side {
+        Side::White => 1,
+        Side::Black => -1,
+    };
+    dx.unsigned_abs() == 1 && dy == forward
+}
+
 /// Whether a man bears on a square at this offset, if nothing is in between.
 pub(crate) fn reaches(side: Side, kind: Kind, offset: Offset) -> bool
     ensures { IsTrue result ↔ HasReach side kind offset.x offset.y }
 {
-    let across = offset.x.unsigned_abs();
-    let along = offset.y.unsigned_abs();
+    let Offset { x, y } = offset;
     match kind {
-        Kind::King => across.max(along) == 1,
-        Kind::Queen => is_straight(offset.x, offset.y) || is_diagonal(offset.x, offset.y),
-        Kind::Rook => is_straight(offset.x, offset.y),
-        Kind::Bishop => is_diagonal(offset.x, offset.y),
-        Kind::Knight => (across == 1 && along == 2) || (across == 2 && along == 1),
-        Kind::Pawn => {
-            let forward = match side {
-                Side::White => 1,
-                Side::Black => -1,
-            };
-            across == 1 && offset.y == forward
-        }
+        Kind::King => is_step(x, y),
+        Kind::Queen => is_straight(x, y) || is_diagonal(x, y),
+        Kind::Rook => is_straight(x, y),
+        Kind::Bishop => is_diagonal(x, y),
+        Kind::Knight => is_leap(x, y),
+        Kind::Pawn => is_pawn_capture(side, x, y),
+        Kind::Chancellor => is_straight(x, y) || is_leap(x, y),
+        Kind::Archbishop => is_diagonal(x, y) || is_leap(x, y),
+        Kind::Amazon => is_straight(x, y) || is_diagonal(x, y) || is_leap(x, y),
+        Kind::Nightrider => is_leaps(x, y),
     }
 }
 
-/// Whether a man in between stops a man of this kind.
-pub(crate) fn is_slider(kind: Kind) -> bool
-    ensures { IsTrue result ↔ IsSlider kind }
+/// Whether the offset goes one to a side, or one up or down: a single step, which leads over no square.
+pub(crate) fn is_single(offset: Offset) -> bool
+    ensures { IsTrue result ↔ ((unsigned_abs offset.x ≡ 1) ⊎ (unsigned_abs offset.y ≡ 1)) }
 {
-    matches!(kind, Kind::Queen | Kind::Rook | Kind::Bishop)
+    offset.x.unsigned_abs() == 1 || offset.y.unsigned_abs() == 1
+}
+
+/// Whether a size is so many times that of a unit, which is 1 or 2.
+fn is_scaled(size: u128, times: u128, unit: u128) -> bool
+    requires { (unit ≡ 1) ⊎ (unit ≡ 2) }
+    ensures { IsTrue result ↔ (size ≡ times * unit) }
+{
+    if unit == 1 {
+        size == times
+    } else {
+        is_double(size, times)
+    }
+}
+
+/// Whether the offset is so many times a unit, to the right or up.
+fn is_up(offset: i128, times: u128, unit: u128) -> bool
+    requires { (unit ≡ 1) ⊎ (unit ≡ 2) }
+    ensures { IsTrue result ↔ (offset ≡ pos (times * unit)) }
+{
+    offset >= 0 && is_scaled(offset.unsigned_abs(), times, unit)
+}
+
+/// Whether the offset is so many times a unit, to the left or down.
+fn is_down(offset: i128, times: u128, unit: u128) -> bool
+    requires { (unit ≡ 1) ⊎ (unit ≡ 2) }
+    ensures { IsTrue result ↔ (offset ≡ neg_ℤ (pos (times * unit))) }
+{
+    offset <= 0 && is_scaled(offset.unsigned_abs(), times, unit)
 }
 
 /// Whether `offset` is this many times `unit`.
 fn is_multiple(offset: i128, times: u128, unit: i128) -> bool
-    requires { unsigned_abs unit ≤ 1 }
+    requires { unsigned_abs unit ≤ 2 }
     ensures { IsTrue result ↔ (offset ≡ pos times *ℤ unit) }
 {
+    let size = unit.unsigned_abs();
     if unit == 0 {
         offset == 0
+    } else if unit > 0 {
+        is_up(offset, times, size)
     } else {
-        offset.unsigned_abs() == times && (offset == 0 || (offset < 0) == (unit < 0))
+        is_down(offset, times, size)
     }
 }
 
 /// Whether the offset is this many times `unit`, and not zero.
 pub(crate) fn is_times(offset: Offset, unit: Offset, times: u128) -> bool
-    requires x { unsigned_abs unit.x ≤ 1 }
-    requires y { unsigned_abs unit.y ≤ 1 }
+    requires x { unsigned_abs unit.x ≤ 2 }
+    requires y { unsigned_abs unit.y ≤ 2 }
     ensures { IsTrue result ↔ IsTimes unit.x unit.y offset.x offset.y times }
 {
     times > 0 && is_multiple(offset.x, times, unit.x) && is_multiple(offset.y, times, unit.y)
 }
 
-/// How many steps of a king an offset is, if nothing is in the way.
+/// How many equal steps of a direction an offset is, if it is some.
 pub(crate) fn steps_of(offset: Offset) -> u128
-    ensures { result ≡ max (unsigned_abs offset.x) (unsigned_abs offset.y) }
+    ensures { result ≡ steps_of (unsigned_abs offset.x) (unsigned_abs offset.y) }
 {
-    offset.x.unsigned_abs().max(offset.y.unsigned_abs())
+    let across = offset.x.unsigned_abs();
+    let along = offset.y.unsigned_abs();
+    if across == 0 {
+        return along;
+    }
+    if along == 0 {
+        return across;
+    }
+    across.min(along)
 }
 
-/// The first step of a king on the way to an offset.
-fn unit_toward(offset: Offset) -> Offset
-    ensures right { result.x ≡ int_signum offset.x }
-    ensures up { result.y ≡ int_signum offset.y }
+/// One coordinate of the first step on the way to an offset, by that coordinate and the other.
+fn unit_part(own: i128, other: i128) -> i128
+    ensures step { result ≡ step_toward own other }
+    ensures small { unsigned_abs result ≤ 2 }
+{
+    let sign = own.signum();
+    if is_double(own.unsigned_abs(), other.unsigned_abs()) {
+        sign + sign
+    } else {
+        sign
+    }
+}
+
+/// The first step on the way to an offset.
+pub(crate) fn unit_toward(offset: Offset) -> Offset
+    ensures right { result.x ≡ step_toward offset.x offset.y }
+    ensures up { result.y ≡ step_toward offset.y offset.x }
+    ensures small_x { unsigned_abs result.x ≤ 2 }
+    ensures small_y { unsigned_abs result.y ≤ 2 }
 {
     Offset {
-        x: offset.x.signum(),
-        y: offset.y.signum(),
+        x: unit_part(offset.x, offset.y),
+        y: unit_part(offset.y, offset.x),
     }
 }
 

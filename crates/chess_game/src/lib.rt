@@ -12,12 +12,15 @@ mod moves;
 mod piece;
 mod position;
 mod rays;
+mod setup;
 mod unsoundness;
 mod way;
 
 pub use game_rules::{Kind, Man, Place, Ray, Side};
 pub use moves::{Illegal, Move};
-pub use position::{Position, attacked, free_way, in_check, mated, soundness, try_move};
-pub use rays::ray;
+pub use position::{
+    MOST_CROWD, Position, attacked, crowd_soundness, free_way, in_check, mated, soundness, try_move,
+};
+pub use rays::{MOST_RAYS, ray, ray_count};
 pub use unsoundness::Unsound;
 pub use way::{Frame, Way};

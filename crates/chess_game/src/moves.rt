@@ -81,12 +81,13 @@ fn goes(board: &Board, man: &Piece, to: Square) -> bool
     requires { IsNear to }
     ensures { IsTrue result ↔ Goes board.now man.now to }
 {
+    let setup = board.setup();
     match man.kind() {
         Kind::Pawn => {
-            (bears(board, man, to) && holds(board, man.side().other(), to))
+            (bears(&setup, man, to) && holds(board, man.side().other(), to))
                 || (stands_on(man, square_behind(man.side(), to)) && is_empty(board, to))
         }
-        _ => bears(board, man, to),
+        _ => bears(&setup, man, to),
     }
 }
 
@@ -112,7 +113,7 @@ pub(crate) fn try_step(board: &Board, number: usize, to: Square) -> Result<Board
         return Err(Illegal::NotReached);
     }
     let after = board.after(number, to);
-    if in_check(&after, board.turn()) {
+    if in_check(&after.setup(), board.turn()) {
         return Err(Illegal::KingLeft);
     }
     Ok(after)

@@ -1,4 +1,4 @@
-//! Men on squares that may lie past those that an i64 can name, as far out as 2^66.
+//! Men on squares that may lie past those that an i64 can name, as far out as 2^68.
 
 ghost use Rattle.std.specs.Prelude.{◌≡◌, ◌≢◌, ◌↔◌, IfSome, IsTrue};
 ghost use Rattle.game_rules.specs.Game.{square_of};

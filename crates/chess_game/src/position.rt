@@ -6,13 +6,15 @@ ghost use Rattle.chess_game.specs.Unsoundness.{IsFirstUnsoundness, StandsAt};
 ghost use Rattle.chess_game.specs.Near.{IsNarrow};
 ghost use Rattle.chess_game.specs.Way.{IsFree, IsHit, IsRayOf};
 ghost use Rattle.chess_game.specs.Refusal.{IsRefusal};
+ghost use Rattle.chess_game.specs.declared.position.TheConstants.{MOST_CROWD};
 
 use crate::answers::is_mated;
 use crate::attack::{self, is_attacked};
-use crate::board::Board;
+use crate::board::{Board, nobody, place};
 use crate::moves::{Illegal, Move, try_step};
 use crate::piece::square_at;
-use crate::unsoundness::{Unsound, check_board};
+use crate::setup::Setup;
+use crate::unsoundness::{Unsound, check_setup};
 use crate::way::{Frame, Way, way_from};
 use game_rules::{Man, Place, Ray, Side, Square};
 use std::marker::Model;
@@ -87,7 +89,7 @@ impl Position {
 pub fn attacked(p: &Position, by: Side, x: i64, y: i64) -> bool
     ensures { IsTrue result ↔ Attacked p.now by (record { x = x; y = y }) }
 {
-    is_attacked(&p.board, by, square_at(x, y))
+    is_attacked(&p.board.setup(), by, square_at(x, y))
 }
 
 /// Whether the king of the side to move is attacked.
@@ -95,7 +97,7 @@ pub fn in_check(p: &Position) -> bool
     requires { Sound p.now }
     ensures { IsTrue result ↔ InCheck p.now p.now.turn }
 {
-    attack::in_check(&p.board, p.board.turn())
+    attack::in_check(&p.board.setup(), p.board.turn())
 }
 
 /// The position after the move, or the first reason why it is not legal.
@@ -123,13 +125,37 @@ pub fn mated(p: &Position) -> bool
     is_mated(&p.board)
 }
 
-/// Whether the position is sound; and if not, the first reason.
+/// Whether the setup is sound; and if not, the first reason.
 #[tactic(auto, using(crate::proofs::UnsoundnessLemmas::unsound_refuted))]
+fn soundness_of(setup: &Setup) -> Result<(), Unsound>
+    ensures ok { IsOk result ↔ Sound setup.now }
+    ensures reason { IfErr result (IsFirstUnsoundness setup.now) }
+{
+    check_setup(setup)
+}
+
+/// Whether the position is sound; and if not, the first reason.
 pub fn soundness(p: &Position) -> Result<(), Unsound>
     ensures ok { IsOk result ↔ Sound p.now }
     ensures reason { IfErr result (IsFirstUnsoundness p.now) }
 {
-    check_board(&p.board)
+    soundness_of(&p.board.setup())
+}
+
+/// The most men of a crowd: of a position that is more than a [`Position`] holds.
+pub const MOST_CROWD: usize = 32;
+
+/// Whether these men, numbered from 1, and this side to move are a sound position; and if not, the first reason. As
+/// [`soundness`], for a crowd.
+pub fn crowd_soundness(men: &[Man], turn: Side) -> Result<(), Unsound>
+    requires { length men.now ≤ MOST_CROWD }
+    ensures ok { IsOk result ↔ Sound (record { men = men.now; turn = turn }) }
+    ensures reason { IfErr result (IsFirstUnsoundness (record { men = men.now; turn = turn })) }
+{
+    let mut pieces = [nobody(); MOST_CROWD];
+    place(&mut pieces[..men.len()], men);
+    let setup = Setup::new(&pieces[..men.len()], turn);
+    soundness_of(&setup)
 }
 
 /// The square of a live man.

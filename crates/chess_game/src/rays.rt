@@ -1,11 +1,15 @@
 //! The table of rays.
 
-ghost use Rattle.std.specs.Prelude.{◌≡◌, map, slice_get};
+ghost use Rattle.std.specs.Prelude.{◌≡◌, ◌≤◌, false, length, map, slice_get, true};
 ghost use Rattle.std.specs.Option.{option_map};
 ghost use Rattle.game_rules.specs.Rays.{ray_of, rays_of};
-ghost use Rattle.chess_game.specs.RayTable.{is_far, ray_by};
+ghost use Rattle.chess_game.specs.RayTable.{far_rays, near_rays, ray_by};
+ghost use Rattle.game_rules.specs.declared.men.Side.{Side};
 
 use game_rules::{Kind, Ray, Side};
+
+/// The most rays of a kind.
+pub const MOST_RAYS: u8 = 16;
 
 const ALL_ROUND: [(i8, i8); 8] = [
     (1, 0),
@@ -37,44 +41,58 @@ const WHITE_PAWN: [(i8, i8); 3] = [(0, 1), (-1, 1), (1, 1)];
 
 const BLACK_PAWN: [(i8, i8); 3] = [(0, -1), (-1, -1), (1, -1)];
 
-/// Whether a man of this kind may repeat his step.
-fn is_far(kind: Kind) -> bool
-    ensures { result ≡ is_far kind }
+/// The steps of a kind's far rays, in order. They come before the others in the table.
+fn far_steps(kind: Kind) -> &'static [(i8, i8)]
+    ensures steps { (s : Side) → map (ray_by true) result.now ≡ far_rays kind s }
+    ensures few { length result.now ≤ 8 }
 {
     match kind {
-        Kind::Queen | Kind::Rook | Kind::Bishop => true,
-        Kind::King | Kind::Knight | Kind::Pawn => false,
+        Kind::Queen | Kind::Amazon => &ALL_ROUND,
+        Kind::Rook | Kind::Chancellor => &STRAIGHT,
+        Kind::Bishop | Kind::Archbishop => &DIAGONAL,
+        Kind::Nightrider => &KNIGHT,
+        Kind::King | Kind::Knight | Kind::Pawn => &[],
     }
 }
 
-/// The steps of the rays of a kind, in order.
-fn steps_of(kind: Kind, side: Side) -> &'static [(i8, i8)]
-    ensures { map (ray_by (is_far kind)) result.now ≡ rays_of kind side }
+/// The steps of a kind's rays of one step, in order.
+fn near_steps(kind: Kind, side: Side) -> &'static [(i8, i8)]
+    ensures steps { map (ray_by false) result.now ≡ near_rays kind side }
+    ensures few { length result.now ≤ 8 }
 {
     match kind {
-        Kind::King | Kind::Queen => &ALL_ROUND,
-        Kind::Rook => &STRAIGHT,
-        Kind::Bishop => &DIAGONAL,
-        Kind::Knight => &KNIGHT,
+        Kind::King => &ALL_ROUND,
+        Kind::Knight | Kind::Chancellor | Kind::Archbishop | Kind::Amazon => &KNIGHT,
         Kind::Pawn => match side {
             Side::White => &WHITE_PAWN,
             Side::Black => &BLACK_PAWN,
         },
+        Kind::Queen | Kind::Rook | Kind::Bishop | Kind::Nightrider => &[],
     }
 }
 
 /// The step at the index.
-fn nth(steps: &[(i8, i8)], index: u8) -> Option<(i8, i8)>
+fn nth(steps: &[(i8, i8)], index: usize) -> Option<(i8, i8)>
     ensures { result ≡ slice_get steps.now index }
 {
-    steps.get(index as usize).copied()
+    steps.get(index).copied()
 }
 
-/// The step of the ray of this number.
-fn nth_step(kind: Kind, side: Side, index: u8) -> Option<(i8, i8)>
-    ensures { option_map (ray_by (is_far kind)) result ≡ ray_of kind side index }
+/// The ray with the step at the index.
+fn nth_ray(steps: &[(i8, i8)], far: bool, index: usize) -> Option<Ray>
+    ensures { result ≡ option_map (ray_by far) (slice_get steps.now index) }
 {
-    nth(steps_of(kind, side), index)
+    let (dx, dy) = nth(steps, index)?;
+    Some(Ray { dx, dy, far })
+}
+
+/// How many rays a man has.
+pub fn ray_count(kind: Kind, side: Side) -> u8
+    ensures { result ≡ length (rays_of kind side) }
+{
+    let far = far_steps(kind);
+    let near = near_steps(kind, side);
+    (far.len() + near.len()) as u8
 }
 
 /// The ray of this number, counted from 0, of the men of a kind; of the sides' men only the pawns differ.
@@ -83,10 +101,11 @@ fn nth_step(kind: Kind, side: Side, index: u8) -> Option<(i8, i8)>
 pub fn ray(kind: Kind, side: Side, index: u8) -> Option<Ray>
     ensures { result ≡ ray_of kind side index }
 {
-    let (dx, dy) = nth_step(kind, side, index)?;
-    Some(Ray {
-        dx,
-        dy,
-        far: is_far(kind),
-    })
+    let index = index as usize;
+    let far = far_steps(kind);
+    if index < far.len() {
+        return nth_ray(far, true, index);
+    }
+    let near = near_steps(kind, side);
+    nth_ray(near, false, index - far.len())
 }

@@ -6,7 +6,7 @@ ghost use Rattle.game_rules.specs.declared.men.Square.{Square};
 ghost use Rattle.chess_game.specs.Unsoundness.{AreTwins, IsUnsoundFor, IsFirstUnsoundness, IsFirstPair, IsGoneAt, IsKingAt, StandsAt};
 
 use crate::attack::in_check;
-use crate::board::Board;
+use crate::setup::Setup;
 use game_rules::{Kind, Side, Square};
 
 /// Why a position is not sound, in the order in which reasons are told, White's before Black's.
@@ -25,26 +25,26 @@ pub enum Unsound {
 }
 
 /// Whether the man of this number is a king of the side.
-fn is_king_at(board: &Board, side: Side, number: usize) -> bool
-    ensures { IsTrue result ↔ IsKingAt board.now side number }
+fn is_king_at(setup: &Setup, side: Side, number: usize) -> bool
+    ensures { IsTrue result ↔ IsKingAt setup.now side number }
 {
-    match board.man(number) {
+    match setup.man(number) {
         Some(man) => man.side() == side && man.kind() == Kind::King,
         None => false,
     }
 }
 
 /// The first king of the side past a number.
-fn king_after(board: &Board, side: Side, number: usize) -> Option<usize>
+fn king_after(setup: &Setup, side: Side, number: usize) -> Option<usize>
     requires { number < 256 }
     ensures after { IfSome result (λ i. number < i) }
     ensures small { IfSome result (λ i. i < 256) }
-    ensures king { IfSome result (IsKingAt board.now side) }
-    ensures first { IfSome result (λ i. (k : ℕ) → number < k → k < i → IsKingAt board.now side k → ⊥) }
-    ensures none { IfNone result ((k : ℕ) → number < k → IsKingAt board.now side k → ⊥) }
+    ensures king { IfSome result (IsKingAt setup.now side) }
+    ensures first { IfSome result (λ i. (k : ℕ) → number < k → k < i → IsKingAt setup.now side k → ⊥) }
+    ensures none { IfNone result ((k : ℕ) → number < k → IsKingAt setup.now side k → ⊥) }
 {
-    for i in number + 1..board.count() as usize + 1 {
-        if is_king_at(board, side, i) {
+    for i in number + 1..setup.count() as usize + 1 {
+        if is_king_at(setup, side, i) {
             return Some(i);
         }
     }
@@ -52,26 +52,26 @@ fn king_after(board: &Board, side: Side, number: usize) -> Option<usize>
 }
 
 /// Whether the man of this number stands on the square.
-fn stands_at(board: &Board, number: usize, square: Square) -> bool
-    ensures { IsTrue result ↔ StandsAt board.now number square }
+fn stands_at(setup: &Setup, number: usize, square: Square) -> bool
+    ensures { IsTrue result ↔ StandsAt setup.now number square }
 {
-    match board.man(number) {
+    match setup.man(number) {
         Some(man) => man.square() == Some(square),
         None => false,
     }
 }
 
 /// The first man past a number who stands on the square.
-fn next_at(board: &Board, number: usize, square: Square) -> Option<usize>
+fn next_at(setup: &Setup, number: usize, square: Square) -> Option<usize>
     requires { number < 256 }
     ensures after { IfSome result (λ i. number < i) }
     ensures small { IfSome result (λ i. i < 256) }
-    ensures at { IfSome result (λ i. StandsAt board.now i square) }
-    ensures first { IfSome result (λ i. (k : ℕ) → number < k → k < i → StandsAt board.now k square → ⊥) }
-    ensures none { IfNone result ((k : ℕ) → number < k → StandsAt board.now k square → ⊥) }
+    ensures at { IfSome result (λ i. StandsAt setup.now i square) }
+    ensures first { IfSome result (λ i. (k : ℕ) → number < k → k < i → StandsAt setup.now k square → ⊥) }
+    ensures none { IfNone result ((k : ℕ) → number < k → StandsAt setup.now k square → ⊥) }
 {
-    for i in number + 1..board.count() as usize + 1 {
-        if stands_at(board, i, square) {
+    for i in number + 1..setup.count() as usize + 1 {
+        if stands_at(setup, i, square) {
             return Some(i);
         }
     }
@@ -79,42 +79,42 @@ fn next_at(board: &Board, number: usize, square: Square) -> Option<usize>
 }
 
 /// The square of the man of this number, if he is live.
-fn square_at_number(board: &Board, number: usize) -> Option<Square>
-    ensures at { IfSome result (StandsAt board.now number) }
-    ensures only { IfSome result (λ z. (w : Square) → StandsAt board.now number w → w ≡ z) }
-    ensures none { IfNone result ((w : Square) → StandsAt board.now number w → ⊥) }
+fn square_at_number(setup: &Setup, number: usize) -> Option<Square>
+    ensures at { IfSome result (StandsAt setup.now number) }
+    ensures only { IfSome result (λ z. (w : Square) → StandsAt setup.now number w → w ≡ z) }
+    ensures none { IfNone result ((w : Square) → StandsAt setup.now number w → ⊥) }
 {
-    match board.man(number) {
+    match setup.man(number) {
         Some(man) => man.square(),
         None => None,
     }
 }
 
 /// The first man past this one who stands on the square of this one.
-fn twin_of(board: &Board, number: usize) -> Option<usize>
+fn twin_of(setup: &Setup, number: usize) -> Option<usize>
     requires { number < 256 }
     ensures after { IfSome result (λ i. number < i) }
     ensures small { IfSome result (λ i. i < 256) }
-    ensures twin { IfSome result (AreTwins board.now number) }
-    ensures first { IfSome result (λ i. (k : ℕ) → number < k → k < i → AreTwins board.now number k → ⊥) }
-    ensures none { IfNone result ((k : ℕ) → number < k → AreTwins board.now number k → ⊥) }
+    ensures twin { IfSome result (AreTwins setup.now number) }
+    ensures first { IfSome result (λ i. (k : ℕ) → number < k → k < i → AreTwins setup.now number k → ⊥) }
+    ensures none { IfNone result ((k : ℕ) → number < k → AreTwins setup.now number k → ⊥) }
 {
-    match square_at_number(board, number) {
-        Some(square) => next_at(board, number, square),
+    match square_at_number(setup, number) {
+        Some(square) => next_at(setup, number, square),
         None => None,
     }
 }
 
 /// The first two men who stand on one square.
-fn first_twins(board: &Board) -> Option<(usize, usize)>
-    ensures some { IfSome result (λ pair. (pair.0 < pair.1) × AreTwins board.now pair.0 pair.1) }
+fn first_twins(setup: &Setup) -> Option<(usize, usize)>
+    ensures some { IfSome result (λ pair. (pair.0 < pair.1) × AreTwins setup.now pair.0 pair.1) }
     ensures small { IfSome result (λ pair. (pair.0 < 256) × (pair.1 < 256)) }
-    ensures first { IfSome result (λ pair. (i k : ℕ) → i < pair.0 → i < k → AreTwins board.now i k → ⊥) }
-    ensures second { IfSome result (λ pair. (k : ℕ) → pair.0 < k → k < pair.1 → AreTwins board.now pair.0 k → ⊥) }
-    ensures none { IfNone result ((i k : ℕ) → i < k → AreTwins board.now i k → ⊥) }
+    ensures first { IfSome result (λ pair. (i k : ℕ) → i < pair.0 → i < k → AreTwins setup.now i k → ⊥) }
+    ensures second { IfSome result (λ pair. (k : ℕ) → pair.0 < k → k < pair.1 → AreTwins setup.now pair.0 k → ⊥) }
+    ensures none { IfNone result ((i k : ℕ) → i < k → AreTwins setup.now i k → ⊥) }
 {
-    for i in 1..board.count() as usize + 1 {
-        if let Some(k) = twin_of(board, i) {
+    for i in 1..setup.count() as usize + 1 {
+        if let Some(k) = twin_of(setup, i) {
             return Some((i, k));
         }
     }
@@ -122,77 +122,77 @@ fn first_twins(board: &Board) -> Option<(usize, usize)>
 }
 
 /// Whether the man of this number is captured.
-fn is_gone(board: &Board, number: usize) -> bool
-    ensures { IsTrue result ↔ IsGoneAt board.now number }
+fn is_gone(setup: &Setup, number: usize) -> bool
+    ensures { IsTrue result ↔ IsGoneAt setup.now number }
 {
-    match board.man(number) {
+    match setup.man(number) {
         Some(man) => man.square().is_none(),
         None => false,
     }
 }
 
 /// The number of the first king of the side.
-fn first_king(board: &Board, side: Side) -> Result<usize, Unsound>
+fn first_king(setup: &Setup, side: Side) -> Result<usize, Unsound>
     ensures small { IfOk result (λ i. i < 256) }
-    ensures king { IfOk result (IsKingAt board.now side) }
-    ensures first { IfOk result (λ i. (k : ℕ) → k < i → IsKingAt board.now side k → ⊥) }
-    ensures none { IfErr result (λ e. (e ≡ Unsound.NoKing side) × IsUnsoundFor board.now (Unsound.NoKing side)) }
+    ensures king { IfOk result (IsKingAt setup.now side) }
+    ensures first { IfOk result (λ i. (k : ℕ) → k < i → IsKingAt setup.now side k → ⊥) }
+    ensures none { IfErr result (λ e. (e ≡ Unsound.NoKing side) × IsUnsoundFor setup.now (Unsound.NoKing side)) }
 {
-    match king_after(board, side, 0) {
+    match king_after(setup, side, 0) {
         Some(king) => Ok(king),
         None => Err(Unsound::NoKing(side)),
     }
 }
 
 /// Refuses a second king of the side.
-fn check_only(board: &Board, side: Side, king: usize) -> Result<(), Unsound>
+fn check_only(setup: &Setup, side: Side, king: usize) -> Result<(), Unsound>
     requires small { king < 256 }
-    requires king { IsKingAt board.now side king }
-    ensures only { OnOk result ((k : ℕ) → king < k → IsKingAt board.now side k → ⊥) }
-    ensures many { IfErr result (λ e. (e ≡ Unsound.ManyKings side) × IsUnsoundFor board.now (Unsound.ManyKings side)) }
+    requires king { IsKingAt setup.now side king }
+    ensures only { OnOk result ((k : ℕ) → king < k → IsKingAt setup.now side k → ⊥) }
+    ensures many { IfErr result (λ e. (e ≡ Unsound.ManyKings side) × IsUnsoundFor setup.now (Unsound.ManyKings side)) }
 {
-    match king_after(board, side, king) {
+    match king_after(setup, side, king) {
         Some(_) => Err(Unsound::ManyKings(side)),
         None => Ok(()),
     }
 }
 
 /// Refuses a captured king.
-fn check_live(board: &Board, side: Side, king: usize) -> Result<(), Unsound>
-    requires { IsKingAt board.now side king }
-    ensures live { OnOk result (IsGoneAt board.now king → ⊥) }
-    ensures gone { IfErr result (λ e. (e ≡ Unsound.KingGone side) × IsUnsoundFor board.now (Unsound.KingGone side)) }
+fn check_live(setup: &Setup, side: Side, king: usize) -> Result<(), Unsound>
+    requires { IsKingAt setup.now side king }
+    ensures live { OnOk result (IsGoneAt setup.now king → ⊥) }
+    ensures gone { IfErr result (λ e. (e ≡ Unsound.KingGone side) × IsUnsoundFor setup.now (Unsound.KingGone side)) }
 {
-    if is_gone(board, king) {
+    if is_gone(setup, king) {
         return Err(Unsound::KingGone(side));
     }
     Ok(())
 }
 
 /// Refuses two men on one square.
-fn check_apart(board: &Board) -> Result<(), Unsound>
-    ensures apart { OnOk result ((i k : ℕ) → i < k → AreTwins board.now i k → ⊥) }
-    ensures twins { IfErr result (IsFirstPair board.now) }
+fn check_apart(setup: &Setup) -> Result<(), Unsound>
+    ensures apart { OnOk result ((i k : ℕ) → i < k → AreTwins setup.now i k → ⊥) }
+    ensures twins { IfErr result (IsFirstPair setup.now) }
 {
-    match first_twins(board) {
+    match first_twins(setup) {
         Some((first, second)) => Err(Unsound::SameSquare(first as u8, second as u8)),
         None => Ok(()),
     }
 }
 
-/// Whether the board is sound; and if not, the first reason.
-pub(crate) fn check_board(board: &Board) -> Result<(), Unsound>
-    ensures ok { OnOk result (Sound board.now) }
-    ensures reason { IfErr result (IsFirstUnsoundness board.now) }
+/// Whether the position is sound; and if not, the first reason.
+pub(crate) fn check_setup(setup: &Setup) -> Result<(), Unsound>
+    ensures ok { OnOk result (Sound setup.now) }
+    ensures reason { IfErr result (IsFirstUnsoundness setup.now) }
 {
-    let white = first_king(board, Side::White)?;
-    let black = first_king(board, Side::Black)?;
-    check_only(board, Side::White, white)?;
-    check_only(board, Side::Black, black)?;
-    check_live(board, Side::White, white)?;
-    check_live(board, Side::Black, black)?;
-    check_apart(board)?;
-    if in_check(board, board.turn().other()) {
+    let white = first_king(setup, Side::White)?;
+    let black = first_king(setup, Side::Black)?;
+    check_only(setup, Side::White, white)?;
+    check_only(setup, Side::Black, black)?;
+    check_live(setup, Side::White, white)?;
+    check_live(setup, Side::Black, black)?;
+    check_apart(setup)?;
+    if in_check(setup, setup.turn().other()) {
         return Err(Unsound::OtherInCheck);
     }
     Ok(())

@@ -1,6 +1,6 @@
 //! How far a man may go along a ray.
 
-ghost use Rattle.std.specs.Prelude.{◌≡◌, ◌≢◌, ◌↔◌, ◌≤◌, ◌<◌, ◌≤ℤ◌, ◌+ℤ◌, ◌*ℤ◌, ◌+◌, ◌^◌, max, length, neg_ℤ, true, false, pos, unsigned_abs, ℕ, IfNone, IfSome, IsSomeAnd, IsTrue, slice_get};
+ghost use Rattle.std.specs.Prelude.{◌≡◌, ◌≢◌, ◌↔◌, ◌⊎◌, ◌≤◌, ◌<◌, ◌≤ℤ◌, ◌+ℤ◌, ◌*ℤ◌, ◌+◌, ◌^◌, max, length, neg_ℤ, true, false, pos, unsigned_abs, ℕ, IfNone, IfSome, IsSomeAnd, IsTrue, slice_get};
 ghost use Rattle.game_rules.specs.Game.{IsDirection, after_steps, man_at};
 ghost use Rattle.game_rules.specs.Rays.{IsAt};
 ghost use Rattle.chess_game.specs.Along.{IsIn, IsNearest, IsReach, IsShort, IsStepwise, IsWithin, IsWithinAfter, StandsOff};
@@ -81,15 +81,17 @@ pub(crate) struct Axis {
 
 /// The same axis, seen from its other end.
 fn mirrored(axis: Axis) -> Axis
-    requires { IsShort axis }
+    requires short { IsShort axis }
+    requires step { unsigned_abs axis.step ≤ 2 }
     ensures at { result.at ≡ neg_ℤ axis.at }
+    ensures step { result.step ≡ neg_ℤ axis.step }
     ensures low { result.low ≡ neg_ℤ axis.high }
     ensures high { result.high ≡ neg_ℤ axis.low }
     ensures short { IsShort result }
 {
     Axis {
         at: -axis.at,
-        step: 1,
+        step: -axis.step,
         low: -axis.high,
         high: -axis.low,
     }
@@ -113,6 +115,24 @@ fn rising_span(axis: Axis) -> Span
     Span { first, last }
 }
 
+/// The distances at which a coordinate that grows by steps of 2 may be.
+fn doubled_span(axis: Axis) -> Span
+    requires { IsShort axis }
+    ensures span { (t : ℕ) → IsIn result t ↔ IsWithin axis (axis.at +ℤ pos (t + t)) t }
+    ensures bound { result.last ≤ 2 ^ 64 }
+{
+    if axis.high <= axis.at {
+        return no_span();
+    }
+    let last = (axis.high - axis.at).unsigned_abs() / 2;
+    let first = if axis.low > axis.at {
+        ((axis.low - axis.at).unsigned_abs() + 1) / 2
+    } else {
+        1
+    };
+    Span { first, last }
+}
+
 /// The distances, no longer than `LIMIT`, at which a coordinate that does not change may be.
 fn level_span(axis: Axis) -> Span
     ensures span { (t : ℕ) → t ≤ 2 ^ 64 → IsIn result t ↔ IsWithin axis axis.at t }
@@ -127,21 +147,35 @@ fn level_span(axis: Axis) -> Span
     no_span()
 }
 
+/// The distances at which a coordinate that grows may be.
+fn growing_span(axis: Axis) -> Span
+    requires short { IsShort axis }
+    requires step { (axis.step ≡ pos 1) ⊎ (axis.step ≡ pos 2) }
+    ensures span { (t : ℕ) → IsIn result t ↔ IsWithinAfter axis t }
+    ensures bound { result.last ≤ 2 ^ 64 }
+{
+    if axis.step == 1 {
+        rising_span(axis)
+    } else {
+        doubled_span(axis)
+    }
+}
+
 /// The distances, no longer than `LIMIT`, at which the coordinate may be.
 fn axis_span(axis: Axis) -> Span
     requires short { IsShort axis }
-    requires step { unsigned_abs axis.step ≤ 1 }
+    requires step { unsigned_abs axis.step ≤ 2 }
     ensures span { (t : ℕ) → t ≤ 2 ^ 64 → IsIn result t ↔ IsWithinAfter axis t }
     ensures bound { result.last ≤ 2 ^ 64 }
     ensures all { axis.step ≢ pos 0 → (t : ℕ) → IsWithinAfter axis t → t ≤ 2 ^ 64 }
 {
     if axis.step == 0 {
         level_span(axis)
-    } else if axis.step == 1 {
-        rising_span(axis)
+    } else if axis.step > 0 {
+        growing_span(axis)
     } else {
         let axis = mirrored(axis);
-        rising_span(axis)
+        growing_span(axis)
     }
 }
 
@@ -190,7 +224,7 @@ fn overlap(x: Span, y: Span) -> Span
     }
 }
 
-/// The distances at which a ray of steps of a king leads to a square of the frame.
+/// The distances at which a far ray leads to a square of the frame.
 fn slide_span(from: Square, ray: Ray, frame: Frame) -> Span
     requires narrow { IsNarrow from }
     requires direction { IsDirection ray.dx ray.dy }
@@ -287,7 +321,7 @@ fn times_of(offset: Offset, unit: Offset) -> Option<u128>
     }
 }
 
-/// How far along a ray of steps of a king the square lies, if it does.
+/// How far along a far ray the square lies, if it does.
 fn slide_to(from: Square, to: Square, ray: Ray) -> Option<u128>
     requires from { IsNear from }
     requires to { IsNear to }

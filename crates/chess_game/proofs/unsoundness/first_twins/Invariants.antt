@@ -3,4 +3,4 @@ use Rattle.chess_game.specs.Unsoundness.{AreTwins}
 use Rattle.chess_game.proofs.unsoundness.first_twins.Given as goal
 
 abbrev pub invariant-loop-i : goal.invariant-loop-i
-invariant-loop-i l = (j k : ℕ) → j < l.i → j < k → AreTwins l.board j k → ⊥
+invariant-loop-i l = (j k : ℕ) → j < l.i → j < k → AreTwins l.setup j k → ⊥

@@ -3,4 +3,4 @@ use Rattle.chess_game.specs.Unsoundness.{IsKingAt}
 use Rattle.chess_game.proofs.unsoundness.king_after.Given as goal
 
 abbrev pub invariant-loop-i : goal.invariant-loop-i
-invariant-loop-i l = (k : ℕ) → l.number < k → k < l.i → IsKingAt l.board l.side k → ⊥
+invariant-loop-i l = (k : ℕ) → l.number < k → k < l.i → IsKingAt l.setup l.side k → ⊥
