@@ -27,14 +27,18 @@ pub record HasTwoFields (text : List ℕ) : Type 0 where
   pub is_second : IsField second
   pub joined : text ≡ two_fields first second
 
--- the text has the shape of two fields, and one of them is no number
-pub record HasNoNumber (text : List ℕ) : Type 0 where
+-- the text has the shape of two fields, and one of them is not as both should be
+pub record HasOtherField (Is : List ℕ → Type 0) (text : List ℕ) : Type 0 where
   pub first : List ℕ
   pub second : List ℕ
   pub is_first : IsField first
   pub is_second : IsField second
   pub joined : text ≡ two_fields first second
-  pub no_number : (IsNumber first → ⊥) ⊎ (IsNumber second → ⊥)
+  pub other : (Is first → ⊥) ⊎ (Is second → ⊥)
+
+-- the text has the shape of two fields, and one of them is no number
+abbrev pub HasNoNumber : List ℕ → Type 0
+HasNoNumber text = HasOtherField IsNumber text
 
 -- this is the first reason why the text is no pair of numbers
 abbrev pub IsPairRefusal : List ℕ → PairWhy → Type 0

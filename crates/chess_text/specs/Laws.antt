@@ -1,8 +1,12 @@
 -- The laws of the texts: each position, and each reply, has one spelling, and nothing else is read.
-use Rattle.std.specs.Prelude.{◌≡◌, ℕ, List}
+use Rattle.std.specs.Prelude.{◌≡◌, ◌↔◌, ℕ, List}
 use Rattle.game_rules.specs.Game.{Position}
+use Rattle.game_rules.specs.declared.men.Side.{Side}
 use Rattle.chess_game.specs.declared.moves.Move.{Move}
-use Rattle.chess_text.specs.PositionText.{Completes, Feeds, IsWritable, Turnout, position_lines}
+use Rattle.chess_text.specs.Draft.{Draft}
+use Rattle.chess_text.specs.Grammar.{positions}
+use Rattle.chess_text.specs.PositionText.{Completes, Feeds, IsDraftOf, IsWritable, Turnout, draft_of, text_lines}
+use Rattle.chess_text.specs.declared.grammar.Grammar.{Grammar}
 use Rattle.chess_text.specs.Replies.{IsReply, IsReplyRefusal, IsTypable, move_text}
 use Rattle.chess_text.specs.declared.reader.Stage.{Stage}
 use Rattle.chess_text.specs.declared.reader.Stage.TheVariants as stage
@@ -10,18 +14,23 @@ use Rattle.chess_text.specs.declared.replies.Typed.{Typed}
 use Rattle.chess_text.specs.declared.replies.Typed.TheVariants as typed
 use Rattle.chess_text.specs.declared.replies.MoveWhy.{MoveWhy}
 
--- lines that are read as a position are the lines of its text
+-- lines that are read as a text of a kind are the lines of what they say
 abbrev pub AcceptedIsSpelled : Type 0
 AcceptedIsSpelled =
-    (lines : List (List ℕ)) (p : Position) → Completes stage.Header lines p → (lines ≡ position_lines p) × IsWritable p
+    (g : Grammar) (lines : List (List ℕ)) (d : Draft) → Completes g stage.Header lines d → (lines ≡ text_lines g d) × IsDraftOf g d
 
--- the lines of the text of a position are read as that position
+-- the lines of what a text of a kind may say are read as that
 abbrev pub SpelledIsAccepted : Type 0
-SpelledIsAccepted = (p : Position) → IsWritable p → Completes stage.Header (position_lines p) p
+SpelledIsAccepted = (g : Grammar) (d : Draft) → IsDraftOf g d → Completes g stage.Header (text_lines g d) d
+
+-- a position text may say each position of two to eight men on squares of 64 bits, and no other
+abbrev pub PositionsAreWritable : Type 0
+PositionsAreWritable = (p : Position) (winner : Side) → IsDraftOf positions (draft_of p winner) ↔ IsWritable p
 
 -- a line makes one thing of a text
 abbrev pub FeedsOnce : Type 0
-FeedsOnce = (s : Stage) (line : List ℕ) (one other : Turnout) → Feeds s line one → Feeds s line other → one ≡ other
+FeedsOnce =
+    (g : Grammar) (s : Stage) (line : List ℕ) (one other : Turnout) → Feeds g s line one → Feeds g s line other → one ≡ other
 
 -- the spelling of a move is a reply, which is that move
 abbrev pub SpelledMoveIsReply : Type 0

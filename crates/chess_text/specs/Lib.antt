@@ -1,7 +1,9 @@
 pub use Rattle.line_fields.specs.Blanks
 pub use Rattle.line_fields.specs.Numbers
+pub mod Draft
 pub mod Fields
 pub mod Gathering
+pub mod Grammar
 pub mod Laws
 pub mod ManLine
 pub mod PositionText

@@ -1,4 +1,4 @@
--- The text of a position, line by line.
+-- The text of a position and of the side that is to mate, line by line.
 use Rattle.std.specs.Prelude.{◌≡◌, ◌≢◌, ◌⊎◌, ℕ, ◌<◌, ◌≤◌, List, [], ◌∷◌, ◌++◌, length, map, codes, Option, Some, None, Result, Ok, Err, FitsSigned}
 use Rattle.std.specs.List.{All, flat_map}
 use Rattle.std.specs.Int.{w64}
@@ -7,90 +7,96 @@ use Rattle.game_rules.specs.declared.men.Side.{Side}
 use Rattle.game_rules.specs.declared.men.Place.{Place}
 use Rattle.game_rules.specs.declared.men.Place.TheVariants.{Gone, At}
 use Rattle.game_rules.specs.declared.men.Man.{Man}
-use Rattle.chess_text.specs.ManLine.{man_text, turn_text, IsManRefusal}
+use Rattle.chess_text.specs.Draft.{Draft, nobody, with_man}
+use Rattle.chess_text.specs.Grammar.{IsPlaceOf, positions}
+use Rattle.chess_text.specs.ManLine.{man_text, turn_text, IsManLine, IsManRefusal}
+use Rattle.chess_text.specs.declared.grammar.Grammar.{Grammar}
+use Rattle.chess_text.specs.declared.grammar.TheConstants.{MOST_MEN}
 use Rattle.chess_text.specs.declared.man_line.TextWhy.{TextWhy}
 use Rattle.chess_text.specs.declared.man_line.TextWhy.TheVariants as why
 use Rattle.chess_text.specs.declared.reader.Stage.{Stage}
 use Rattle.chess_text.specs.declared.reader.Stage.TheVariants as stage
 
-abbrev pub header : List ℕ
-header = codes "infinite chess 1"
-
 abbrev pub end_line : List ℕ
 end_line = codes "end"
 
--- the greatest number of men in a text
-abbrev pub most_men : ℕ
-most_men = 5
+-- the lines of a text, in order
+abbrev pub text_lines : Grammar → Draft → List (List ℕ)
+text_lines g d = g.header ∷ turn_text d.turn d.winner ∷ (map man_text d.men ++ end_line ∷ [])
 
--- the lines of the text of a position, in order
-abbrev pub position_lines : Position → List (List ℕ)
-position_lines p = header ∷ turn_text p.turn ∷ (map man_text p.men ++ end_line ∷ [])
+-- a position, and the side that is to mate
+abbrev pub draft_of : Position → Side → Draft
+draft_of p winner = record { men = p.men; turn = p.turn; winner = winner }
+
+-- the position that a text says
+abbrev pub drafted : Draft → Position
+drafted d = record { men = d.men; turn = d.turn }
+
+-- the lines of the text of a position and a winner, in order
+abbrev pub position_lines : Position → Side → List (List ℕ)
+position_lines p winner = text_lines positions (draft_of p winner)
 
 -- each line with its LF
 abbrev pub text_of_lines : List (List ℕ) → List ℕ
 text_of_lines lines = flat_map (λ line. line ++ 10 ∷ []) lines
 
-abbrev pub position_text : Position → List ℕ
-position_text p = text_of_lines (position_lines p)
+abbrev pub position_text : Position → Side → List ℕ
+position_text p winner = text_of_lines (position_lines p winner)
 
 -- coordinates are numbers of 64 bits
 abbrev pub FitsPlace : Place → Type 0
 FitsPlace Gone = Unit {0}
 FitsPlace (At x y) = FitsSigned w64 x × FitsSigned w64 y
 
--- the line is that of the man
-pub record IsManLine (line : List ℕ) (man : Man) : Type 0 where
-  pub spelled : line ≡ man_text man
-  pub fits : FitsPlace man.place
-
 -- a position that a text may have
 pub record IsWritable (p : Position) : Type 0 where
   pub low : 2 ≤ length p.men
-  pub high : length p.men ≤ most_men
+  pub high : length p.men ≤ MOST_MEN
   pub fit : All (λ m. FitsPlace m.place) p.men
+
+-- what a text of a kind may say
+pub record IsDraftOf (g : Grammar) (d : Draft) : Type 0 where
+  pub low : 2 ≤ length d.men
+  pub high : length d.men ≤ g.most_men
+  pub fit : All (λ m. IsPlaceOf g m.place) d.men
 
 -- What a line makes of a text: it goes on at a stage, or the text is complete, or the line may not stand there.
 pub data Turnout : Type 0 where
   more : Stage → Turnout
-  complete : Position → Turnout
+  complete : Draft → Turnout
   wrong : TextWhy → Turnout
 
 -- the turnout of an answer, and the stage after it
-abbrev pub turnout : Result (Option Position) TextWhy → Stage → Turnout
+abbrev pub turnout : Result (Option Draft) TextWhy → Stage → Turnout
 turnout (Ok None) next = more next
-turnout (Ok (Some p)) next = complete p
+turnout (Ok (Some d)) next = complete d
 turnout (Err reason) next = wrong reason
 
--- the position so far, with one more man
-abbrev pub with_man : Position → Man → Position
-with_man p m = record { men = p.men ++ m ∷ []; turn = p.turn }
+-- what a line other than the end makes of a text so far, which has fewer men than it may have
+abbrev pub FeedsMan : Grammar → Draft → List ℕ → Turnout → Type 0
+FeedsMan g d line turnout =
+    ((m : Man) × IsManLine g line m × (turnout ≡ more (stage.Men (with_man d m))))
+    ⊎ ((reason : TextWhy) × IsManRefusal g line reason × (turnout ≡ wrong reason))
 
--- what a line other than the end makes of the position so far, which has fewer men than a text may have
-abbrev pub FeedsMan : Position → List ℕ → Turnout → Type 0
-FeedsMan p line turnout =
-    ((m : Man) × IsManLine line m × (turnout ≡ more (stage.Men (with_man p m))))
-    ⊎ ((reason : TextWhy) × IsManRefusal line reason × (turnout ≡ wrong reason))
-
--- what a line makes of the position so far
-abbrev pub FeedsMen : Position → List ℕ → Turnout → Type 0
-FeedsMen p line turnout =
-    ((length p.men < 2) × (line ≡ end_line) × (turnout ≡ wrong why.TooFew))
-    ⊎ ((2 ≤ length p.men) × (line ≡ end_line) × (turnout ≡ complete p))
-    ⊎ ((length p.men ≡ most_men) × (line ≢ end_line) × (turnout ≡ wrong why.TooMany))
-    ⊎ ((length p.men < most_men) × (line ≢ end_line) × FeedsMan p line turnout)
+-- what a line makes of a text so far
+abbrev pub FeedsMen : Grammar → Draft → List ℕ → Turnout → Type 0
+FeedsMen g d line turnout =
+    ((length d.men < 2) × (line ≡ end_line) × (turnout ≡ wrong why.TooFew))
+    ⊎ ((2 ≤ length d.men) × (line ≡ end_line) × (turnout ≡ complete d))
+    ⊎ ((length d.men ≡ g.most_men) × (line ≢ end_line) × (turnout ≡ wrong why.TooMany))
+    ⊎ ((length d.men < g.most_men) × (line ≢ end_line) × FeedsMan g d line turnout)
 
 -- what a line makes of a text at a stage
-abbrev pub Feeds : Stage → List ℕ → Turnout → Type 0
-Feeds stage.Header line turnout =
-    ((line ≡ header) × (turnout ≡ more stage.Turn)) ⊎ ((line ≢ header) × (turnout ≡ wrong why.Header))
-Feeds stage.Turn line turnout =
-    ((s : Side) × (line ≡ turn_text s) × (turnout ≡ more (stage.Men (record { men = []; turn = s }))))
-    ⊎ (((s : Side) → line ≢ turn_text s) × (turnout ≡ wrong why.Turn))
-Feeds (stage.Men p) line turnout = FeedsMen p line turnout
+abbrev pub Feeds : Grammar → Stage → List ℕ → Turnout → Type 0
+Feeds g stage.Header line turnout =
+    ((line ≡ g.header) × (turnout ≡ more stage.Turn)) ⊎ ((line ≢ g.header) × (turnout ≡ wrong why.Header))
+Feeds g stage.Turn line turnout =
+    ((turn : Side) × (winner : Side) × (line ≡ turn_text turn winner) × (turnout ≡ more (stage.Men (nobody turn winner))))
+    ⊎ (((turn winner : Side) → line ≢ turn_text turn winner) × (turnout ≡ wrong why.Turn))
+Feeds g (stage.Men d) line turnout = FeedsMen g d line turnout
 
 -- the lines make a complete text, the last of them its end
-abbrev pub Completes : Stage → List (List ℕ) → Position → Type 0
-Completes s [] p = ⊥
-Completes s (line ∷ []) p = Feeds s line (complete p)
-Completes s (line ∷ lines) p = (next : Stage) × Feeds s line (more next) × Completes next lines p
+abbrev pub Completes : Grammar → Stage → List (List ℕ) → Draft → Type 0
+Completes g s [] d = ⊥
+Completes g s (line ∷ []) d = Feeds g s line (complete d)
+Completes g s (line ∷ lines) d = (next : Stage) × Feeds g s line (more next) × Completes g next lines d

@@ -1,6 +1,7 @@
 //! Pairs of numbers in lines.
 
-ghost use Rattle.std.specs.Prelude.{◌≡◌, ◌↔◌, IfSome, IfNone, IfOk, IfErr, IsTrue};
+ghost use Rattle.std.specs.Prelude.{◌≡◌, ◌↔◌, FitsSigned, IfSome, IfNone, IfOk, IfErr, IsTrue};
+ghost use Rattle.std.specs.Int.{w64};
 ghost use Rattle.chess_text.specs.Fields.{IsField, IsPairRefusal, HasTwoFields, pair_text, two_fields};
 
 use line_fields::{read_number, split_at_blank};
@@ -41,6 +42,7 @@ fn split_fields(text: &[u8]) -> Option<(&[u8], &[u8])>
 /// The two numbers that the text spells, with a blank between them.
 pub fn read_pair(text: &[u8]) -> Result<(i64, i64), PairWhy>
     ensures pair { IfOk result (λ p. text.now ≡ pair_text p.0 p.1) }
+    ensures fits { IfOk result (λ p. FitsSigned w64 p.0 × FitsSigned w64 p.1) }
     ensures refused { IfErr result (IsPairRefusal text.now) }
 {
     let Some((first, second)) = split_fields(text) else {

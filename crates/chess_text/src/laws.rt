@@ -1,15 +1,20 @@
 //! Laws of the texts, each the contract of a function that does nothing.
 
-ghost use Rattle.chess_text.specs.Laws.{AcceptedIsSpelled, FeedsOnce, ReplyOnce, SpelledIsAccepted, SpelledMoveIsReply};
+ghost use Rattle.chess_text.specs.Laws.{AcceptedIsSpelled, FeedsOnce, PositionsAreWritable, ReplyOnce, SpelledIsAccepted, SpelledMoveIsReply};
 
-/// Lines that are read as a position are the lines of its text.
+/// Lines that are read as a text are the lines of what they say.
 pub fn accepted_text_is_spelled()
     ensures { AcceptedIsSpelled }
 {}
 
-/// The lines of the text of a position are read as that position.
+/// The lines of what a text may say are read as that.
 pub fn spelled_text_is_accepted()
     ensures { SpelledIsAccepted }
+{}
+
+/// A position text may say each position of two to eight men on squares of 64 bits, with either side to mate, and no other.
+pub fn positions_are_writable()
+    ensures { PositionsAreWritable }
 {}
 
 /// A line makes one thing of a text: it goes on, or is whole, or the line is refused for one reason.

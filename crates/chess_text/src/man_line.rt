@@ -1,12 +1,12 @@
-//! The lines of men and of the side to move.
+//! The lines of men, and of the side to move and the side that is to mate.
 
 ghost use Rattle.std.specs.Prelude.{◌≡◌, ◌≢◌, IfOk, IfErr, OnErr, IfSome, IfNone, ℕ};
-ghost use Rattle.chess_text.specs.ManLine.{turn_text, place_text, side_letter, kind_letter, IsManRefusal, IsPlaceRefusal};
-ghost use Rattle.chess_text.specs.PositionText.{IsManLine};
+ghost use Rattle.chess_text.specs.ManLine.{turn_text, side_letter, kind_letter, IsManLine, IsManRefusal, IsPlaceText, IsPlaceRefusal};
 ghost use Rattle.game_rules.specs.declared.men.Side.{Side};
 ghost use Rattle.game_rules.specs.declared.men.Kind.{Kind};
 
 use crate::fields::{PairWhy, read_pair};
+use crate::grammar::Grammar;
 use chess_game::{Kind, Man, Place, Side};
 
 /// Why a line may not stand where it stands in a position text.
@@ -14,11 +14,11 @@ use chess_game::{Kind, Man, Place, Side};
 pub enum TextWhy {
     /// The first line is not the header.
     Header,
-    /// The second line does not name the side to move.
+    /// The second line does not name the side to move, and no winner but Black.
     Turn,
     /// A line has none of the shapes of a man line.
     ManLine,
-    /// A coordinate is no number of 64 bits.
+    /// A coordinate is no number of 64 bits, or farther from 0 than the text may name.
     Number,
     /// The text ends with fewer than two men.
     TooFew,
@@ -50,26 +50,34 @@ fn kind_of(letter: u8) -> Option<Kind>
         b'B' => Some(Kind::Bishop),
         b'N' => Some(Kind::Knight),
         b'P' => Some(Kind::Pawn),
+        b'C' => Some(Kind::Chancellor),
+        b'A' => Some(Kind::Archbishop),
+        b'Z' => Some(Kind::Amazon),
+        b'H' => Some(Kind::Nightrider),
         _ => None,
     }
 }
 
 /// The place behind the two letters of a man line.
-fn read_place(text: &[u8]) -> Result<Place, PairWhy>
-    ensures place { IfOk result (λ p. text.now ≡ place_text p) }
-    ensures refused { IfErr result (IsPlaceRefusal text.now) }
+fn read_place(grammar: &Grammar, text: &[u8]) -> Result<Place, PairWhy>
+    ensures place { IfOk result (IsPlaceText grammar.now text.now) }
+    ensures refused { IfErr result (IsPlaceRefusal grammar.now text.now) }
 {
     if text == b"gone".as_slice() {
         return Ok(Place::Gone);
     }
     let (x, y) = read_pair(text)?;
-    Ok(Place::At { x, y })
+    if grammar.takes(x) && grammar.takes(y) {
+        Ok(Place::At { x, y })
+    } else {
+        Err(PairWhy::Number)
+    }
 }
 
 /// Reads a man line: a letter for the side, one for the kind, and two coordinates or the word `gone`.
-pub fn read_man_line(line: &[u8]) -> Result<Man, TextWhy>
-    ensures man { IfOk result (IsManLine line.now) }
-    ensures refused { IfErr result (IsManRefusal line.now) }
+pub fn read_man_line(grammar: &Grammar, line: &[u8]) -> Result<Man, TextWhy>
+    ensures man { IfOk result (IsManLine grammar.now line.now) }
+    ensures refused { IfErr result (IsManRefusal grammar.now line.now) }
 {
     let [side, b' ', kind, b' ', rest @ ..] = line else {
         return Err(TextWhy::ManLine);
@@ -77,23 +85,27 @@ pub fn read_man_line(line: &[u8]) -> Result<Man, TextWhy>
     let (Some(side), Some(kind)) = (side_of(*side), kind_of(*kind)) else {
         return Err(TextWhy::ManLine);
     };
-    match read_place(rest) {
+    match read_place(grammar, rest) {
         Ok(place) => Ok(Man { side, kind, place }),
         Err(PairWhy::Shape) => Err(TextWhy::ManLine),
         Err(PairWhy::Number) => Err(TextWhy::Number),
     }
 }
 
-/// Reads the line of the side to move.
-pub fn read_turn_line(line: &[u8]) -> Result<Side, TextWhy>
-    ensures side { IfOk result (λ s. line.now ≡ turn_text s) }
+/// Reads the second line of a text: the side to move, and the side that is to mate, which is White where the line names none.
+pub fn read_turn_line(line: &[u8]) -> Result<(Side, Side), TextWhy>
+    ensures sides { IfOk result (λ sides. line.now ≡ turn_text sides.0 sides.1) }
     ensures refused { IfErr result (λ why. why ≡ TextWhy.Turn) }
-    ensures no_side { OnErr result ((s : Side) → line.now ≢ turn_text s) }
+    ensures no_sides { OnErr result ((turn winner : Side) → line.now ≢ turn_text turn winner) }
 {
     if line == b"turn W".as_slice() {
-        Ok(Side::White)
+        Ok((Side::White, Side::White))
     } else if line == b"turn B".as_slice() {
-        Ok(Side::Black)
+        Ok((Side::Black, Side::White))
+    } else if line == b"turn W for B".as_slice() {
+        Ok((Side::White, Side::Black))
+    } else if line == b"turn B for B".as_slice() {
+        Ok((Side::Black, Side::Black))
     } else {
         Err(TextWhy::Turn)
     }

@@ -1,12 +1,12 @@
-//! Reading a position text, a line at a time.
+//! Reading a text, a line at a time.
 
-ghost use Rattle.std.specs.Prelude.{◌≡◌, ◌↔◌, ◌+◌, ◌<◌, ◌≤◌, [], ◌∷◌, ◌++◌, length, take, IfSome, IfNone, None, Some, IsTrue};
-ghost use Rattle.chess_text.specs.PositionText.{Feeds, FeedsMen, turnout, with_man};
-ghost use Rattle.chess_text.specs.Progress.{ReadsLine, fed_of, line_due, position_of};
+ghost use Rattle.std.specs.Prelude.{◌≡◌, ◌≢◌, ◌≤◌, length, IfSome, IfNone, None, Some};
+ghost use Rattle.chess_text.specs.Progress.{HasRoom, IsFed, IsWhole, Reads, answer_of, begun, line_due};
+ghost use Rattle.chess_text.specs.declared.draft.TheConstants.{MOST_READ};
 
+use crate::draft::Draft;
+use crate::grammar::Grammar;
 use crate::man_line::{TextWhy, read_man_line, read_turn_line};
-use chess_game::{Kind, Man, Place, Position, Side};
-use limits::MOST_MEN;
 use std::marker::Model;
 
 /// A line that may not stand where it stands, counted from 1, and why.
@@ -17,85 +17,19 @@ pub struct TextError {
 }
 
 /// What a line makes of a text.
-#[derive(Clone, Copy)]
-pub enum Fed {
+#[derive(Clone, Copy, PartialEq, Eq)]
+pub enum Step {
     /// The text goes on.
     More,
-    /// The line was the last of the text of this position.
-    Whole(Position),
+    /// The line was its last.
+    Whole,
 }
 
-impl Fed {
-    /// The position of a whole text.
-    pub fn position(self) -> Option<Position>
-        ensures { result ≡ position_of self }
-    {
-        match self {
-            Fed::More => None,
-            Fed::Whole(position) => Some(position),
-        }
-    }
-}
-
-/// The side to move, and the men so far.
-#[derive(Drop)]
-pub struct Gathered {
-    turn: Side,
-    men: [Man; MOST_MEN],
-    count: usize,
-}
-
-impl Model for Gathered {
-    ghost use Rattle.std.specs.Prelude.{take};
-    ghost use Rattle.game_rules.specs.Game.{Position};
-
-    ghost Value = { Position };
-
-    ghost view = { λ g. record { men = take g.count g.men; turn = g.turn } };
-
-    ghost use Rattle.chess_text.specs.Gathering.{IsTidy};
-
-    ghost invariant = { IsTidy };
-}
-
-impl Gathered {
-    fn new(turn: Side) -> Self
-        ensures { result ≡ record { men = []; turn = turn } }
-    {
-        let nobody = Man {
-            side: Side::White,
-            kind: Kind::King,
-            place: Place::Gone,
-        };
-        Gathered {
-            turn,
-            men: [nobody; MOST_MEN],
-            count: 0,
-        }
-    }
-
-    fn push(&mut self, man: Man)
-        requires { length self.old.men < 5 }
-        ensures { self.new ≡ with_man self.old man }
-    {
-        self.men[self.count] = man;
-        self.count += 1;
-    }
-
-    fn men(&self) -> &[Man]
-        ensures men { result.now ≡ self.now.men }
-        ensures most { length result.now ≤ 5 }
-    {
-        &self.men[..self.count]
-    }
-
-    /// The position with these men, if there are enough of them.
-    fn position(&self) -> Option<Position>
-        ensures some { IfSome result (λ p. (p ≡ self.now) × (2 ≤ length self.now.men)) }
-        ensures none { IfNone result (length self.now.men < 2) }
-    {
-        Position::new(self.men(), self.turn)
-    }
+/// How a text has ended.
+#[derive(Clone, Copy)]
+pub enum End {
+    Whole,
+    Refused(TextError),
 }
 
 /// Where a text stands: which line is due.
@@ -104,71 +38,97 @@ pub enum Stage {
     Header,
     Turn,
     /// A man, or the end.
-    Men(Gathered),
+    Men(Draft),
 }
 
-/// Takes a line behind the first two, and answers the position where it was the last.
-fn feed_men(men: &mut Gathered, line: &[u8]) -> Result<Option<Position>, TextWhy>
-    ensures { FeedsMen men.old line.now (turnout result (Stage.Men men.new)) }
+impl Stage {
+    /// The number of the line that is due, counted from 1.
+    fn number(&self) -> u32
+        ensures { result ≡ line_due self.now }
+    {
+        match self {
+            Stage::Header => 1,
+            Stage::Turn => 2,
+            Stage::Men(draft) => draft.men().len() as u32 + 3,
+        }
+    }
+}
+
+/// Takes a line behind the first two.
+fn feed_men(grammar: &Grammar, draft: &mut Draft, line: &[u8]) -> Result<Step, TextWhy>
+    requires few { grammar.now.most_men ≤ MOST_READ }
+    requires room { length draft.old.men ≤ grammar.now.most_men }
+    ensures fed { IsFed grammar.now (Stage.Men draft.old) line.now result (Stage.Men draft.new) }
+    ensures room { length draft.new.men ≤ grammar.now.most_men }
 {
+    let count = draft.men().len();
     if line == b"end".as_slice() {
-        return match men.position() {
-            Some(position) => Ok(Some(position)),
-            None => Err(TextWhy::TooFew),
+        return if count < 2 {
+            Err(TextWhy::TooFew)
+        } else {
+            Ok(Step::Whole)
         };
     }
-    if men.men().len() == MOST_MEN {
+    if count == grammar.most_men {
         return Err(TextWhy::TooMany);
     }
-    let man = read_man_line(line)?;
-    men.push(man);
-    Ok(None)
+    let man = read_man_line(grammar, line)?;
+    draft.push(man);
+    Ok(Step::More)
 }
 
-/// Takes a line of a text, and answers the position where it was the last.
-fn feed(stage: &mut Stage, line: &[u8]) -> Result<Option<Position>, TextWhy>
-    ensures { Feeds stage.old line.now (turnout result stage.new) }
+/// Takes a line of a text.
+fn feed(grammar: &Grammar, stage: &mut Stage, line: &[u8]) -> Result<Step, TextWhy>
+    requires few { grammar.now.most_men ≤ MOST_READ }
+    requires room { HasRoom grammar.now stage.old }
+    ensures fed { IsFed grammar.now stage.old line.now result stage.new }
+    ensures room { HasRoom grammar.now stage.new }
 {
     match stage {
         Stage::Header => {
-            if line != b"infinite chess 1".as_slice() {
+            if line != grammar.header.as_slice() {
                 return Err(TextWhy::Header);
             }
             *stage = Stage::Turn;
-            Ok(None)
+            Ok(Step::More)
         }
         Stage::Turn => {
-            let turn = read_turn_line(line)?;
-            *stage = Stage::Men(Gathered::new(turn));
-            Ok(None)
+            let (turn, winner) = read_turn_line(line)?;
+            *stage = Stage::Men(Draft::new(turn, winner));
+            Ok(Step::More)
         }
-        Stage::Men(men) => feed_men(men, line),
+        Stage::Men(draft) => feed_men(grammar, draft, line),
     }
 }
 
-/// A reader of position texts.
+/// A reader of texts of one kind.
 #[derive(Drop)]
-pub struct PositionReader {
+pub struct TextReader {
+    grammar: Grammar,
     stage: Stage,
-    answer: Option<Result<Position, TextError>>,
+    end: Option<End>,
 }
 
-impl Model for PositionReader {
-    ghost use Rattle.chess_text.specs.Progress.{Progress};
+impl Model for TextReader {
+    ghost use Rattle.chess_text.specs.Progress.{IsProgress, Progress};
 
     ghost Value = { Progress };
 
-    ghost view = { λ r. record { stage = r.stage; answer = r.answer } };
+    ghost view = { λ r. record { grammar = r.grammar; stage = r.stage; end = r.end } };
+
+    ghost invariant = { λ r. IsProgress (record { grammar = r.grammar; stage = r.stage; end = r.end }) };
 }
 
-impl PositionReader {
+impl TextReader {
     /// A reader that has read nothing.
-    pub fn new() -> Self
-        ensures { result ≡ record { stage = Stage.Header; answer = None } }
+    pub fn new(grammar: Grammar) -> Self
+        requires { grammar.most_men ≤ MOST_READ }
+        ensures { result ≡ begun grammar }
     {
-        PositionReader {
+        TextReader {
+            grammar,
             stage: Stage::Header,
-            answer: None,
+            end: None,
         }
     }
 
@@ -180,40 +140,39 @@ impl PositionReader {
     }
 
     /// Takes the next line of a text, without its LF. After an error, or once the text is whole, the answer stays.
-    pub fn feed_line(&mut self, line: &[u8]) -> Result<Fed, TextError>
-        ensures stopped { IfSome self.old.answer (λ answer. (result ≡ fed_of answer) × (self.new ≡ self.old)) }
-        ensures feeds { self.old.answer ≡ None → ReadsLine self.old.stage line.now result self.new }
+    pub fn feed_line(&mut self, line: &[u8]) -> Result<Step, TextError>
+        ensures stopped { IfSome self.old.end (λ end. (result ≡ answer_of end) × (self.new ≡ self.old)) }
+        ensures reads { self.old.end ≡ None → Reads self.old.grammar self.old.stage line.now result self.new }
+        ensures grammar { self.new.grammar ≡ self.old.grammar }
     {
-        match self.answer {
-            Some(Ok(position)) => return Ok(Fed::Whole(position)),
-            Some(Err(error)) => return Err(error),
+        match self.end {
+            Some(End::Whole) => return Ok(Step::Whole),
+            Some(End::Refused(error)) => return Err(error),
             None => {}
         }
         let number = self.line_due();
-        match feed(&mut self.stage, line) {
-            Ok(None) => Ok(Fed::More),
-            Ok(Some(position)) => {
-                self.answer = Some(Ok(position));
-                Ok(Fed::Whole(position))
+        match feed(&self.grammar, &mut self.stage, line) {
+            Ok(Step::More) => Ok(Step::More),
+            Ok(Step::Whole) => {
+                self.end = Some(End::Whole);
+                Ok(Step::Whole)
             }
             Err(why) => {
                 let error = TextError { line: number, why };
-                self.answer = Some(Err(error));
+                self.end = Some(End::Refused(error));
                 Err(error)
             }
         }
     }
-}
 
-impl Stage {
-    /// The number of the line that is due, counted from 1.
-    fn number(&self) -> u32
-        ensures { result ≡ line_due self.now }
+    /// What the text says, where it is whole.
+    pub fn whole(&self) -> Option<&Draft>
+        ensures some { IfSome result (λ draft. IsWhole self.now draft.now) }
+        ensures none { IfNone result (self.now.end ≢ Some End.Whole) }
     {
-        match self {
-            Stage::Header => 1,
-            Stage::Turn => 2,
-            Stage::Men(men) => men.men().len() as u32 + 3,
+        match (&self.end, &self.stage) {
+            (Some(End::Whole), Stage::Men(draft)) => Some(draft),
+            _ => None,
         }
     }
 }

@@ -1,4 +1,4 @@
-//! Writing the text of a position.
+//! Writing the text of a position and of the side that is to mate.
 
 ghost use Rattle.std.specs.Prelude.{◌≡◌, ◌≤◌, ◌+◌, ◌∷◌, [], ◌++◌, ℕ, length, map, IfOk, OnOk};
 ghost use Rattle.chess_text.specs.ManLine.{man_text, turn_text};
@@ -28,6 +28,10 @@ fn kind_letter(kind: Kind) -> u8
         Kind::Bishop => b'B',
         Kind::Knight => b'N',
         Kind::Pawn => b'P',
+        Kind::Chancellor => b'C',
+        Kind::Archbishop => b'A',
+        Kind::Amazon => b'Z',
+        Kind::Nightrider => b'H',
     }
 }
 
@@ -48,13 +52,15 @@ fn man_line(man: Man) -> LineBuffer
     line
 }
 
-/// The line of the side to move.
-fn turn_line(turn: Side) -> &'static [u8]
-    ensures { result.now ≡ turn_text turn }
+/// The line of the side to move and of the side that is to mate.
+fn turn_line(turn: Side, winner: Side) -> &'static [u8]
+    ensures { result.now ≡ turn_text turn winner }
 {
-    match turn {
-        Side::White => b"turn W",
-        Side::Black => b"turn B",
+    match (turn, winner) {
+        (Side::White, Side::White) => b"turn W",
+        (Side::Black, Side::White) => b"turn B",
+        (Side::White, Side::Black) => b"turn W for B",
+        (Side::Black, Side::Black) => b"turn B for B",
     }
 }
 
@@ -77,14 +83,13 @@ fn push_men(text: &mut Vec<u8>, p: &Position) -> Result<(), AllocError>
     Ok(())
 }
 
-/// The one text of the position.
-pub fn position_bytes(alloc: Global, p: &Position) -> Result<Vec<u8>, AllocError>
-    requires { length p.now.men ≤ 5 }
-    ensures { IfOk result (λ text. text.items ≡ position_text p.now) }
+/// The one text of the position that this side is to win.
+pub fn position_bytes(alloc: Global, p: &Position, winner: Side) -> Result<Vec<u8>, AllocError>
+    ensures { IfOk result (λ text. text.items ≡ position_text p.now winner) }
 {
     let mut text = Vec::new(alloc);
     push_line(&mut text, b"infinite chess 1")?;
-    push_line(&mut text, turn_line(p.turn()))?;
+    push_line(&mut text, turn_line(p.turn(), winner))?;
     push_men(&mut text, p)?;
     push_line(&mut text, b"end")?;
     Ok(text)

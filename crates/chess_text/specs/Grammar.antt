@@ -1,0 +1,28 @@
+-- What kinds of texts differ in: how they begin, how many men they have at most, and which coordinates they name.
+use Rattle.std.specs.Prelude.{◌≡◌, ℕ, ◌≤◌, ◌^◌, List, codes, ℤ, FitsSigned, unsigned_abs}
+use Rattle.std.specs.Int.{w64}
+use Rattle.std.specs.Fmt.{signed_decimal}
+use Rattle.game_rules.specs.declared.men.Place.{Place}
+use Rattle.game_rules.specs.declared.men.Place.TheVariants.{Gone, At}
+use Rattle.chess_text.specs.declared.grammar.Grammar.{Grammar}
+use Rattle.chess_text.specs.declared.grammar.TheConstants.{MOST_MEN}
+
+-- position texts have up to eight men, on squares of 64 bits
+abbrev pub positions : Grammar
+positions = record { header = codes "infinite chess 1"; most_men = MOST_MEN; farthest = 2 ^ 63 }
+
+-- a number of 64 bits that a text may name
+pub record IsCoordinateOf (g : Grammar) (z : ℤ) : Type 0 where
+  pub fits : FitsSigned w64 z
+  pub near : unsigned_abs z ≤ g.farthest
+
+-- the text is such a number, in its one spelling
+pub record IsCoordinate (g : Grammar) (text : List ℕ) : Type 0 where
+  pub number : ℤ
+  pub taken : IsCoordinateOf g number
+  pub spelled : text ≡ signed_decimal number
+
+-- a place that a text may name
+abbrev pub IsPlaceOf : Grammar → Place → Type 0
+IsPlaceOf g Gone = Unit {0}
+IsPlaceOf g (At x y) = IsCoordinateOf g x × IsCoordinateOf g y
