@@ -2,4 +2,3 @@ pub mod MoreLines
 pub mod OneText
 pub mod RoundTrip
 pub mod TextSteps
-pub mod WhiteToMate

@@ -6,7 +6,7 @@ use Rattle.chess_text.specs.PositionText.{Turnout}
 use Rattle.chess_text.specs.PositionText as turnouts
 use Rattle.chess_text.specs.declared.reader.Stage.{Stage}
 use Rattle.chess_text.specs.declared.reader.Stage.TheVariants.{Header}
-use Rattle.desk_text.specs.Text.{AfterLine, ReadsLines, Text, TextAt, whole, refused, white_mates}
+use Rattle.desk_text.specs.Text.{AfterLine, ReadsLines, Text, TextAt, whole, refused, problem_of}
 use Rattle.desk_text.specs.declared.problem.Problem.{Problem}
 use Rattle.desk_text.specs.declared.text.LineWhy.{LineWhy}
 
@@ -28,8 +28,8 @@ module _ (problem : Problem) (rest : Lines) where
       → AfterLine turnout number (lines_of bytes) (whole problem rest) (λ next. Now next (number + 1) (lines_of bytes))
       → IsBefore (λ more text. AfterLine turnout number (lines_of (bytes ++ more)) text (λ next. ReadsLines next (number + 1) (lines_of (bytes ++ more)) text))
   after_line (turnouts.more next) number bytes go h = go next h
-  after_line (turnouts.complete p) number bytes go h =
-      let same : problem ≡ white_mates p number = cc in
+  after_line (turnouts.complete d) number bytes go h =
+      let same : problem ≡ problem_of d number = cc in
       let lines : rest ≡ lines_of bytes = cc in
       record { behind = bytes; rest_is = lines; reads = λ more. ap (λ q. whole q (lines_of (bytes ++ more))) same }
   after_line (turnouts.wrong why) number bytes go h = not_refused number _ h

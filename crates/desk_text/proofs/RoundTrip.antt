@@ -13,18 +13,20 @@ use Rattle.game_rules.specs.Game.{Position}
 use Rattle.game_rules.specs.declared.men.Side.{Side}
 use Rattle.game_rules.specs.declared.men.Side.TheVariants.{White, Black}
 use Rattle.game_rules.specs.declared.men.Kind.{Kind}
-use Rattle.game_rules.specs.declared.men.Kind.TheVariants.{King, Queen, Rook, Bishop, Knight, Pawn}
+use Rattle.game_rules.specs.declared.men.Kind.TheVariants.{King, Queen, Rook, Bishop, Knight, Pawn, Chancellor, Archbishop, Amazon, Nightrider}
 use Rattle.game_rules.specs.declared.men.Place.{Place}
 use Rattle.game_rules.specs.declared.men.Place.TheVariants.{Gone, At}
 use Rattle.game_rules.specs.declared.men.Man.{Man}
 use Rattle.chess_text.specs.ManLine.{kind_letter, man_text, place_text, side_letter, turn_text}
-use Rattle.chess_text.specs.PositionText.{Completes, FitsPlace, IsWritable, end_line, header, position_lines, position_text, text_of_lines}
+use Rattle.chess_text.specs.Draft.{Draft}
+use Rattle.chess_text.specs.Grammar.{positions}
+use Rattle.chess_text.specs.PositionText.{Completes, FitsPlace, IsWritable, draft_of, end_line, position_lines, position_text, text_of_lines}
 use Rattle.chess_text.specs.PositionText as turnouts
 use Rattle.chess_text.specs.declared.reader.Stage.{Stage}
 use Rattle.chess_text.specs.declared.reader.Stage.TheVariants.{Header}
-use Rattle.chess_text.proofs.PositionLemmas.{spelled_is_accepted}
+use Rattle.chess_text.proofs.PositionLemmas.{positions_writable, spelled_is_accepted}
 use Rattle.desk_text.specs.TextLaws.{TextIsRead}
-use Rattle.desk_text.specs.Text.{ReadsLines, white_mates, whole}
+use Rattle.desk_text.specs.Text.{ReadsLines, problem_of, whole}
 
 -- bytes of which none is LF, at most so many
 record IsShort (bytes : List ℕ) (most : ℕ) : Type 0 where
@@ -85,6 +87,10 @@ kind_free Queen = omega arith
 kind_free Rook = omega arith
 kind_free Bishop = omega arith
 kind_free Knight = omega arith
+kind_free Chancellor = omega arith
+kind_free Archbishop = omega arith
+kind_free Amazon = omega arith
+kind_free Nightrider = omega arith
 kind_free Pawn = omega arith
 
 man_line : (m : Man) → FitsPlace m.place → IsLine (man_text m)
@@ -92,30 +98,34 @@ man_line m fits =
     let place = place_short m.place fits in
     record { free = (side_free m.side, (omega arith, (kind_free m.kind, (omega arith, place.free)))); short = omega (arith, place.short) }
 
-turn_line : (s : Side) → IsLine (turn_text s)
-turn_line s = record { free = free_append (codes "turn ") (side_letter s ∷ []) (all_free (codes "turn ") refl) (side_free s, tt); short = omega arith }
+turn_line : (s w : Side) → IsLine (turn_text s w)
+turn_line s White = record { free = free_append (codes "turn ") (side_letter s ∷ []) (all_free (codes "turn ") refl) (side_free s, tt); short = omega arith }
+turn_line s Black =
+    let named = all_free (codes " for B") refl in
+    record { free = free_append (codes "turn ") (side_letter s ∷ codes " for B") (all_free (codes "turn ") refl) (side_free s, named); short = omega arith }
 
--- lines that are read as a position are read from their bytes, where so many lines stood before them, and there are as many with them
-module _ (p : Position) (rest : List ℕ) (all : ℕ) where
+-- lines that are read as a text are read from their bytes, where so many lines stood before them, and there are as many with them
+module _ (d : Draft) (rest : List ℕ) (all : ℕ) where
   read_last : (stage : Stage) (number : ℕ) (line more : List ℕ) → IsLine line → more ≡ rest → number ≡ all
-      → turnouts.Feeds stage line (turnouts.complete p)
-      → ReadsLines stage number (lines_of (line ++ 10 ∷ more)) (whole (white_mates p all) (lines_of rest))
+      → turnouts.Feeds positions stage line (turnouts.complete d)
+      → ReadsLines stage number (lines_of (line ++ 10 ∷ more)) (whole (problem_of d all) (lines_of rest))
   read_last stage number line more is same last feeds =
-      let P : Lines → Type 0 = λ l. ReadsLines stage number l (whole (white_mates p all) (lines_of rest)) in
+      let P : Lines → Type 0 = λ l. ReadsLines stage number l (whole (problem_of d all) (lines_of rest)) in
       subst P (sym (line_first line more is.free is.short))
-      (turnouts.complete p, feeds, ap (λ b. whole (white_mates p all) (lines_of b)) (sym same) ∙ ap (λ k. whole (white_mates p k) (lines_of more)) (sym last))
+      (turnouts.complete d, feeds, ap (λ b. whole (problem_of d all) (lines_of b)) (sym same) ∙ ap (λ k. whole (problem_of d k) (lines_of more)) (sym last))
 
-  pub read_lines : (stage : Stage) (number : ℕ) (lines : List (List ℕ)) → All IsLine lines → number + length lines ≡ all + 1 → Completes stage lines p
-      → ReadsLines stage number (lines_of (text_of_lines lines ++ rest)) (whole (white_mates p all) (lines_of rest))
+  pub read_lines : (stage : Stage) (number : ℕ) (lines : List (List ℕ)) → All IsLine lines → number + length lines ≡ all + 1
+      → Completes positions stage lines d
+      → ReadsLines stage number (lines_of (text_of_lines lines ++ rest)) (whole (problem_of d all) (lines_of rest))
   read_lines stage number [] are count completes = absurd completes
   read_lines stage number (line ∷ []) are count completes =
-      let P : List ℕ → Type 0 = λ b. ReadsLines stage number (lines_of b) (whole (white_mates p all) (lines_of rest)) in
+      let P : List ℕ → Type 0 = λ b. ReadsLines stage number (lines_of b) (whole (problem_of d all) (lines_of rest)) in
       let same : line ++ 10 ∷ rest ≡ ((line ++ 10 ∷ []) ++ []) ++ rest =
       sym (append_assoc line (10 ∷ []) rest) ∙ ap (λ b. b ++ rest) (sym (append-nil (line ++ 10 ∷ []))) in
       subst P same (read_last stage number line rest (All-head IsLine line [] are) refl (omega (arith, count)) completes)
   read_lines stage number (line ∷ next_line ∷ lines) are count completes =
-      let P : Lines → Type 0 = λ l. ReadsLines stage number l (whole (white_mates p all) (lines_of rest)) in
-      let Q : List ℕ → Type 0 = λ b. ReadsLines stage number (lines_of b) (whole (white_mates p all) (lines_of rest)) in
+      let P : Lines → Type 0 = λ l. ReadsLines stage number l (whole (problem_of d all) (lines_of rest)) in
+      let Q : List ℕ → Type 0 = λ b. ReadsLines stage number (lines_of b) (whole (problem_of d all) (lines_of rest)) in
       let behind = text_of_lines (next_line ∷ lines) ++ rest in
       let is = All-head IsLine line (next_line ∷ lines) are in
       let same : line ++ 10 ∷ behind ≡ ((line ++ 10 ∷ []) ++ text_of_lines (next_line ∷ lines)) ++ rest =
@@ -129,11 +139,14 @@ men_lines [] fit = All-cons IsLine end_line [] (record { free = all_free end_lin
 men_lines (m ∷ men) fit =
     All-cons IsLine (man_text m) (map man_text men ++ end_line ∷ []) (man_line m (All-head (λ k. FitsPlace k.place) m men fit)) (men_lines men (All-tail (λ k. FitsPlace k.place) m men fit))
 
-all_lines : {p : Position} → IsWritable p → All IsLine (position_lines p)
-all_lines {p} h =
+all_lines : {p : Position} (winner : Side) → IsWritable p → All IsLine (position_lines p winner)
+all_lines {p} winner h =
     let men = men_lines p.men h.fit in
-    All-cons IsLine header (turn_text p.turn ∷ (map man_text p.men ++ end_line ∷ [])) (record { free = all_free header refl; short = omega arith })
-    (All-cons IsLine (turn_text p.turn) (map man_text p.men ++ end_line ∷ []) (turn_line p.turn) men)
+    All-cons IsLine positions.header (turn_text p.turn winner ∷ (map man_text p.men ++ end_line ∷ []))
+    (record { free = all_free positions.header refl; short = omega arith })
+    (All-cons IsLine (turn_text p.turn winner) (map man_text p.men ++ end_line ∷ []) (turn_line p.turn winner) men)
 
 pub text_is_read : TextIsRead
-text_is_read p rest h = read_lines p rest (length (position_lines p)) Header 1 (position_lines p) (all_lines h) (omega arith) (spelled_is_accepted p h)
+text_is_read p winner rest h =
+    read_lines (draft_of p winner) rest (length (position_lines p winner)) Header 1 (position_lines p winner) (all_lines winner h) (omega arith)
+    (spelled_is_accepted positions (draft_of p winner) ((positions_writable p winner).1 h))

@@ -12,33 +12,36 @@ use Rattle.desk_base.specs.Reading.{KeepsLine, Takes}
 use Rattle.desk_base.proofs.LinesOf.{line_first}
 use Rattle.desk_base.specs.declared.line.Line.TheVariants.{Full, End}
 use Rattle.desk_base.specs.declared.line.LineError.TheVariants as fails
-use Rattle.game_rules.specs.Game.{Position}
-use Rattle.chess_text.specs.PositionText.{Feeds, Turnout, text_of_lines, with_man}
+use Rattle.chess_text.specs.Draft.{Draft, nobody, with_man}
+use Rattle.chess_text.specs.Grammar.{positions}
+use Rattle.chess_text.specs.PositionText.{Feeds, Turnout, draft_of, text_of_lines}
+use Rattle.chess_text.specs.declared.grammar.TheConstants.{MOST_MEN}
 use Rattle.chess_text.specs.PositionText as turnouts
-use Rattle.chess_text.specs.Progress.{Progress, ReadsLine, line_due, position_of}
+use Rattle.chess_text.specs.Progress.{Progress, ReadsLine, line_due}
+use Rattle.chess_text.specs.declared.positions.Fed.{Fed}
+use Rattle.chess_text.specs.declared.positions.Fed.TheVariants.{More, Whole}
 use Rattle.chess_text.specs.declared.man_line.TextWhy.{TextWhy}
 use Rattle.chess_text.specs.declared.reader.Stage.{Stage}
 use Rattle.chess_text.specs.declared.reader.Stage.TheVariants as stages
-use Rattle.chess_text.specs.declared.reader.Fed.{Fed}
-use Rattle.chess_text.specs.declared.reader.Fed.TheVariants.{More, Whole}
 use Rattle.desk_text.specs.Taken.{TakesLines}
-use Rattle.desk_text.specs.Text.{Text, white_mates, whole, refused, AfterLine, ReadsLines, TextAt, is_end}
+use Rattle.desk_text.specs.Text.{Text, problem_at, problem_of, whole, refused, AfterLine, ReadsLines, TextAt, is_end}
 use Rattle.desk_text.specs.TextRead.{IsMissing, TextRead}
+use Rattle.desk_text.specs.declared.problem.Problem.{Problem}
 use Rattle.desk_text.specs.declared.text.LineWhy.{LineWhy}
 use Rattle.desk_text.specs.declared.text.LineWhy.TheVariants.{Grammar, Long, Cut, Missing}
 use Rattle.desk_text.specs.declared.text.TextEnd.TheVariants.{Fault, Refused}
 
 -- how many lines may come before the last
 abbrev pub lines_left : Stage → ℕ
-lines_left stages.Header = 7
-lines_left stages.Turn = 6
-lines_left (stages.Men p) = 5 - length p.men
+lines_left stages.Header = 10
+lines_left stages.Turn = 9
+lines_left (stages.Men d) = MOST_MEN - length d.men
 
--- there are at most five men
+-- there are no more men than a text may have
 abbrev pub IsFew : Stage → Type 0
 IsFew stages.Header = Unit {0}
 IsFew stages.Turn = Unit {0}
-IsFew (stages.Men p) = length p.men ≤ 5
+IsFew (stages.Men d) = length d.men ≤ MOST_MEN
 
 -- what a text that goes on has come to
 pub record GoesOn (stage next : Stage) : Type 0 where
@@ -48,51 +51,42 @@ pub record GoesOn (stage next : Stage) : Type 0 where
 goes_to : (stage next due : Stage) → next ≡ due → GoesOn stage due → GoesOn stage next
 goes_to stage next due is h = let P : Stage → Type 0 = λ s. GoesOn stage s in subst P (sym is) h
 
-pub fed_more : (stage next : Stage) (line : List ℕ) → Feeds stage line (turnouts.more next) → GoesOn stage next
+pub fed_more : (stage next : Stage) (line : List ℕ) → Feeds positions stage line (turnouts.more next) → GoesOn stage next
 fed_more stages.Header next line (inl (e, i)) = goes_to stages.Header next stages.Turn (let s : next ≡ stages.Turn = cc in s) (record { counted = refl; few = tt })
 fed_more stages.Header next line (inr (e, i)) = absurd (cc)
-fed_more stages.Turn next line (inl (s, e, i)) =
-    goes_to stages.Turn next (stages.Men (record { men = []; turn = s })) (let same : next ≡ stages.Men (record { men = []; turn = s }) = cc in same)
+fed_more stages.Turn next line (inl (s, w, e, i)) =
+    goes_to stages.Turn next (stages.Men (nobody s w)) (let same : next ≡ stages.Men (nobody s w) = cc in same)
     (record { counted = refl; few = omega arith })
 fed_more stages.Turn next line (inr (e, i)) = absurd (cc)
-fed_more (stages.Men p) next line (inl (a, e, i)) = absurd (cc)
-fed_more (stages.Men p) next line (inr (inl (a, e, i))) = absurd (cc)
-fed_more (stages.Men p) next line (inr (inr (inl (a, e, i)))) = absurd (cc)
-fed_more (stages.Men p) next line (inr (inr (inr (a, e, inl (m, is, i))))) =
-    goes_to (stages.Men p) next (stages.Men (with_man p m)) (let same : next ≡ stages.Men (with_man p m) = cc in same)
+fed_more (stages.Men d) next line (inl (a, e, i)) = absurd (cc)
+fed_more (stages.Men d) next line (inr (inl (a, e, i))) = absurd (cc)
+fed_more (stages.Men d) next line (inr (inr (inl (a, e, i)))) = absurd (cc)
+fed_more (stages.Men d) next line (inr (inr (inr (a, e, inl (m, is, i))))) =
+    goes_to (stages.Men d) next (stages.Men (with_man d m)) (let same : next ≡ stages.Men (with_man d m) = cc in same)
     (record {
-      counted = omega (arith, length-append p.men (m ∷ []));
-      few = omega (arith, a, length-append p.men (m ∷ []));
+      counted = omega (arith, length-append d.men (m ∷ []));
+      few = omega (arith, a, length-append d.men (m ∷ []));
     })
-fed_more (stages.Men p) next line (inr (inr (inr (a, e, inr (reason, r, i))))) = absurd (cc)
+fed_more (stages.Men d) next line (inr (inr (inr (a, e, inr (reason, r, i))))) = absurd (cc)
 
-pub fed_whole : (stage : Stage) (p : Position) (line : List ℕ) → IsFew stage → Feeds stage line (turnouts.complete p) → length p.men ≤ 5
-fed_whole stages.Header p line few (inl (e, i)) = absurd (cc)
-fed_whole stages.Header p line few (inr (e, i)) = absurd (cc)
-fed_whole stages.Turn p line few (inl (s, e, i)) = absurd (cc)
-fed_whole stages.Turn p line few (inr (e, i)) = absurd (cc)
-fed_whole (stages.Men q) p line few (inl (a, e, i)) = absurd (cc)
-fed_whole (stages.Men q) p line few (inr (inl (a, e, i))) =
-    let same : p ≡ q = cc in
-    let P : Position → Type 0 = λ r. length r.men ≤ 5 in
-    subst P (sym same) few
-fed_whole (stages.Men q) p line few (inr (inr (inl (a, e, i)))) = absurd (cc)
-fed_whole (stages.Men q) p line few (inr (inr (inr (a, e, inl (m, is, i))))) = absurd (cc)
-fed_whole (stages.Men q) p line few (inr (inr (inr (a, e, inr (reason, r, i))))) = absurd (cc)
+-- the last line of a text makes it whole, and says this problem
+pub record IsLast (stage : Stage) (number : ℕ) (line : List ℕ) (problem : Problem) : Type 0 where
+  pub draft : Draft
+  pub feeds : Feeds positions stage line (turnouts.complete draft)
+  pub says : problem ≡ problem_of draft number
 
 -- what the reader of a text has answered
-pub answer_whole : (stage : Stage) (line : List ℕ) (fed : Fed) (p : Position) (reader : Progress) → position_of fed ≡ Some p
-    → ReadsLine stage line (Ok fed) reader → Feeds stage line (turnouts.complete p)
-answer_whole stage line More p reader is reads = absurd (cc)
-answer_whole stage line (Whole q) p reader is reads =
-    let same : q ≡ p = cc in
-    let P : Position → Type 0 = λ r. Feeds stage line (turnouts.complete r) in
-    subst P same reads.0
+pub answer_whole : (stage : Stage) (number : ℕ) (line : List ℕ) (fed : Fed) (problem : Problem) (reader : Progress)
+    → problem_at fed number ≡ Some problem → ReadsLine stage line (Ok fed) reader → IsLast stage number line problem
+answer_whole stage number line More problem reader is reads = absurd (cc)
+answer_whole stage number line (Whole p winner) problem reader is reads =
+    let same : problem_of (draft_of p winner) number ≡ problem = cc in
+    record { draft = draft_of p winner; feeds = reads.0; says = sym same }
 
-pub answer_more : (stage : Stage) (line : List ℕ) (fed : Fed) (reader : Progress) → position_of fed ≡ None → ReadsLine stage line (Ok fed) reader
-    → Feeds stage line (turnouts.more reader.stage) × (reader.answer ≡ None)
-answer_more stage line More reader is reads = reads
-answer_more stage line (Whole q) reader is reads = absurd (cc)
+pub answer_more : (stage : Stage) (number : ℕ) (line : List ℕ) (fed : Fed) (reader : Progress) → problem_at fed number ≡ None
+    → ReadsLine stage line (Ok fed) reader → Feeds positions stage line (turnouts.more reader.stage) × (reader.end ≡ None)
+answer_more stage number line More reader is reads = reads
+answer_more stage number line (Whole p winner) reader is reads = absurd (cc)
 
 -- what is known of the bytes behind those taken, or nothing
 pub known_rest : (after : Option (List ℕ)) → IfSome after (λ told. told ≡ unwrap_or after [])
@@ -177,7 +171,7 @@ module _ (stage : Stage) (number : ℕ) (pending : List ℕ) (before mid after :
     takes_now : (few : length rest ≤ 256) → TakesLines IsMissing (text_of_lines now ++ rest) rest
     takes_now few = record { lines = now; are_lines = all_lines lines so_far.are_lines is_line; due = due_now; bytes = refl; few = few }
 
-    text_full : (more : List ℕ) (t : Text) (turnout : Turnout) → Feeds stage line turnout
+    text_full : (more : List ℕ) (t : Text) (turnout : Turnout) → Feeds positions stage line turnout
         → AfterLine turnout number (lines_of more) t (λ next. ReadsLines next (number + 1) (lines_of more) t) → TextAt (text_of_lines now ++ more) t
     text_full more t turnout feeds after_it =
         let P : Lines → Type 0 = λ l. ReadsLines stage number l t in
@@ -190,14 +184,14 @@ module _ (stage : Stage) (number : ℕ) (pending : List ℕ) (before mid after :
         subst Q same read
 
     -- the same of the bytes taken, and others behind them
-    text_taken : (more : List ℕ) (t : Text) (turnout : Turnout) → Feeds stage line turnout
+    text_taken : (more : List ℕ) (t : Text) (turnout : Turnout) → Feeds positions stage line turnout
         → AfterLine turnout number (lines_of (rest ++ more)) t (λ next. ReadsLines next (number + 1) (lines_of (rest ++ more)) t)
         → TextAt ((text_of_lines now ++ rest) ++ more) t
     text_taken more t turnout feeds after_it =
         let Q : List ℕ → Type 0 = λ b. TextAt b t in
         subst Q (sym (append_assoc (text_of_lines now) rest more)) (text_full (rest ++ more) t turnout feeds after_it)
 
-    pub goes_on : (next : Stage) → Feeds stage line (turnouts.more next) → SoFar next (number + 1) rest before after
+    pub goes_on : (next : Stage) → Feeds positions stage line (turnouts.more next) → SoFar next (number + 1) rest before after
     goes_on next feeds = record {
       lines = now;
       are_lines = all_lines lines so_far.are_lines is_line;
@@ -207,18 +201,18 @@ module _ (stage : Stage) (number : ℕ) (pending : List ℕ) (before mid after :
       text = λ more t r. text_full more t (turnouts.more next) feeds r;
     }
 
-    pub is_whole : (p : Position) → length rest ≤ 256 → Feeds stage line (turnouts.complete p) → TextRead (Ok (white_mates p number)) rest before after
+    pub is_whole : (problem : Problem) → length rest ≤ 256 → IsLast stage number line problem → TextRead (Ok problem) rest before after
     unfolding takes_now
-    is_whole p few feeds = record {
+    is_whole problem few last = record {
       bytes = text_of_lines now ++ rest;
       rest = unwrap_or after [];
       taken = consumed;
       left = known_rest after;
       takes = takes_now few;
-      reads = λ more. text_full more (whole (white_mates p number) (lines_of more)) (turnouts.complete p) feeds refl;
+      reads = λ more. text_full more (whole problem (lines_of more)) (turnouts.complete last.draft) last.feeds (ap (λ p. whole p (lines_of more)) last.says);
     }
 
-    pub is_wrong : (why : TextWhy) → length rest ≤ 256 → Feeds stage line (turnouts.wrong why) → TextRead (Err (Refused number (Grammar why))) rest before after
+    pub is_wrong : (why : TextWhy) → length rest ≤ 256 → Feeds positions stage line (turnouts.wrong why) → TextRead (Err (Refused number (Grammar why))) rest before after
     unfolding takes_now
     is_wrong why few feeds =
         let behind = unwrap_or after [] in

@@ -1,12 +1,14 @@
 -- The text at the front of an input, line by line.
-use Rattle.std.specs.Prelude.{◌≡◌, ℕ, ◌+◌, ◌++◌, Bool, true, false, List, codes}
+use Rattle.std.specs.Prelude.{◌≡◌, ℕ, ◌+◌, ◌++◌, Bool, true, false, List, Option, Some, None, codes}
 use Rattle.std.specs.Fmt.{decimal}
 use Rattle.desk_base.specs.Lines.{Lines, full, ended, cut, long, lines_of}
-use Rattle.game_rules.specs.Game.{Position}
-use Rattle.game_rules.specs.declared.men.Side.TheVariants.{White}
-use Rattle.chess_text.specs.PositionText.{Feeds, Turnout}
+use Rattle.chess_text.specs.Draft.{Draft}
+use Rattle.chess_text.specs.Grammar.{positions}
+use Rattle.chess_text.specs.PositionText.{Feeds, Turnout, draft_of, drafted}
 use Rattle.chess_text.specs.PositionText as turnouts
 use Rattle.chess_text.specs.declared.man_line.TextWhy.TheVariants as grammar
+use Rattle.chess_text.specs.declared.positions.Fed.{Fed}
+use Rattle.chess_text.specs.declared.positions.Fed.TheVariants as feds
 use Rattle.chess_text.specs.declared.reader.Stage.{Stage}
 use Rattle.chess_text.specs.declared.reader.Stage.TheVariants.{Header}
 use Rattle.desk_text.specs.declared.problem.Problem.{Problem}
@@ -19,20 +21,25 @@ pub data Text : Type 0 where
   whole : Problem → Lines → Text
   refused : ℕ → LineWhy → Text
 
--- what a text of so many lines says, which has a position and no more: White is to mate
-abbrev pub white_mates : Position → ℕ → Problem
-white_mates p lines = record { position = p; winner = White; lines = lines }
+-- the problem that a text of so many lines says
+abbrev pub problem_of : Draft → ℕ → Problem
+problem_of d lines = record { position = drafted d; winner = d.winner; lines = lines }
+
+-- the problem of a text of so many lines, where it is whole
+abbrev pub problem_at : Fed → ℕ → Option Problem
+problem_at feds.More lines = None
+problem_at (feds.Whole p winner) lines = Some (problem_of (draft_of p winner) lines)
 
 -- the text, after a line of this number of which the text makes that
 abbrev pub AfterLine : Turnout → ℕ → Lines → Text → (Stage → Type 0) → Type 0
 AfterLine (turnouts.more next) number rest text go_on = go_on next
-AfterLine (turnouts.complete p) number rest text go_on = text ≡ whole (white_mates p number) rest
+AfterLine (turnouts.complete d) number rest text go_on = text ≡ whole (problem_of d number) rest
 AfterLine (turnouts.wrong why) number rest text go_on = text ≡ refused number (Grammar why)
 
 -- the text that the lines are from this stage on, of which the first has this number
 abbrev pub ReadsLines : Stage → ℕ → Lines → Text → Type 0
 ReadsLines stage number (full line rest) text =
-    (turnout : Turnout) × Feeds stage line turnout
+    (turnout : Turnout) × Feeds positions stage line turnout
     × AfterLine turnout number rest text (λ next. ReadsLines next (number + 1) rest text)
 ReadsLines stage number ended text = text ≡ refused number Missing
 ReadsLines stage number (cut front) text = text ≡ refused number Cut

@@ -1,19 +1,18 @@
 -- Laws of the text at the front of an input.
-use Rattle.std.specs.Prelude.{◌≡◌, List, ℕ, ◌++◌, length}
-use Rattle.desk_base.specs.Lines.{Lines, lines_of}
+use Rattle.std.specs.Prelude.{List, ℕ, ◌++◌, length}
+use Rattle.desk_base.specs.Lines.{lines_of}
 use Rattle.game_rules.specs.Game.{Position}
-use Rattle.game_rules.specs.declared.men.Side.TheVariants.{White}
-use Rattle.chess_text.specs.PositionText.{IsWritable, position_lines, position_text}
-use Rattle.desk_text.specs.Text.{TextAt, white_mates, whole}
+use Rattle.game_rules.specs.declared.men.Side.{Side}
+use Rattle.chess_text.specs.PositionText.{IsWritable, draft_of, position_lines, position_text}
+use Rattle.desk_text.specs.Text.{TextAt, problem_of, whole}
 use Rattle.desk_text.specs.declared.problem.Problem.{Problem}
 
--- the text of a position, whatever comes behind it, is read as that position, with White to mate, and has so many lines
+-- the problem of a position that a side is to win, as its text says it
+abbrev pub text_problem : Position → Side → Problem
+text_problem p winner = problem_of (draft_of p winner) (length (position_lines p winner))
+
+-- the text of a position and a winner, whatever comes behind it, is read as that position and that winner, and has so many lines
 abbrev pub TextIsRead : Type 0
 TextIsRead =
-    (p : Position) (rest : List ℕ) → IsWritable p
-    → TextAt (position_text p ++ rest) (whole (white_mates p (length (position_lines p))) (lines_of rest))
-
--- each text that is read has White to mate
-abbrev pub WhiteIsToMate : Type 0
-WhiteIsToMate =
-    (bytes : List ℕ) (problem : Problem) (rest : Lines) → TextAt bytes (whole problem rest) → problem.winner ≡ White
+    (p : Position) (winner : Side) (rest : List ℕ) → IsWritable p
+    → TextAt (position_text p winner ++ rest) (whole (text_problem p winner) (lines_of rest))

@@ -2,12 +2,11 @@
 
 ghost use Rattle.std.specs.Prelude.{◌≡◌, ℕ, ◌+◌, ◌≤◌, [], length, IsErrOf, IfOk, None};
 ghost use Rattle.desk_base.specs.Faults.{HasRisen};
-ghost use Rattle.desk_text.specs.Text.{why_word};
+ghost use Rattle.desk_text.specs.Text.{problem_at, why_word};
 ghost use Rattle.desk_text.specs.TextRead.{TextRead};
 
 use crate::problem::Problem;
-use chess_game::Side;
-use chess_text::{PositionReader, TextWhy};
+use chess_text::{Fed, PositionReader, TextWhy};
 use desk_base::{Line, LineError, LineReader, Source};
 
 /// Why a line is refused.
@@ -50,14 +49,25 @@ pub enum TextEnd {
     Refused(u32, LineWhy),
 }
 
+/// The problem of a text of so many lines, where it is whole.
+fn problem_at(fed: Fed, lines: u32) -> Option<Problem>
+    ensures { result ≡ problem_at fed lines }
+{
+    let (position, winner) = fed.whole()?;
+    Some(Problem {
+        position,
+        winner,
+        lines,
+    })
+}
+
 /// Reads the text of a problem at the front of an input. What comes after it is not read, but for the bytes that the reader holds.
 pub fn read_problem<S: Source>(reader: &mut LineReader, source: &mut S) -> Result<Problem, TextEnd>
     requires fresh { (reader.old.pending ≡ []) × (reader.old.stopped ≡ None) }
     ensures reads { TextRead result reader.new.pending (S.left source.old) (S.left source.new) }
     ensures goes_on { IfOk result (λ problem. reader.new.stopped ≡ None) }
     ensures held { length reader.new.pending ≤ 256 }
-    ensures few { IfOk result (λ problem. length problem.position.men ≤ 5) }
-    ensures lines { IfOk result (λ problem. problem.lines ≤ 8) }
+    ensures lines { IfOk result (λ problem. problem.lines ≤ 11) }
     ensures failed { IsErrOf result TextEnd.Fault → HasRisen (S.faults source.old) (S.faults source.new) }
     ensures never_falls { S.faults source.old ≤ S.faults source.new }
 {
@@ -67,12 +77,8 @@ pub fn read_problem<S: Source>(reader: &mut LineReader, source: &mut S) -> Resul
         match reader.next_line(source) {
             Ok(Line::Full(_)) => match text.feed_line(reader.line()) {
                 Ok(fed) => {
-                    if let Some(position) = fed.position() {
-                        return Ok(Problem {
-                            position,
-                            winner: Side::White,
-                            lines: number,
-                        });
+                    if let Some(problem) = problem_at(fed, number) {
+                        return Ok(problem);
                     }
                 }
                 Err(error) => {

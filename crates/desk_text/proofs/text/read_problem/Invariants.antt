@@ -8,7 +8,7 @@ invariant-loop-text g l =
     let source = g.S.Source in
     record {
       goes_on : l.reader.stopped ≡ None;
-      no_answer : l.text.answer ≡ None;
+      goes_on_text : l.text.end ≡ None;
       few : IsFew l.text.stage;
       so_far : SoFar l.text.stage (line_due l.text.stage) l.reader.pending (source.left l.fn.source) (source.left l.source);
       faults : source.faults l.fn.source ≤ source.faults l.source;
