@@ -15,7 +15,7 @@ mod merger;
 mod node_memo;
 mod numbering;
 mod pair_memo;
-mod probing;
+pub mod probing;
 mod relabel;
 mod sets;
 mod shape_table;

@@ -72,21 +72,6 @@ impl Merger {
         &self.sets
     }
 
-    /// The nodes and the sets.
-    pub fn into_parts(self) -> (Diagrams, Sets)
-        ensures shapes { result.0 ≡ self.shapes }
-        ensures sets { result.1 ≡ self.sets }
-    {
-        let Merger {
-            diagrams,
-            sets,
-            track: _,
-            merged: _,
-            united: _,
-        } = self;
-        (diagrams, sets)
-    }
-
     /// The map from a letter to the number of the union of the two sets at both bits of the track, as `Diagrams::merge_track`
     /// gives it. Nodes that earlier calls met are not visited again. Want of memory empties the memos.
     pub fn apply(&mut self, a: Node) -> Result<Node, AllocError>

@@ -15,7 +15,7 @@ const LEFT_FACTOR: usize = 0x9e37_79b9_7f4a_7c15;
 const RIGHT_FACTOR: usize = 0xc13f_a9a9_02a6_328f;
 
 /// How many slots a table has for so many items.
-pub(crate) fn slots_for(items: usize) -> Result<usize, AllocError>
+pub fn slots_for(items: usize) -> Result<usize, AllocError>
     ensures half { IfOk result (λ slots. 2 * items ≤ slots) }
     ensures more { IfOk result (λ slots. items + 2 ≤ slots) }
 {
@@ -26,7 +26,7 @@ pub(crate) fn slots_for(items: usize) -> Result<usize, AllocError>
 }
 
 /// A number that differs for most pairs of numbers below 2^32: the upper half of a sum of products.
-pub(crate) fn spread(left: usize, right: usize) -> usize
+pub fn spread(left: usize, right: usize) -> usize
     ensures { result ≡ spread_of left right }
 {
     let left = left.wrapping_mul(LEFT_FACTOR);
@@ -35,7 +35,7 @@ pub(crate) fn spread(left: usize, right: usize) -> usize
 }
 
 /// The place among so many slots that comes so many steps after that of a number: the last is followed by the first.
-pub(crate) fn place(slots: usize, number: usize, step: usize) -> usize
+pub fn place(slots: usize, number: usize, step: usize) -> usize
     requires { 0 < slots }
     ensures at { result ≡ place_of slots number step }
     ensures within { result < slots }
