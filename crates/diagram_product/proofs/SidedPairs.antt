@@ -133,8 +133,26 @@ module _ {sides : Sides} {shapes : List Shape} {a b track al ah bl bh : ℕ} (re
     top = subst (λ t. t ≤ top_track new r) (e ∙ sym (pair_top-grows grows read)) top;
   }
 
+  -- the pair at a letter is that of one of the parts
+  pub pair_at-split : (letter : ℕ)
+      → pair_at sides shapes a b letter ≡ (if nat_eq (bit_at letter track) 0 then pair_at sides shapes al bl letter else pair_at sides shapes ah bh letter)
+  pair_at-split letter =
+      (λ i. absorbed sides.absorbing (left.map letter i) (right.map letter i))
+      ∙ both (nat_eq (bit_at letter track) 0)
+    where
+      both : (c : Bool) → absorbed sides.absorbing (if c then read_at sides.left shapes al letter else read_at sides.left shapes ah letter) (if c then read_at sides.right shapes bl letter else read_at sides.right shapes bh letter)
+          ≡ (if c then pair_at sides shapes al bl letter else pair_at sides shapes ah bh letter)
+      both true = refl
+      both false = refl
+
+  pub pair_top-low : track < pair_top sides shapes al bl
+  pair_top-low = let l = left.low_above in let r = right.low_above in omega (arith, l, r)
+
+  pub pair_top-high : track < pair_top sides shapes ah bh
+  pair_top-high = let l = left.high_above in let r = right.high_above in omega (arith, l, r)
+
   -- the values of the parts at a letter are values of the sides
-  low_answer : (letter : ℕ) → (l : ℕ) × (pair_at sides shapes al bl letter ≡ pair_at sides shapes a b l)
+  pub low_answer : (letter : ℕ) → (l : ℕ) × (pair_at sides shapes al bl letter ≡ pair_at sides shapes a b l)
   low_answer letter = elim (bit_cases letter track) [
     | inl z ↦ (letter, λ i. absorbed sides.absorbing (sym (clear left letter z) i) (sym (clear right letter z) i))
     | inr o ↦
@@ -144,7 +162,7 @@ module _ {sides : Sides} {shapes : List Shape} {a b track al ah bl bh : ℕ} (re
         (flip letter track, λ i. absorbed sides.absorbing (same i) (same' i))
   ]
 
-  high_answer : (letter : ℕ) → (l : ℕ) × (pair_at sides shapes ah bh letter ≡ pair_at sides shapes a b l)
+  pub high_answer : (letter : ℕ) → (l : ℕ) × (pair_at sides shapes ah bh letter ≡ pair_at sides shapes a b l)
   high_answer letter = elim (bit_cases letter track) [
     | inr o ↦ (letter, λ i. absorbed sides.absorbing (sym (set left letter o) i) (sym (set right letter o) i))
     | inl z ↦

@@ -2,3 +2,4 @@ pub mod Paired
 pub mod Absorbed
 pub mod Sided
 pub mod Product
+pub mod Shapes

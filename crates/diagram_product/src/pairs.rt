@@ -1,5 +1,5 @@
 //! Pairs, numbered in the order in which they were first seen.
-ghost use Rattle.std.specs.Prelude.{◌≡◌, ◌≢◌, ◌≤◌, ◌<◌, ◌^◌, ◌+◌, ◌-◌, [], List, ℕ, length, slice_get, Some, IfOk, OnOk, OnErr, AllPairs, ◌↔◌};
+ghost use Rattle.std.specs.Prelude.{◌≡◌, ◌≢◌, ◌≤◌, ◌<◌, ◌^◌, ◌+◌, ◌-◌, [], List, ℕ, length, slice_get, Some, None, Contains, IfSome, IfOk, OnOk, OnErr, AllPairs, ◌↔◌};
 ghost use Rattle.letter_diagram.specs.Numbering.{Numbers, PairsKept, HasNoNumberLeft};
 
 use indexmap::IndexSet;
@@ -67,6 +67,15 @@ impl Pairs {
         self.seen.get_index(number as usize).copied()
     }
 
+    /// The number of a pair, where it has one.
+    pub fn find(&self, a: u32, b: u32) -> Option<u32>
+        ensures some { IfSome result (λ number. slice_get self.now number ≡ Some (a, b)) }
+        ensures none { result ≡ None → ¬ Contains self.now (a, b) }
+    {
+        let number = self.seen.get_index_of(&(a, b))?;
+        Some(number as u32)
+    }
+
     /// The number of a pair, which is added where it is new.
     pub fn number(&mut self, a: u32, b: u32) -> Result<u32, NumberingError>
         ensures number { IfOk result (λ number. slice_get self.new number ≡ Some (a, b)) }
@@ -74,8 +83,8 @@ impl Pairs {
         ensures full { (result ≡ Err NumberingError.Full) ↔ HasNoNumberLeft self.old (a, b) }
         ensures err { OnErr result (self.new ≡ self.old) }
     {
-        if let Some(number) = self.seen.get_index_of(&(a, b)) {
-            return Ok(number as u32);
+        if let Some(number) = self.find(a, b) {
+            return Ok(number);
         }
         if self.seen.len() == u32::MAX as usize {
             return Err(NumberingError::Full);

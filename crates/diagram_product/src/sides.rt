@@ -3,6 +3,7 @@ ghost use Rattle.std.specs.Prelude.{◌≡◌, ◌<◌, ◌≤◌, ℕ, length, 
 ghost use Rattle.letter_diagram.specs.Diagram.{Grows};
 ghost use Rattle.letter_diagram.specs.Numbering.{PairsKept};
 ghost use Rattle.diagram_product.specs.Sided.{together, AreReadPairs, pair_at, pair_top, IsReadSplit, CanBePaired, HasPairRoom, IsPairRoomKept, IsPaired, RemembersPaired};
+ghost use Rattle.diagram_product.specs.Shapes.{IsPairTest, IsPairShape};
 
 use crate::absorbing::{Absorbing, absorbs};
 use crate::pairs::Pairs;
@@ -12,9 +13,25 @@ use limits::MOST_TRACKS;
 use std::alloc::AllocError;
 use std::marker::Model;
 
+/// Both maps by the bit of the least track that one of them looks at.
+#[derive(Clone, Copy)]
+pub struct PairTest {
+    pub track: u8,
+    pub low: (Node, Node),
+    pub high: (Node, Node),
+}
+
+/// What a node of either side look at first.
+#[derive(Clone, Copy)]
+pub enum PairShape {
+    /// The absorbed pair of both values is plainly the same at each letter.
+    Pair(u32, u32),
+    Test(PairTest),
+}
+
 /// Both sides of a product, and which of their values absorb the other's.
 #[derive(Drop)]
-pub(crate) struct TwoSides<S: Side> {
+pub struct TwoSides<S: Side> {
     pub(crate) left: S,
     pub(crate) right: S,
     pub(crate) absorbing: Absorbing,
@@ -42,6 +59,29 @@ impl TwoSides<Here> {
 }
 
 impl<S: Side> TwoSides<S> {
+    pub fn new(left: S, right: S, absorbing: Absorbing) -> Self
+        ensures left { result.left ≡ S.reading left }
+        ensures right { result.right ≡ S.reading right }
+        ensures absorbing { result.absorbing ≡ absorbing }
+    {
+        TwoSides {
+            left,
+            right,
+            absorbing,
+        }
+    }
+
+    /// What two nodes look at first.
+    pub fn look(&self, to: &Diagrams, a: Node, b: Node) -> PairShape
+        requires { CanBePaired self.now to.now a b }
+        ensures { IsPairShape self.now to.now a b result }
+    {
+        match self.one_pair(to, a, b) {
+            Some((left, right)) => PairShape::Pair(left, right),
+            None => PairShape::Test(self.test(to, a, b)),
+        }
+    }
+
     /// The node in `to` of the map of the absorbed pairs, where the memo has pairs of nodes of these sides.
     #[cycle(paired)]
     pub(crate) fn paired(
@@ -114,12 +154,22 @@ impl<S: Side> TwoSides<S> {
         ensures pairs { PairsKept pairs.old pairs.new }
         ensures grows { Grows to.old to.new }
     {
+        let test = self.test(to, a, b);
+        let low = self.paired(test.low.0, test.low.1, to, pairs, memo)?;
+        let high = self.paired(test.high.0, test.high.1, to, pairs, memo)?;
+        let node = to.node(test.track, low, high)?;
+        Ok(node)
+    }
+
+    /// Both maps by the least track that one of them looks at.
+    fn test(&self, to: &Diagrams, a: Node, b: Node) -> PairTest
+        requires read { CanBePaired self.now to.now a b }
+        requires low { pair_top self.now to.now a b < MOST_TRACKS }
+        ensures { IsPairTest self.now to.now a b result }
+    {
         let track = self.top(to, a, b);
         let (low, high) = self.split(to, a, b, track);
-        let low = self.paired(low.0, low.1, to, pairs, memo)?;
-        let high = self.paired(high.0, high.1, to, pairs, memo)?;
-        let node = to.node(track, low, high)?;
-        Ok(node)
+        PairTest { track, low, high }
     }
 
     /// The least track that one of both maps looks at, or 20 where both are constant.

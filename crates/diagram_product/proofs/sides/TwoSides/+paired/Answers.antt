@@ -65,9 +65,9 @@ paired-returns-clause-answers g t c =
 
 pub paired_sides-paired-requires : goal.paired_sides-paired-requires
 paired_sides-paired-requires g t c κs within =
-    let left = c.split-low.ensures.left in
-    let right = c.split-low.ensures.right in
-    let track = c.top-track.ensures in
+    let left = c.test-test.ensures.left in
+    let right = c.test-test.ensures.right in
+    let track = c.test-test.ensures.top in
     let small = c.requires.low in
     let room = c.requires.room in
     let whole = ap room_from track in
@@ -79,9 +79,9 @@ paired_sides-paired-requires g t c κs within =
 
 pub paired_sides-paired-requires-2 : goal.paired_sides-paired-requires-2
 paired_sides-paired-requires-2 g t c κs within =
-    let left = c.split-low.ensures.left in
-    let right = c.split-low.ensures.right in
-    let track = c.top-track.ensures in
+    let left = c.test-test.ensures.left in
+    let right = c.test-test.ensures.right in
+    let track = c.test-test.ensures.top in
     let small = c.requires.low in
     let room = c.requires.room in
     let whole = ap room_from track in
@@ -104,19 +104,19 @@ paired_sides-returns-clause-paired g t c =
     let high = c.in_ok-high.ensures.paired in
     let low_known = low.known in
     let longer = c.in_ok-high.ensures.grows.longer in
-    IsPaired-parts c.requires.read c.split-low.ensures.left c.split-low.ensures.right
-    grows c.in_ok-node.ensures.known c.top-track.ensures
+    IsPaired-parts c.requires.read c.test-test.ensures.left c.test-test.ensures.right
+    grows c.in_ok-node.ensures.known c.test-test.ensures.top
     (IsPaired-grows from_low c.in_ok-high.ensures.pairs low) (IsPaired-grows from_high (PairsKept-refl _) high)
-    (λ letter. c.in_ok-node.ensures.map letter ∙ sym (chosen-grows c.top-track.result _ _ letter (omega (arith, low_known, longer)) high.known from_high)) c.in_ok-node.ensures.top
+    (λ letter. c.in_ok-node.ensures.map letter ∙ sym (chosen-grows c.test-test.result.track _ _ letter (omega (arith, low_known, longer)) high.known from_high)) c.in_ok-node.ensures.top
 
 pub paired_sides-returns-clause-remembered : goal.paired_sides-returns-clause-remembered
 paired_sides-returns-clause-remembered g t c = RemembersPaired-grows c.in_ok-node.ensures.grows (PairsKept-refl _) c.in_ok-high.ensures.remembered
 
 pub paired_sides-returns-clause-room : goal.paired_sides-returns-clause-room
 paired_sides-returns-clause-room g t c =
-    let left = c.split-low.ensures.left in
-    let right = c.split-low.ensures.right in
-    let track = c.top-track.ensures in
+    let left = c.test-test.ensures.left in
+    let right = c.test-test.ensures.right in
+    let track = c.test-test.ensures.top in
     let small = c.requires.low in
     let whole = ap room_from track in
     let parts = room_from-sides _ _ _ _ _ (omega (arith, track, small)) left.low_above left.high_above right.low_above right.high_above in
@@ -127,7 +127,7 @@ paired_sides-returns-clause-room g t c =
 
 pub paired_sides-returns-clause-answers : goal.paired_sides-returns-clause-answers
 paired_sides-returns-clause-answers g t c =
-    ArePairs-parts c.requires.read c.split-low.ensures.left c.split-low.ensures.right
+    ArePairs-parts c.requires.read c.test-test.ensures.left c.test-test.ensures.right
     _ c.in_ok-low.ensures.grows c.in_ok-high.ensures.pairs c.in_ok-low.ensures.answers c.in_ok-high.ensures.answers
 
 pub paired_sides-returns-clause-pairs : goal.paired_sides-returns-clause-pairs
