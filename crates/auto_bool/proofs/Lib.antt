@@ -6,3 +6,4 @@ pub mod Spreads
 pub mod OperandLemmas
 pub mod SingleStates
 pub mod Complements
+mod StayingStates

@@ -15,6 +15,7 @@ use Rattle.diagram_product.specs.Absorbed.{absorbed, ArePairs}
 use Rattle.letter_diagram.specs.Numbering.{PairsKept}
 use Rattle.letter_diagram.proofs.Lists.{one_place}
 use Rattle.auto_core.specs.Automaton.{Automaton, IsAutomaton, next_state, run, state_of, is_final, Accepts}
+use Rattle.auto_core.specs.Reduced.{AllReached}
 use Rattle.auto_walk.specs.Walker.{Walker, place_of, IsReached, IsWalked}
 use Rattle.auto_walk.specs.Rows.{AreNumbered, Extends, IsRow}
 use Rattle.auto_walk.proofs.WalkLemmas.{All-at}
@@ -39,7 +40,7 @@ Extends-pairs {old} {new} kept = record {
       get_pair new number (get_or old number (0, 0)) (kept.at number (get_or old number (0, 0)) was) ∙ ap Some same;
 }
 
-same_pair : (p q : ℕ × ℕ) → place_of_pair p ≡ place_of_pair q → p ≡ q
+pub same_pair : (p q : ℕ × ℕ) → place_of_pair p ≡ place_of_pair q → p ≡ q
 same_pair (a, b) (c, d) e = let f : a ≡ c = cc in let g : b ≡ d = cc in λ i. (f i, g i)
 
 different-places : (pairs : List (ℕ × ℕ)) → AllPairs (λ p q. p ≢ q) pairs → AllPairs (λ p q. p ≢ q) (map place_of_pair pairs)
@@ -71,7 +72,7 @@ module _ (tracks : List Var) (a b : Automaton) (connective : Connective) where
   place_of-pair (sign ∷ letters) nonempty = fold-pair letters _ _
 
 -- the states of a numbered pair
-states_at : (g : Absorbing) (tracks : List Var) (a b : Automaton) (connective : Connective) (pairs : List (ℕ × ℕ)) (number left right : ℕ) → IsAutomaton a → IsAutomaton b
+pub states_at : (g : Absorbing) (tracks : List Var) (a b : Automaton) (connective : Connective) (pairs : List (ℕ × ℕ)) (number left right : ℕ) → IsAutomaton a → IsAutomaton b
     → AreSinks a b connective g → slice_get pairs number ≡ Some (left, right) → AreNumbered (absorbing_walker g tracks a b connective) (map place_of_pair pairs)
     → (left < length a.accept) × (right < length b.accept)
 states_at g tracks a b connective pairs number left right a_valid b_valid sinks at numbered =
@@ -136,29 +137,40 @@ but_true true true = (λ h. absurd (true≢false (sym h)), λ h. absurd (h.1 ref
 but_true true false = (λ h. (refl, λ e. true≢false (sym e)), λ h. refl)
 but_true false q = (λ h. absurd (true≢false (sym h)), λ h. absurd (true≢false (sym h.0)))
 
--- the automaton of a walk over pairs is that of the product
-module _ (g : Absorbing) (a b m : Automaton) (connective : Connective) (sinks : AreSinks a b connective g) (walked : IsWalked (absorbing_walker g (with_vars a.tracks b.tracks) a b connective) m) where
+-- an automaton that accepts the words that lead to accepting pairs accepts those of the product
+module _ (g : Absorbing) (a b m : Automaton) (connective : Connective) (sinks : AreSinks a b connective g) (tracks : m.tracks ≡ with_vars a.tracks b.tracks)
+    (words : (word : List ℕ) → IsWord (length (with_vars a.tracks b.tracks)) word
+    → Accepts m word ↔ IsTrue ((absorbing_walker g (with_vars a.tracks b.tracks) a b connective).final (place_of (absorbing_walker g (with_vars a.tracks b.tracks) a b connective) word))) where
   accepts-combined : {word : List ℕ} → IsWord (length m.tracks) word
       → Accepts m word ↔ IsTrue (combined connective (is_final a (state_of a (part_of m.tracks a.tracks word))) (is_final b (state_of b (part_of m.tracks b.tracks word))))
   accepts-combined {word} is =
-      let is_all = subst (λ t. IsWord (length t) word) walked.tracks is in
-      let all = with_vars a.tracks b.tracks in
+      let is_all = subst (λ t. IsWord (length t) word) tracks is in
       let flag : (absorbing_walker g (with_vars a.tracks b.tracks) a b connective).final (place_of (absorbing_walker g (with_vars a.tracks b.tracks) a b connective) word)
       ≡ combined connective (is_final a (state_of a (part_of (with_vars a.tracks b.tracks) a.tracks word))) (is_final b (state_of b (part_of (with_vars a.tracks b.tracks) b.tracks word))) =
       same-flag g (with_vars a.tracks b.tracks) a b connective sinks word is.nonempty
       ∙ ap (both_walker a b connective).final (place_of-pair (with_vars a.tracks b.tracks) a b connective word is.nonempty) in
-      let words = walked.words word is_all in
-      subst (λ t. Accepts m word ↔ IsTrue (combined connective (is_final a (state_of a (part_of t a.tracks word))) (is_final b (state_of b (part_of t b.tracks word))))) (sym walked.tracks)
-      (λ h. sym flag ∙ words.0 h, λ h. words.1 (flag ∙ h))
+      let accepts = words word is_all in
+      subst (λ t. Accepts m word ↔ IsTrue (combined connective (is_final a (state_of a (part_of t a.tracks word))) (is_final b (state_of b (part_of t b.tracks word))))) (sym tracks)
+      (λ h. sym flag ∙ accepts.0 h, λ h. accepts.1 (flag ∙ h))
 
+pub IsProduct-words : (g : Absorbing) (a b m : Automaton) (connective : Connective) → AreSinks a b connective g → m.tracks ≡ with_vars a.tracks b.tracks
+    → ((word : List ℕ) → IsWord (length (with_vars a.tracks b.tracks)) word
+    → Accepts m word ↔ IsTrue ((absorbing_walker g (with_vars a.tracks b.tracks) a b connective).final (place_of (absorbing_walker g (with_vars a.tracks b.tracks) a b connective) word)))
+    → AllReached m → IsProduct a b connective m
+IsProduct-words g a b m connective sinks tracks words reached = record { tracks = tracks; words = accepts connective sinks words; reached = reached }
+  where
+    accepts : (connective : Connective) → AreSinks a b connective g
+        → ((word : List ℕ) → IsWord (length (with_vars a.tracks b.tracks)) word
+        → Accepts m word ↔ IsTrue ((absorbing_walker g (with_vars a.tracks b.tracks) a b connective).final (place_of (absorbing_walker g (with_vars a.tracks b.tracks) a b connective) word)))
+        → AcceptsBy connective a b m
+    accepts And sinks words = λ word is. let one = accepts-combined g a b m And sinks tracks words is in let two = both_true _ _ in (λ h. two.0 (one.0 h), λ h. one.1 (two.1 h))
+    accepts Or sinks words = λ word is. let one = accepts-combined g a b m Or sinks tracks words is in let two = one_true _ _ in (λ h. two.0 (one.0 h), λ h. one.1 (two.1 h))
+    accepts AndNot sinks words = λ word is. let one = accepts-combined g a b m AndNot sinks tracks words is in let two = but_true _ _ in (λ h. two.0 (one.0 h), λ h. one.1 (two.1 h))
+
+-- the automaton of a walk over pairs is that of the product
 pub IsProduct-walked : (g : Absorbing) (a b m : Automaton) (connective : Connective) → AreSinks a b connective g
     → IsWalked (absorbing_walker g (with_vars a.tracks b.tracks) a b connective) m → IsProduct a b connective m
-IsProduct-walked g a b m connective sinks walked = record { tracks = walked.tracks; words = accepts connective sinks walked; reached = walked.reached }
-  where
-    accepts : (connective : Connective) → AreSinks a b connective g → IsWalked (absorbing_walker g (with_vars a.tracks b.tracks) a b connective) m → AcceptsBy connective a b m
-    accepts And sinks walked = λ word is. let one = accepts-combined g a b m And sinks walked is in let two = both_true _ _ in (λ h. two.0 (one.0 h), λ h. one.1 (two.1 h))
-    accepts Or sinks walked = λ word is. let one = accepts-combined g a b m Or sinks walked is in let two = one_true _ _ in (λ h. two.0 (one.0 h), λ h. one.1 (two.1 h))
-    accepts AndNot sinks walked = λ word is. let one = accepts-combined g a b m AndNot sinks walked is in let two = but_true _ _ in (λ h. two.0 (one.0 h), λ h. one.1 (two.1 h))
+IsProduct-walked g a b m connective sinks walked = IsProduct-words g a b m connective sinks walked.tracks walked.words walked.reached
 
 -- the states of a numbered pair, however the pairs are listed
 pub states_in : {g : Absorbing} (tracks : List Var) {a b : Automaton} {connective : Connective} (pairs listed : List (ℕ × ℕ)) (number : ℕ) → IsAutomaton a → IsAutomaton b

@@ -1,5 +1,5 @@
 -- Pairs of states in which one side decides for good what a connective gives, and the automaton of a product.
-use Rattle.std.specs.Prelude.{◌≡◌, ℕ, ◌<◌, Bool, true, false, List, [], ◌∷◌, length, Some}
+use Rattle.std.specs.Prelude.{◌≡◌, ℕ, ◌<◌, Bool, true, false, List, [], ◌∷◌, length, Option, Some, None}
 use Rattle.track_word.specs.declared.tracks.Var.{Var}
 use Rattle.track_word.specs.Tracks.{with_vars, restrict}
 use Rattle.diagram_product.specs.declared.absorbing.Absorbing.{Absorbing}
@@ -30,10 +30,20 @@ pub record IsSink (a : Automaton) (flag : Bool) (state : ℕ) : Type 0 where
   pub accepts : is_final a state ≡ flag
   pub stays : (letter : ℕ) → letter < width a → next_state a state letter ≡ state
 
+-- the first state of a flag that leads to itself by each letter, if there is one
+abbrev pub IsFirstSink : Automaton → Bool → Option ℕ → Type 0
+IsFirstSink a flag None = (state : ℕ) → ¬ IsSink a flag state
+IsFirstSink a flag (Some first) = IsSink a flag first × ((state : ℕ) → state < first → ¬ IsSink a flag state)
+
 -- the absorbing values are states of either side that decide for good what the connective gives
 pub record AreSinks (a b : Automaton) (connective : Connective) (absorbing : Absorbing) : Type 0 where
   pub left : (state : ℕ) → absorbing.left ≡ Some state → IsSink a (left_deciding connective) state
   pub right : (state : ℕ) → absorbing.right ≡ Some state → IsSink b (right_deciding connective) state
+
+-- the absorbing value of either side is the first such state, if there is one
+pub record AreFirstSinks (a b : Automaton) (connective : Connective) (absorbing : Absorbing) : Type 0 where
+  pub left : IsFirstSink a (left_deciding connective) absorbing.left
+  pub right : IsFirstSink b (right_deciding connective) absorbing.right
 
 -- the pair of states that stands for the pair after a further letter
 abbrev pub next_absorbed : Absorbing → Automaton → Automaton → List Var → List ℕ → ℕ → List ℕ

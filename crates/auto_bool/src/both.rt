@@ -7,7 +7,7 @@ ghost use Rattle.auto_bool.specs.Sides.{IsSide};
 ghost use Rattle.auto_bool.specs.Absorbed.{AreSinks};
 
 use crate::connective::Connective;
-use crate::side::side;
+use crate::one_side::side;
 use auto_core::Auto;
 use auto_walk::Walk;
 use diagram_product::{Absorbing, Pairs, SidedProduct};
@@ -17,7 +17,7 @@ use std::alloc::{AllocError, Global};
 use track_word::{Var, insert_tracks};
 
 /// The tracks of both lists, ascending as those of the second.
-fn both_tracks(alloc: Global, left: &[Var], right: &[Var]) -> Result<Vec<Var>, AllocError>
+pub fn both_tracks(alloc: Global, left: &[Var], right: &[Var]) -> Result<Vec<Var>, AllocError>
     ensures { IfOk result (λ tracks. tracks.items ≡ with_vars left.now right.now) }
 {
     let mut tracks = right.to_vec(alloc)?;

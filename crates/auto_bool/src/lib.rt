@@ -8,13 +8,16 @@ mod both;
 mod complement;
 mod connective;
 mod nothing;
+mod one_side;
 mod operand;
 mod product;
-mod side;
 mod sink;
 
+pub use both::both_tracks;
 pub use complement::not;
 pub use connective::Connective;
 pub use nothing::none_of;
+pub use one_side::side;
 pub use operand::{Operand, fits_with_itself, operand_by};
-pub use product::{difference, join, meet, product_within};
+pub use product::{difference, join, meet, pairs_fit, product_within};
+pub use sink::sinks;

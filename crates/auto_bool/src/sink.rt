@@ -1,15 +1,16 @@
 //! States that an automaton does not leave.
-ghost use Rattle.std.specs.Prelude.{◌≡◌, ◌<◌, length, IsTrue, IfSome, Some};
-ghost use Rattle.auto_bool.specs.Absorbed.{IsSink, AreSinks};
+ghost use Rattle.std.specs.Prelude.{◌<◌, ◌↔◌, length, IsTrue};
+ghost use Rattle.auto_bool.specs.Absorbed.{IsSink, IsFirstSink, AreSinks, AreFirstSinks};
 
 use crate::connective::Connective;
 use auto_core::Auto;
 use diagram_product::Absorbing;
 use letter_diagram::Shape;
 
-/// The states of either side, where there are such, that decide for good what the connective gives.
+/// The first state of either side, where there is such, that decides for good what the connective gives.
 pub fn sinks(a: &Auto, b: &Auto, connective: Connective) -> Absorbing
-    ensures { AreSinks a.now b.now connective result }
+    ensures sinks { AreSinks a.now b.now connective result }
+    ensures first { AreFirstSinks a.now b.now connective result }
 {
     Absorbing {
         left: sink(a, connective.left_deciding()),
@@ -19,7 +20,7 @@ pub fn sinks(a: &Auto, b: &Auto, connective: Connective) -> Absorbing
 
 /// The first state of this flag whose row leads each letter to itself.
 fn sink(a: &Auto, flag: bool) -> Option<u32>
-    ensures { IfSome result (λ state. IsSink a.now flag state) }
+    ensures { IsFirstSink a.now flag result }
 {
     for state in 0..a.states() {
         if is_sink(a, flag, state) {
@@ -31,7 +32,7 @@ fn sink(a: &Auto, flag: bool) -> Option<u32>
 
 fn is_sink(a: &Auto, flag: bool, state: u32) -> bool
     requires { state < length a.now.accept }
-    ensures { IsTrue result → IsSink a.now flag state }
+    ensures { IsTrue result ↔ IsSink a.now flag state }
 {
     if a.accept_of(state) != flag {
         return false;

@@ -7,4 +7,4 @@ pub returns-clause-ok : goal.returns-clause-ok
 returns-clause-ok c =
     let made = c.in_ok-both.ensures in
     let same = walker-same _ _ _ _ _ _ _ _ _ made.absorbing made.left made.right made.connective made.tracks in
-    IsProduct-walked c.sinks.result c.args.a.now c.args.b.now c.in_ok-m.m c.args.connective c.sinks.ensures (subst (λ w. IsWalked w c.in_ok-m.m) same c.in_ok-m.ensures.ok)
+    IsProduct-walked c.sinks.result c.args.a.now c.args.b.now c.in_ok-m.m c.args.connective c.sinks.ensures.sinks (subst (λ w. IsWalked w c.in_ok-m.m) same c.in_ok-m.ensures.ok)

@@ -1,7 +1,7 @@
 use Rattle.std.proofs.Common.{Some, map, ap, ◌∙◌}
 use Rattle.track_word.specs.Tracks.{place}
 use Rattle.auto_bool.proofs.TrackLemmas.{places-ascend, places-low}
-use Rattle.auto_bool.proofs.side.side.Goals as goal
+use Rattle.auto_bool.proofs.one_side.side.Goals as goal
 
 pub new-requires-clause-ascending : goal.new-requires-clause-ascending
 new-requires-clause-ascending c =
