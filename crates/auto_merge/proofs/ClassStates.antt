@@ -1,154 +1,227 @@
 -- The automaton over classes, and what it accepts.
-use Rattle.std.proofs.Common.{◌≡◌, ℕ, ◌<◌, Bool, List, [], ◌∷◌, length, get_or, All, arith, refl, sym, ap, ◌∙◌, subst, inl, inr}
-use Rattle.std.proofs.lemmas.List.{get_or_default}
-use Rattle.std.proofs.lemmas.List.Elements.{All-head, All-tail, All-get_or, All-from_get_or}
+use Rattle.std.proofs.Common.{◌≡◌, ◌≢◌, ℕ, ◌<◌, ◌≤◌, ◌^◌, Bool, List, [], ◌∷◌, ◌++◌, length, map, get_or, slice_get, Some, None, Contains, AllPairs, arith, refl, sym, ap, ◌∙◌, subst, inl, inr}
+use Rattle.std.specs.List.{All, fold}
+use Rattle.std.proofs.lemmas.Bool.{cases_lt}
+use Rattle.std.proofs.lemmas.List.{length-map, get_or_default, length_push, get_or_append_left, get_or_push}
+use Rattle.std.proofs.lemmas.List.Elements.{All-head, All-tail, All-from_get_or, All-map, All-weaker, All-contains}
+use Rattle.std.proofs.lemmas.Option.{slice_get_within, slice_get-get_or, get_or_from_slice_get}
 use Rattle.track_word.specs.Word.{IsWord}
 use Rattle.letter_diagram.specs.declared.diagrams.Shape.{Shape}
-use Rattle.letter_diagram.specs.Diagram.{map_at, LooksBelow}
-use Rattle.auto_core.specs.Automaton.{Automaton, IsAutomaton, width, first_state, next_state, run, state_of, is_final}
+use Rattle.letter_diagram.specs.Diagram.{map_at, LooksBelow, Grows}
+use Rattle.letter_diagram.proofs.Narrow.{LooksBelow-grows}
+use Rattle.auto_core.specs.Automaton.{next_state, run, state_of, is_final}
 use Rattle.auto_core.specs.Reduced.{AllReached}
-use Rattle.auto_core.specs.Rows.{AreRows, IsOverNodes, dense}
-use Rattle.auto_core.proofs.RowLemmas.{get_or-row_of, next_state-dense, IsAutomaton-dense}
-use Rattle.auto_refine.specs.Picked.{ArePicked, AreFlags}
-use Rattle.auto_refine.specs.Leading.{IsLedFrom}
-use Rattle.auto_core.specs.Words.{HasSameWords}
+use Rattle.auto_core.specs.Rows.{dense, AreRows}
+use Rattle.auto_core.proofs.RowLemmas.{get_or-row_of, next_state-dense}
+use Rattle.auto_walk.specs.Walker.{Walker, place_of, IsReached, AreTracks, MoreThan}
+use Rattle.auto_walk.specs.Rows.{Extends}
+use Rattle.auto_walk.proofs.WalkLemmas.{length_le-among, All-at, apart_in_map}
+use Rattle.auto_merge.specs.Graph.{Graph, AreSeen, IsRowSpot, IsRowAt}
+use Rattle.auto_merge.specs.Keys.{HasClass, IsLedBy}
 use Rattle.auto_merge.specs.Merging.{AreClasses}
-use Rattle.auto_merge.specs.Merged.{HaveClasses, AreLed, IsMergedBy, IsMerged}
-use Rattle.auto_merge.specs.declared.leading.Led.{Led}
-use Rattle.auto_core.proofs.States.{state_within}
-use Rattle.auto_refine.proofs.States.{first_within, next_within}
-use Rattle.auto_reduce.proofs.Leads.{leads-first, leads-row}
-use Rattle.auto_ways.proofs.RowNodes.{AreRowNodes-own}
-use Rattle.auto_refine.proofs.Stales.{All-picked}
+use Rattle.auto_merge.specs.Merged.{IsRowTo, IsClassRow, AreClassRows, AreClassFlags, IsMerged}
+use Rattle.auto_merge.proofs.Leads.{HaveMore, one_class}
+use Rattle.auto_merge.proofs.Classes.{KeepsOwners, HasOwner-more, one_owner}
 
-module _ {a : Automaton} {table owners : List ℕ} (over : IsOverNodes a) (valid : IsAutomaton a) (cl : AreClasses a table owners) (all : HaveClasses a table) where
-  class_within : (state : ℕ) → state < length a.accept → get_or table state 0 < length owners
-  class_within state h = (cl.classed state h (all state h)).known
+-- ---- rows, as more is known
 
-  pub owners_within : All (λ state. state < length a.accept) owners
-  owners_within = All-from_get_or (λ state. state < length a.accept) owners 0 cl.within
+pub IsRowTo-more : {w : Walker} {old new : List (List ℕ)} {table more : List ℕ} {shapes after : List Shape} {lead : ℕ → List ℕ} {node : ℕ} → HaveMore old table new more
+    → Grows shapes after → IsRowTo w old table shapes lead node → IsRowTo w new more after lead node
+IsRowTo-more {w} {old} {new} {table} {more} {shapes} {after} {lead} {node} have grows is =
+    let known = is.known in
+    let longer = grows.longer in
+    record {
+      known = omega (arith, known, longer);
+      narrow = LooksBelow-grows is.known grows is.narrow;
+      given = λ letter.
+          let g = is.given letter in
+          record { place = g.place; class_is = subst (HasClass new more g.place) (sym (grows.map node letter is.known)) (have.kept g.place _ g.class_is) };
+      leads = λ letter below. subst (HasClass new more (lead letter)) (sym (grows.map node letter is.known)) (have.kept _ _ (is.leads letter below));
+    }
 
-  pub owners_rows : All (λ state. state < length a.row_nodes) owners
-  owners_rows = rw over.nodes.rows_size owners_within
+pub AreClassRows-more : {w : Walker} {old new : List (List ℕ)} {table more owners after_owners : List ℕ} {shapes after : List Shape} {rows : List ℕ} → Extends old new → HaveMore old table new more
+    → KeepsOwners owners after_owners → Grows shapes after → AreClassRows w old table owners shapes rows → AreClassRows w new more after_owners after rows
+AreClassRows-more extends have keeps grows all = record {
+  at = λ class node at.
+      let is = all.at class node at in
+      record { owner = is.owner; has = HasOwner-more extends keeps is.has; row = IsRowTo-more have grows is.row };
+}
 
-  module _ {picked : List ℕ} (is_picked : ArePicked a.row_nodes owners picked) where
-    pub nodes_known : All (λ node. node < length a.shapes) picked
-    nodes_known = All-picked (λ node. node < length a.shapes) picked is_picked owners_rows over.nodes.rows_known
+-- one more class has its row
+pub AreClassRows-push : {w : Walker} {places : List (List ℕ)} {table owners : List ℕ} {shapes : List Shape} {rows : List ℕ} (class node : ℕ) → class ≡ length rows
+    → AreClassRows w places table owners shapes rows → IsClassRow w places table owners shapes class node → AreClassRows w places table owners shapes (rows ++ node ∷ [])
+AreClassRows-push {w} {places} {table} {owners} {shapes} {rows} class node is all one = record {
+  at = λ c n at.
+      let within = slice_get_within (rows ++ node ∷ []) c n at in
+      let size = length_push rows node in
+      let here = get_or_from_slice_get (rows ++ node ∷ []) c n n at in
+      elim (cases_lt c (length rows)) [
+        | inl before ↦
+            let same : get_or rows c n ≡ n = sym (get_or_append_left rows (node ∷ []) n c before) ∙ here in
+            all.at c n (slice_get-get_or rows c n before ∙ ap Some same)
+        | inr past ↦
+            let end : length rows ≡ c = omega (arith, within, size, past) in
+            let same : node ≡ n = sym (get_or_push rows node n c end) ∙ here in
+            subst (λ k. IsClassRow w places table owners shapes k n) (is ∙ end) (subst (IsClassRow w places table owners shapes class) same one)
+      ];
+}
 
-    pub nodes_in_table : All (λ node. (letter : ℕ) → map_at a.shapes node letter < length table) picked
-    nodes_in_table = rw cl.size (All-picked (λ node. (letter : ℕ) → map_at a.shapes node letter < length a.accept) picked is_picked owners_rows over.nodes.rows_within)
+-- a spot that leads each letter to a class is a row of classes
+pub IsRowTo-led : {Spot : Type 0} {g : Graph Spot} {places : List (List ℕ)} {table : List ℕ} {shapes : List Shape} {lead : ℕ → List ℕ} {spot : Spot} {node : ℕ} → AllPairs (λ p q. p ≢ q) places
+    → IsRowSpot g lead spot → IsLedBy g places table shapes None spot node → IsRowTo g.walker places table shapes lead node
+IsRowTo-led {Spot} {g} {places} {table} {shapes} {lead} {spot} {node} different row led =
+    let has = λ (letter : ℕ). let h : HasClass places table (g.leads spot letter) (map_at shapes node letter) = elim (led.values letter) [ inl has ↦ has | inr self ↦ absurd self.0 ] in h in
+    record {
+      known = led.known;
+      narrow = record {
+        same = λ a b agree.
+            one_class (g.leads spot b) _ _ different (subst (λ p. HasClass places table p (map_at shapes node a)) (row.narrow a b agree) (has a)) (has b);
+      };
+      given = λ letter. record { place = g.leads spot letter; class_is = has letter };
+      leads = λ letter below. subst (λ p. HasClass places table p (map_at shapes node letter)) (row.leads letter below) (has letter);
+    }
 
-    module _ {shapes : List Shape} {led : Led} (is_led : AreLed a.shapes shapes table a.first_node picked led) {flags : List Bool} (are_flags : AreFlags a owners flags) where
-      row_led : (k : ℕ) → k < length owners → IsLedFrom a.shapes shapes table (get_or a.row_nodes (get_or owners k 0) 0) (get_or led.rows.items k 0)
-      row_led k h = subst (λ n. IsLedFrom a.shapes shapes table n (get_or led.rows.items k 0)) (is_picked.at k h) (is_led.rows_led.each k (let s = is_picked.size in omega (arith, h, s)))
+-- the row of the owner of a class
+pub IsClassRow-led : {Spot : Type 0} {g : Graph Spot} {places : List (List ℕ)} {table owners : List ℕ} {shapes : List Shape} {class owner : ℕ} {spot : Spot} {node : ℕ} → AllPairs (λ p q. p ≢ q) places
+    → slice_get owners class ≡ Some owner → IsRowAt g places owner spot → IsLedBy g places table shapes None spot node → IsClassRow g.walker places table owners shapes class node
+IsClassRow-led {owner = owner} different at row led = record {
+  owner = row.place;
+  has = record { number = owner; at = at; is = row.is };
+  row = IsRowTo-led different row.row led;
+}
 
-      row_count : length led.rows.items ≡ length owners
-      row_count = is_led.rows_led.size ∙ is_picked.size
+-- ---- the automaton over the classes
 
-      led_narrow : {node : ℕ} (made : ℕ) → LooksBelow a.shapes node (length a.tracks) → IsLedFrom a.shapes shapes table node made → LooksBelow shapes made (length a.tracks)
-      led_narrow made narrow l = record { same = λ x y agree. l.map x ∙ ap (λ v. get_or table v 0) (narrow.same x y agree) ∙ sym (l.map y) }
+-- words that lead to places among some, no two to one, are no more than these
+pub not_MoreThan : (w : Walker) (places : List (List ℕ)) (most : ℕ) → ((word : List ℕ) → IsWord (length w.tracks) word → Contains places (place_of w word)) → length places ≤ most → ¬ MoreThan w most
+not_MoreThan w places most there room more =
+    let all = All-map (Contains places) (place_of w) more.words (All-weaker (IsWord (length w.tracks)) (λ v. Contains places (place_of w v)) there more.words more.are_words) in
+    let among = λ (q : List ℕ) (h : Contains (map (place_of w) more.words) q). All-contains (Contains places) (map (place_of w) more.words) q all h in
+    let most_are = length_le-among (map (place_of w) more.words) places (apart_in_map w more.words more.apart) among in
+    omega (arith, most_are, room, more.count, length-map more.words (place_of w))
 
-      led_within : (node made : ℕ) → ((letter : ℕ) → map_at a.shapes node letter < length a.accept) → IsLedFrom a.shapes shapes table node made
-          → (letter : ℕ) → map_at shapes made letter < length flags
-      led_within node made within l letter = let e = l.map letter in let c = class_within (map_at a.shapes node letter) (within letter) in let s = are_flags.size in omega (arith, e, c, s)
+-- each class has a row and a flag, and the first row leads to classes
+pub record AreMade (w : Walker) (places : List (List ℕ)) (table owners : List ℕ) (shapes : List Shape) (first : ℕ) (rows : List ℕ) (accept : List Bool) : Type 0 where
+  pub tracks : AreTracks w.tracks
+  pub different : AllPairs (λ p q. p ≢ q) places
+  pub few : length owners < 2 ^ 31
+  pub classes : AreClasses w places table owners
+  pub first_row : IsRowTo w places table shapes w.first first
+  pub class_rows : AreClassRows w places table owners shapes rows
+  pub rows_size : length rows ≡ length owners
+  pub flags : AreClassFlags w places owners accept
 
-      row_state : (k : ℕ) → k < length owners → get_or owners k 0 < length a.row_nodes
-      row_state k h = All-get_or (λ state. state < length a.row_nodes) owners k 0 h owners_rows
+module _ {w : Walker} {places : List (List ℕ)} {table owners : List ℕ} {shapes : List Shape} {first : ℕ} {rows : List ℕ} {accept : List Bool}
+    (made : AreMade w places table owners shapes first rows accept) where
+  -- a class that a place has is that of an owner
+  class_within : {place : List ℕ} {class : ℕ} → HasClass places table place class → class < length owners
+  class_within {place} {class} has =
+      let is = made.classes.classed place class has in
+      slice_get_within owners class is.has.number is.has.at
 
-      row_narrow : (k : ℕ) → k < length owners → LooksBelow a.shapes (get_or a.row_nodes (get_or owners k 0) 0) (length a.tracks)
-      row_narrow k h = All-get_or (λ node. LooksBelow a.shapes node (length a.tracks)) a.row_nodes (get_or owners k 0) 0 (row_state k h) over.nodes.rows_narrow
+  row_at : (class : ℕ) → class < length owners → IsClassRow w places table owners shapes class (get_or rows class 0)
+  row_at class below = made.class_rows.at class (get_or rows class 0) (slice_get-get_or rows class 0 (let size = made.rows_size in omega (arith, size, below)))
 
-      row_in : (k : ℕ) → k < length owners → (letter : ℕ) → map_at a.shapes (get_or a.row_nodes (get_or owners k 0) 0) letter < length a.accept
-      row_in k h = All-get_or (λ node. (letter : ℕ) → map_at a.shapes node letter < length a.accept) a.row_nodes (get_or owners k 0) 0 (row_state k h) over.nodes.rows_within
+  -- each value of a row is a class
+  value_within : {lead : ℕ → List ℕ} {node : ℕ} → IsRowTo w places table shapes lead node → (letter : ℕ) → map_at shapes node letter < length accept
+  value_within is letter =
+      let within = class_within (is.given letter).class_is in
+      let size = made.flags.size in
+      omega (arith, within, size)
 
-      pub AreRows-classes : AreRows a.tracks shapes led.first led.rows.items flags
-      AreRows-classes =
-          let states = are_flags.size in
-          let some = class_within 0 valid.some_state in
-          let few = cl.few in
-          record {
-            ascending = valid.ascending;
-            few_tracks = valid.few_tracks;
-            some_state = omega (arith, some, states);
-            few_states = omega (arith, few, states, valid.few_states);
-            rows_size = row_count ∙ sym states;
-            first_known = is_led.first_led.known;
-            first_narrow = led_narrow led.first over.nodes.first_narrow is_led.first_led;
-            first_within = led_within a.first_node led.first over.nodes.first_within is_led.first_led;
-            rows_known = All-from_get_or (λ node. node < length shapes) led.rows.items 0 (λ k h. (row_led k (omega (arith, row_count, h))).known);
-            rows_narrow =
-                All-from_get_or (λ node. LooksBelow shapes node (length a.tracks)) led.rows.items 0
-                (λ k h. let w : k < length owners = omega (arith, row_count, h) in
-                led_narrow (get_or led.rows.items k 0) (row_narrow k w) (row_led k w));
-            rows_within =
-                All-from_get_or (λ node. (letter : ℕ) → map_at shapes node letter < length flags) led.rows.items 0
-                (λ k h. let w : k < length owners = omega (arith, row_count, h) in
-                led_within (get_or a.row_nodes (get_or owners k 0) 0) (get_or led.rows.items k 0) (row_in k w) (row_led k w));
-          }
-
-      pub IsMergedBy-classes : IsMergedBy a table owners (dense a.tracks shapes led.first led.rows.items flags)
-      IsMergedBy-classes = record {
-        source = valid;
-        over = over;
-        valid = IsAutomaton-dense AreRows-classes;
-        classes = cl;
-        all = all;
-        tracks = refl;
-        size = are_flags.size;
-        first = λ letter below. get_or-row_of shapes (width a) led.first letter below ∙ is_led.first_led.map letter ∙ (leads-first a table over).leads letter below;
-        next = λ class letter h below.
-            next_state-dense a.tracks shapes led.first led.rows.items flags AreRows-classes class letter (get_or led.rows.items class 0) (omega (arith, h, are_flags.size)) below
-            (get_or_default led.rows.items class 0 (get_or led.rows.items class 0) (omega (arith, h, row_count))) ∙ (row_led class h).map letter
-            ∙ (leads-row a table over (get_or owners class 0) (cl.within class h)).leads letter below;
-        final = are_flags.at;
+  pub AreRows-classes : AreRows w.tracks shapes first rows accept
+  AreRows-classes =
+      let size = made.flags.size in
+      let rows_size = made.rows_size in
+      let few = made.few in
+      let some = value_within made.first_row 0 in
+      let below = λ (k : ℕ) (h : k < length rows). let b : k < length owners = omega (arith, rows_size, h) in b in
+      record {
+        ascending = made.tracks.ascending;
+        few_tracks = made.tracks.few;
+        some_state = omega (arith, some);
+        few_states = omega (arith, size, few);
+        rows_size = rows_size ∙ sym size;
+        first_known = made.first_row.known;
+        first_narrow = made.first_row.narrow;
+        first_within = value_within made.first_row;
+        rows_known = All-from_get_or (λ node. node < length shapes) rows 0 (λ k h. (row_at k (below k h)).row.known);
+        rows_narrow = All-from_get_or (λ node. LooksBelow shapes node (length w.tracks)) rows 0 (λ k h. (row_at k (below k h)).row.narrow);
+        rows_within = All-from_get_or (λ node. (letter : ℕ) → map_at shapes node letter < length accept) rows 0 (λ k h. value_within (row_at k (below k h)).row);
       }
 
-module _ (a : Automaton) (table owners : List ℕ) (m : Automaton) (q : IsMergedBy a table owners m) where
-  -- a letter leads from the class of a state to the class of the next state
-  step : (state letter : ℕ) → state < length a.accept → letter < width a → next_state m (get_or table state 0) letter ≡ get_or table (next_state a state letter) 0
-  step state letter h below =
-      let c = q.classes.classed state h (q.all state h) in
-      let owner = get_or owners (get_or table state 0) 0 in
-      let rows = AreRowNodes-own q.over in
-      q.next (get_or table state 0) letter c.known below ∙ (elim c.rows [
-        | inl same ↦ ap (λ s. get_or table (next_state a s letter) 0) same
+  -- a letter leads from the class of a place to the class of the next place
+  step_leads : (place : List ℕ) (class letter : ℕ) → letter < 2 ^ length w.tracks → HasClass places table place class
+      → HasClass places table (w.next place letter) (next_state (dense w.tracks shapes first rows accept) class letter)
+  step_leads place class letter below has =
+      let known = class_within has in
+      let size = made.flags.size in
+      let rows_size = made.rows_size in
+      let is = made.classes.classed place class has in
+      let at = row_at class known in
+      let here = one_owner class at.owner is.owner at.has is.has in
+      let Has : List ℕ → ℕ → Type 0 = HasClass places table in
+      let lead : Has (w.next is.owner letter) (map_at shapes (get_or rows class 0) letter) =
+      subst (λ p. Has (w.next p letter) (map_at shapes (get_or rows class 0) letter)) here (at.row.leads letter below) in
+      let entry = next_state-dense w.tracks shapes first rows accept AreRows-classes class letter (get_or rows class 0) (omega (arith, known, size)) below
+      (get_or_default rows class 0 (get_or rows class 0) (omega (arith, rows_size, known))) in
+      subst (Has (w.next place letter)) (sym entry) (elim is.rows [
+        | inl same ↦ subst (λ p. Has (w.next p letter) (map_at shapes (get_or rows class 0) letter)) same lead
         | inr settled ↦
-            ap (λ s. get_or table s 0) (sym (rows.leads (get_or owners (get_or table state 0) 0) letter (q.classes.within (get_or table state 0) c.known) below))
-            ∙ sym (settled.same letter) ∙ ap (λ s. get_or table s 0) (rows.leads state letter h below)
+            let one = settled.same letter below in
+            subst (Has (w.next place letter)) (one_class (w.next is.owner letter) one.class _ made.different one.second lead) one.first
       ])
 
-  runs : (letters : List ℕ) (state : ℕ) → state < length a.accept → All (λ l. l < width a) letters → run m (get_or table state 0) letters ≡ get_or table (run a state letters) 0
-  runs [] state h letters_below = refl
-  runs (letter ∷ letters) state h letters_below =
-      let below = All-head (λ l. l < width a) letter letters letters_below in
-      let later = All-tail (λ l. l < width a) letter letters letters_below in
-      ap (λ s. run m s letters) (step state letter h below) ∙ runs letters (next_state a state letter) (next_within q.source state letter) later
+  run_leads : (letters : List ℕ) (place : List ℕ) (class : ℕ) → All (λ l. l < 2 ^ length w.tracks) letters → HasClass places table place class
+      → HasClass places table (fold w.next place letters) (run (dense w.tracks shapes first rows accept) class letters)
+  run_leads [] place class all has = has
+  run_leads (letter ∷ letters) place class all has =
+      run_leads letters _ _ (All-tail (λ l. l < 2 ^ length w.tracks) letter letters all) (step_leads place class letter (All-head (λ l. l < 2 ^ length w.tracks) letter letters all) has)
 
-  pub words_lead : {word : List ℕ} → IsWord (length a.tracks) word → state_of m word ≡ get_or table (state_of a word) 0
-  words_lead {word = []} w = absurd (w.nonempty refl)
-  words_lead {word = sign ∷ letters} w =
-      ap (λ s. run m s letters) (q.first sign (All-head (λ l. l < width a) sign letters w.letters))
-      ∙ runs letters (first_state a sign) (first_within q.source sign) (All-tail (λ l. l < width a) sign letters w.letters)
+  -- a word leads to the class of the place to which it leads
+  pub word_leads : {word : List ℕ} → IsWord (length w.tracks) word → HasClass places table (place_of w word) (state_of (dense w.tracks shapes first rows accept) word)
+  word_leads {word = []} is = absurd (is.nonempty refl)
+  word_leads {word = sign ∷ letters} is =
+      let below = All-head (λ l. l < 2 ^ length w.tracks) sign letters is.letters in
+      run_leads letters _ _ (All-tail (λ l. l < 2 ^ length w.tracks) sign letters is.letters)
+      (subst (HasClass places table (w.first sign)) (sym (get_or-row_of shapes (2 ^ length w.tracks) first sign below)) (made.first_row.leads sign below))
 
-  pub words_are : HasSameWords a m
-  words_are word w =
-      let h = state_within q.source word in
-      let c = q.classes.classed (state_of a word) h (q.all (state_of a word) h) in
-      let flag : is_final m (state_of m word) ≡ is_final a (state_of a word) = ap (is_final m) (words_lead w) ∙ q.final (get_or table (state_of a word) 0) c.known ∙ c.flag in
-      (λ p. sym flag ∙ p, λ p. flag ∙ p)
+  final_is : {word : List ℕ} → IsWord (length w.tracks) word
+      → is_final (dense w.tracks shapes first rows accept) (state_of (dense w.tracks shapes first rows accept) word) ≡ w.final (place_of w word)
+  final_is {word} word_is =
+      let state = state_of (dense w.tracks shapes first rows accept) word in
+      let is = made.classes.classed (place_of w word) state (word_leads word_is) in
+      made.flags.at state is.owner is.has ∙ is.flag
 
-  pub reached : AllReached a → AllReached m
-  reached all class h =
-      let known : class < length owners = let s = q.size in omega (arith, h, s) in
-      let r = all (get_or owners class 0) (q.classes.within class known) in
-      record {
-        word = r.word;
-        is_word = subst (λ ts. IsWord (length ts) r.word) (sym q.tracks) r.is_word;
-        leads = words_lead r.is_word ∙ ap (λ s. get_or table s 0) r.leads ∙ q.classes.own class known;
-      }
+  -- words lead to each class where words lead to the places
+  reached : (Place : List ℕ → Type 0) → All Place places → ((place : List ℕ) → Place place → IsReached w place) → AllReached (dense w.tracks shapes first rows accept)
+  reached Place all reach class below =
+      let size = made.flags.size in
+      let known : class < length owners = omega (arith, size, below) in
+      let own = made.classes.own class known in
+      let r = reach own.owner (All-at Place places own.class_is.number own.owner own.class_is.is all) in
+      let state = state_of (dense w.tracks shapes first rows accept) r.word in
+      let has : HasClass places table own.owner state = subst (λ p. HasClass places table p state) r.leads (word_leads r.is_word) in
+      record { word = r.word; is_word = r.is_word; leads = one_class own.owner _ class made.different has own.class_is }
 
-pub merged_words : {a m : Automaton} → IsMerged a m → HasSameWords a m
-merged_words {a} {m} q word w = words_are a q.table q.owners m q.merged word w
+  there : (word : List ℕ) → IsWord (length w.tracks) word → Contains places (place_of w word)
+  there word is =
+      let has = word_leads is in (
+        has.number,
+        slice_get_within places has.number (place_of w word) has.is,
+        get_or_from_slice_get places has.number (place_of w word) (place_of w word) has.is,
+      )
 
-pub merged_reached : {a m : Automaton} → IsMerged a m → AllReached a → AllReached m
-merged_reached {a} {m} q = reached a q.table q.owners m q.merged
+-- the automaton over the classes
+pub IsMerged-classes : {Spot : Type 0} {g : Graph Spot} {places : List (List ℕ)} {table owners : List ℕ} {shapes : List Shape} {first : ℕ} {rows : List ℕ} {accept : List Bool}
+    → AreSeen g places → length owners ≤ length places → AreMade g.walker places table owners shapes first rows accept → IsMerged g (dense g.walker.tracks shapes first rows accept)
+IsMerged-classes {g = g} {places = places} seen fewer made =
+    let size = made.flags.size in
+    let few = seen.few in
+    record {
+      tracks = refl;
+      words = λ word is. let flag = final_is made is in (λ h. sym flag ∙ h, λ h. flag ∙ h);
+      reached = reached made g.is_place seen.are_places;
+      few = omega (arith, size, few, fewer);
+      within = not_MoreThan g.walker places g.most (there made) seen.few;
+    }

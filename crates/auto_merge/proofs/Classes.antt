@@ -1,305 +1,306 @@
 -- Classes that are given one by one.
-use Rattle.std.proofs.Common.{◌≡◌, ◌≢◌, ◌⊎◌, ℕ, ◌<◌, ◌≤◌, ◌^◌, Bool, true, false, List, [], ◌∷◌, ◌++◌, length, get_or, Option, Some, arith, refl, sym, ap, ◌∙◌, subst, inl, inr}
+use Rattle.std.proofs.Common.{◌≡◌, ◌≢◌, ◌⊎◌, ℕ, ◌<◌, ◌≤◌, Bool, true, false, List, [], ◌∷◌, ◌++◌, length, get_or, slice_get, Some, None, arith, refl, sym, ap, ◌∙◌, subst, inl, inr}
 use Rattle.std.specs.HashMap.{HashMap, get, Updates}
 use Rattle.std.proofs.lemmas.Bool.{cases_eq, cases_lt}
 use Rattle.std.proofs.lemmas.List.{length_push, get_or_push, get_or_append_left}
+use Rattle.std.proofs.lemmas.Option.{slice_get_within, slice_get-get_or, get_or_from_slice_get, same_Some}
 use Rattle.std.proofs.lemmas.Grind.{common_steps}
 use Rattle.letter_diagram.specs.declared.diagrams.Shape.{Shape}
 use Rattle.letter_diagram.specs.Diagram.{map_at, Grows}
-use Rattle.auto_core.specs.Automaton.{Automaton, IsAutomaton, is_final}
+use Rattle.letter_diagram.proofs.Maps.{Grows-refl}
+use Rattle.auto_walk.specs.Walker.{Walker}
+use Rattle.auto_walk.specs.Rows.{Extends}
+use Rattle.auto_walk.proofs.RowLemmas.{Extends-refl, length_le-Extends}
 use Rattle.auto_merge.specs.declared.keys.TheConstants.{NO_CLASS}
-use Rattle.auto_merge.specs.declared.keys.Key.{Key}
-use Rattle.auto_merge.specs.Keys.{IsKey, IsGiven, RemembersGiven}
-use Rattle.auto_merge.specs.Merging.{next_at, class_at, key_eq, IsSettled, IsClassed, AreClasses, IsKeyedAt, IsKeyed, AreKeyed, IsKeyOf, CanJoin, AgreesWith, IsClassGiven, KeepsClasses}
+use Rattle.auto_merge.specs.Graph.{Graph}
+use Rattle.auto_merge.specs.Keys.{class_in, HasClass, IsValueOf}
+use Rattle.auto_merge.specs.Merging.{HasOwner, HaveOneClass, IsSettled, IsClassed, OwnsClass, AreClasses, IsKeyOf, IsKeyed, key_eq, AreKeyed, IsRowKey, CanJoin, IsClassGiven, AgreesWith}
+use Rattle.auto_merge.proofs.Leads.{HaveMore, HaveMore-extends, HaveMore-table, IsValueOf-more, classed_within}
 
 key_eq-true : (p q : Bool × ℕ) → key_eq p q ≡ true → p ≡ q
 key_eq-true (b, m) (c, n) h = grind (arith, common_steps)
 
--- what an owner's class is stays, as owners are added
-pub record Longer (old new : List ℕ) : Type 0 where
-  pub longer : length old ≤ length new
-  pub kept : (k : ℕ) → k < length old → get_or new k 0 ≡ get_or old k 0
+-- ---- owners
 
-pub Longer-same : (xs : List ℕ) → Longer xs xs
-Longer-same xs = record { longer = omega arith; kept = λ k h. refl }
+-- each class that had an owner keeps it
+pub record KeepsOwners (owners more : List ℕ) : Type 0 where
+  pub kept : (class number : ℕ) → slice_get owners class ≡ Some number → slice_get more class ≡ Some number
 
-pub Longer-push : (xs : List ℕ) (x : ℕ) → Longer xs (xs ++ x ∷ [])
-Longer-push xs x = record { longer = let l = length_push xs x in omega (arith, l); kept = λ k h. get_or_append_left xs (x ∷ []) 0 k h }
+pub KeepsOwners-refl : (owners : List ℕ) → KeepsOwners owners owners
+KeepsOwners-refl owners = record { kept = λ class number is. is }
 
-module _ {old new : List ℕ} {state class : ℕ} (given : IsClassGiven old new state class) (none : get_or old state 0 ≡ NO_CLASS) where
-  -- what had a class keeps it
-  pub class_kept : (other : ℕ) → get_or old other 0 ≢ NO_CLASS → get_or new other 0 ≡ get_or old other 0
-  class_kept other some = given.others other (λ e. some (ap (λ s. get_or old s 0) e ∙ none))
+pub KeepsOwners-longer : {owners more : List ℕ} → KeepsOwners owners more → length owners ≤ length more
+KeepsOwners-longer {owners = []} keeps = omega arith
+KeepsOwners-longer {owners = n ∷ owners} {more} keeps =
+    let at = keeps.kept (length owners) (get_or (n ∷ owners) (length owners) 0) (slice_get-get_or (n ∷ owners) (length owners) 0 (omega arith)) in
+    let within = slice_get_within more (length owners) (get_or (n ∷ owners) (length owners) 0) at in
+    omega (arith, within)
 
-  pub some_kept : (other : ℕ) → get_or old other 0 ≢ NO_CLASS → get_or new other 0 ≢ NO_CLASS
-  some_kept other some e = some (sym (class_kept other some) ∙ e)
+pub KeepsOwners-push : (owners : List ℕ) (number : ℕ) → KeepsOwners owners (owners ++ number ∷ [])
+KeepsOwners-push owners number = record {
+  kept = λ class first is.
+      let within = slice_get_within owners class first is in
+      let size = length_push owners number in
+      slice_get-get_or (owners ++ number ∷ []) class first (omega (arith, within, size))
+      ∙ ap Some (get_or_append_left owners (number ∷ []) first class within ∙ get_or_from_slice_get owners class first first is);
+}
 
-  pub RemembersGiven-give : {from shapes : List Shape} {memo : List (Option ℕ)} → RemembersGiven from shapes old memo → RemembersGiven from shapes new memo
-  RemembersGiven-give {from} all = record {
-    given = λ a r at.
-        let is = all.given a r at in
-        record {
-          led = record {
-            known = is.led.known;
-            source_known = is.led.source_known;
-            map = λ letter. is.led.map letter ∙ sym (class_kept (map_at from a letter) (is.whole letter));
-            top = is.led.top;
-          };
-          whole = λ letter. some_kept (map_at from a letter) (is.whole letter);
-        };
-  }
+-- the last owner
+pub owner-last : (owners : List ℕ) (number class : ℕ) → class ≡ length owners → slice_get (owners ++ number ∷ []) class ≡ Some number
+owner-last owners number class is =
+    slice_get-get_or (owners ++ number ∷ []) class 0 (let size = length_push owners number in omega (arith, size, is))
+    ∙ ap Some (get_or_push owners number 0 class (sym is))
 
-  module _ (a : Automaton) where
-    IsSettled-give : {s t : ℕ} → IsSettled a old s t → IsSettled a new s t
-    IsSettled-give {s} {t} is = record {
-      same = λ letter.
-          let some = is.given letter in
-          let other : class_at a old t letter ≢ NO_CLASS = λ e. some (is.same letter ∙ e) in
-          class_kept (next_at a s letter) some ∙ is.same letter ∙ sym (class_kept (next_at a t letter) other);
-      given = λ letter. some_kept (next_at a s letter) (is.given letter);
+pub HasOwner-more : {old new : List (List ℕ)} {owners more : List ℕ} → Extends old new → KeepsOwners owners more → {class : ℕ} {place : List ℕ} → HasOwner old owners class place → HasOwner new more class place
+HasOwner-more extends keeps {class} {place} has = record {
+  number = has.number;
+  at = keeps.kept class has.number has.at;
+  is = extends.kept has.number place has.is;
+}
+
+-- a class has one owner
+pub one_owner : {places : List (List ℕ)} {owners : List ℕ} (class : ℕ) (p q : List ℕ) → HasOwner places owners class p → HasOwner places owners class q → p ≡ q
+one_owner {places} class p q h k =
+    let same = same_Some h.number k.number (sym h.at ∙ k.at) in
+    same_Some p q (sym h.is ∙ ap (slice_get places) same ∙ k.is)
+
+-- ---- what is more
+
+pub HaveOneClass-more : {old new : List (List ℕ)} {table more : List ℕ} {p q : List ℕ} → HaveMore old table new more → HaveOneClass old table p q → HaveOneClass new more p q
+HaveOneClass-more {p = p} {q = q} have one = record { class = one.class; first = have.kept p one.class one.first; second = have.kept q one.class one.second }
+
+pub IsSettled-more : {w : Walker} {old new : List (List ℕ)} {table more : List ℕ} {p q : List ℕ} → HaveMore old table new more → IsSettled w old table p q → IsSettled w new more p q
+IsSettled-more have settled = record { same = λ letter below. HaveOneClass-more have (settled.same letter below) }
+
+pub IsKeyOf-more : {w : Walker} {old new : List (List ℕ)} {table more : List ℕ} {shapes after : List Shape} {number node : ℕ} {place : List ℕ} → Extends old new → HaveMore old table new more
+    → Grows shapes after → IsKeyOf w old table shapes number place node → IsKeyOf w new more after number place node
+IsKeyOf-more {w} {old} {new} {table} {more} {shapes} {after} {number} {node} {place} extends have grows key =
+    let known = key.known in
+    let longer = grows.longer in
+    record {
+      is = extends.kept number place key.is;
+      known = omega (arith, known, longer);
+      values = λ letter below.
+          subst (IsValueOf new more (Some number) (w.next place letter)) (sym (grows.map node letter key.known)) (IsValueOf-more (Some number) extends have _ _ (key.values letter below));
     }
 
-    -- what is said of a state by its class
-    At : List ℕ → List ℕ → ℕ → ℕ → Type 0
-    At table owners s c = (c < length owners) × (is_final a (get_or owners c 0) ≡ is_final a s) × ((get_or owners c 0 ≡ s) ⊎ IsSettled a table s (get_or owners c 0))
+module _ {old new : List (List ℕ)} {table more owners after_owners : List ℕ} (extends : Extends old new) (have : HaveMore old table new more) (keeps : KeepsOwners owners after_owners) where
+  pub OwnsClass-more : {class : ℕ} → OwnsClass old table owners class → OwnsClass new more after_owners class
+  OwnsClass-more {class} own = record { owner = own.owner; has = HasOwner-more extends keeps own.has; class_is = have.kept own.owner class own.class_is }
 
-    pub IsClassed-give : {owners more : List ℕ} → Longer owners more → (s : ℕ) → get_or old s 0 ≢ NO_CLASS → IsClassed a old owners s → IsClassed a new more s
-    IsClassed-give {more} longer s some is =
-        let c = get_or old s 0 in
-        let known = is.known in
-        let l = longer.longer in
-        let own = longer.kept (get_or old s 0) is.known in
-        let e = class_kept s some in
-        let P : ℕ → Type 0 = λ d. (get_or more d 0 ≡ s) ⊎ IsSettled a new s (get_or more d 0) in
-        let rows : P (get_or old s 0) = elim is.rows [
-          | inl same ↦ inl (own ∙ same)
-          | inr settled ↦ inr (subst (IsSettled a new s) (sym own) (IsSettled-give settled))
-        ] in
-        record {
-          known = omega (arith, e, known, l);
-          flag = ap (λ d. is_final a (get_or more d 0)) e ∙ ap (is_final a) own ∙ is.flag;
-          rows = subst P (sym e) rows;
-        }
-
-    pub IsKeyed-give : {owners more : List ℕ} → Longer owners more → {shapes : List Shape} {flag : Bool} {node class' : ℕ}
-        → IsKeyed a old owners shapes flag node class' → IsKeyed a new more shapes flag node class'
-    IsKeyed-give {owners} longer {shapes} {node} {class'} is =
-        let class_known = is.class_known in
-        let l = longer.longer in
-        let own = longer.kept class' is.class_known in
-        record {
-          known = is.known;
-          class_known = omega (arith, class_known, l);
-          flag_is = ap (is_final a) own ∙ is.flag_is;
-          leads = λ letter.
-              let P : ℕ → Type 0 = λ s. IsKeyedAt a new shapes node s letter in
-              let at : P (get_or owners class' 0) = elim (is.leads letter) [
-                | inl self ↦ inl self
-                | inr led ↦ inr (class_kept _ led.1 ∙ led.0, some_kept _ led.1)
-              ] in
-              subst P (sym own) at;
-        }
-
-    pub KeepsClasses-give : IsAutomaton a → class < 2 ^ 31 → KeepsClasses old new state
-    KeepsClasses-give valid few = record {
-      has = λ e. let h = given.here in absurd (omega (arith, h, e, few));
-      kept = class_kept;
+  module _ {w : Walker} where
+    pub IsClassed-more : {place : List ℕ} {class : ℕ} → IsClassed w old table owners place class → IsClassed w new more after_owners place class
+    IsClassed-more is = record {
+      owner = is.owner;
+      has = HasOwner-more extends keeps is.has;
+      flag = is.flag;
+      rows = elim is.rows [ inl same ↦ inl same | inr settled ↦ inr (IsSettled-more have settled) ];
     }
 
-    pub AreKeyed-give : {S : Type 0} {owners more : List ℕ} → Longer owners more → {shapes : List Shape} {keyed : HashMap (Bool × ℕ) ℕ S}
-        → AreKeyed a old owners shapes keyed → AreKeyed a new more shapes keyed
-    AreKeyed-give longer all = record {
-      at = λ flag node class' at. IsKeyed-give longer (all.at flag node class' at);
+    module _ {shapes after : List Shape} (grows : Grows shapes after) where
+      pub IsKeyed-more : {flag : Bool} {node class : ℕ} → IsKeyed w old table owners shapes flag node class → IsKeyed w new more after_owners after flag node class
+      IsKeyed-more {class = class} is = record {
+        number = is.number;
+        at = keeps.kept class is.number is.at;
+        place = is.place;
+        flag_is = is.flag_is;
+        key = IsKeyOf-more extends have grows is.key;
+      }
+
+      pub AreKeyed-more : {S : Type 0} {keyed : HashMap (Bool × ℕ) ℕ S} → AreKeyed w old table owners shapes keyed → AreKeyed w new more after_owners after keyed
+      AreKeyed-more all = record { at = λ flag node class at. IsKeyed-more (all.at flag node class at) }
+
+-- ---- places that are numbered
+
+-- the places that have a class were numbered before
+HasClass-before : {old new : List (List ℕ)} {table : List ℕ} → Extends old new → length table ≤ length old → (place : List ℕ) (class : ℕ) → HasClass new table place class → HasClass old table place class
+HasClass-before {old} {new} {table} extends room place class has =
+    let within = classed_within table has.number (λ e. has.is_class (sym has.class_is ∙ e)) in
+    let there : has.number < length old = omega (arith, within, room) in
+    let at = slice_get-get_or old has.number [] there in
+    let same = same_Some _ place (sym (extends.kept has.number _ at) ∙ has.is) in
+    record { number = has.number; is = at ∙ ap Some same; class_is = has.class_is; is_class = has.is_class }
+
+pub AreClasses-extends : {w : Walker} {old new : List (List ℕ)} {table owners : List ℕ} → Extends old new → AreClasses w old table owners → AreClasses w new table owners
+AreClasses-extends {w} {old} {new} {table} {owners} extends all =
+    let have = HaveMore-extends table extends in
+    let keeps = KeepsOwners-refl owners in
+    record {
+      room = let room = all.room in let longer = length_le-Extends old new extends in omega (arith, room, longer);
+      classed = λ place class has. IsClassed-more extends have keeps (all.classed place class (HasClass-before extends all.room place class has));
+      own = λ class below. OwnsClass-more extends have keeps (all.own class below);
+      few = all.few;
     }
 
-    -- the state gets a class of its own
-    pub AreClasses-own : {owners : List ℕ} → IsAutomaton a → AreClasses a old owners → state < length a.accept → class ≡ length owners → AreClasses a new (owners ++ state ∷ [])
-    AreClasses-own {owners} valid all within is =
-        let few = all.few in
-        let states = valid.few_states in
-        let fewer = given.fewer in
-        let size = length_push owners state in
-        let longer = Longer-push owners state in
-        let here = given.here ∙ is in
-        let last = get_or_push owners state 0 (length owners) refl in
-        let own_last : get_or (owners ++ state ∷ []) (get_or new state 0) 0 ≡ state = ap (λ c. get_or (owners ++ state ∷ []) c 0) here ∙ last in
-        record {
-          size = given.size ∙ all.size;
-          classed = λ s w some. elim (cases_eq state s) [
-            | inl e ↦ subst (IsClassed a new (owners ++ state ∷ [])) e (record { known = omega (arith, here, size); flag = ap (is_final a) own_last; rows = inl own_last })
-            | inr ne ↦
-                let was = given.others s (λ e. ne (sym e)) in
-                IsClassed-give longer s (λ e. some (was ∙ e)) (all.classed s w (λ e. some (was ∙ e)))
-          ];
-          within = λ c h. elim (cases_lt c (length owners)) [
-            | inl before ↦ subst (λ s. s < length a.accept) (sym (longer.kept c before)) (all.within c before)
-            | inr past ↦
-                let e : length owners ≡ c = omega (arith, size, h, past) in
-                subst (λ s. s < length a.accept) (sym (ap (λ k. get_or (owners ++ state ∷ []) k 0) (sym e) ∙ last)) within
-          ];
-          own = λ c h. elim (cases_lt c (length owners)) [
-            | inl before ↦
-                let o = all.own c before in
-                ap (λ s. get_or new s 0) (longer.kept c before) ∙ class_kept (get_or owners c 0) (λ e. absurd (omega (arith, o, e, before, few, states))) ∙ o
-            | inr past ↦ let e : length owners ≡ c = omega (arith, size, h, past) in ap (λ s. get_or new s 0) (ap (λ k. get_or (owners ++ state ∷ []) k 0) (sym e) ∙ last) ∙ here ∙ e
-          ];
-          few = omega (arith, size, few, fewer);
-        }
+-- ---- a class that is given
 
-    -- the state gets the class of another, whose row leads to the same classes
-    pub AreClasses-shared : {owners : List ℕ} → IsAutomaton a → AreClasses a old owners → class < length owners
-        → is_final a (get_or owners class 0) ≡ is_final a state → IsSettled a new state (get_or owners class 0) → AreClasses a new owners
-    AreClasses-shared {owners} valid all known flag settled =
-        let few = all.few in
-        let states = valid.few_states in
-        let fewer = given.fewer in
-        let here = given.here in
+module _ {places : List (List ℕ)} {old new : List ℕ} {number class : ℕ} {place : List ℕ} (given : IsClassGiven old new number class) (none : class_in old number ≡ NO_CLASS)
+    (there : slice_get places number ≡ Some place) where
+  pub HaveMore-give : HaveMore places old places new
+  HaveMore-give = HaveMore-table places (λ other some. given.others other (λ e. some (ap (class_in old) e ∙ none)))
+
+  -- the place has the class now
+  pub HasClass-given : class ≢ NO_CLASS → HasClass places new place class
+  HasClass-given some = record { number = number; is = there; class_is = given.here; is_class = some }
+
+  -- no other place got one
+  HasClass-either : (p : List ℕ) (c : ℕ) → HasClass places new p c → (place ≡ p) × (class ≡ c) ⊎ HasClass places old p c
+  HasClass-either p c has = elim (cases_eq has.number number) [
+    | inl e ↦ inl (same_Some place p (sym there ∙ ap (slice_get places) (sym e) ∙ has.is), sym given.here ∙ ap (class_in new) (sym e) ∙ has.class_is)
+    | inr ne ↦ inr (record { number = has.number; is = has.is; class_is = sym (given.others has.number ne) ∙ has.class_is; is_class = has.is_class })
+  ]
+
+  module _ (w : Walker) where
+    -- the place gets a class of its own
+    pub AreClasses-own : {owners : List ℕ} → class ≡ length owners → class ≢ NO_CLASS → AreClasses w places old owners → AreClasses w places new (owners ++ number ∷ [])
+    AreClasses-own {owners} is some all =
+        let keeps = KeepsOwners-push owners number in
+        let size = length_push owners number in
+        let owner : HasOwner places (owners ++ number ∷ []) class place = record { number = number; at = owner-last owners number class is; is = there } in
         record {
-          size = given.size ∙ all.size;
-          classed = λ s w some. elim (cases_eq state s) [
-            | inl e ↦ subst (IsClassed a new owners) e (record {
-              known = omega (arith, here, known);
-              flag = ap (λ c. is_final a (get_or owners c 0)) here ∙ flag;
-              rows = inr (subst (λ c. IsSettled a new state (get_or owners c 0)) (sym here) settled);
+          room = given.few (length places) all.room (slice_get_within places number place there);
+          classed = λ p c has. elim (HasClass-either p c has) [
+            | inl here ↦ subst (IsClassed w places new (owners ++ number ∷ []) p) here.1 (record {
+              owner = place;
+              has = owner;
+              flag = ap w.final here.0;
+              rows = inl here.0;
             })
-            | inr ne ↦
-                let was = given.others s (λ e. ne (sym e)) in
-                IsClassed-give (Longer-same owners) s (λ e. some (was ∙ e)) (all.classed s w (λ e. some (was ∙ e)))
+            | inr before ↦ IsClassed-more (Extends-refl places) HaveMore-give keeps (all.classed p c before)
           ];
-          within = all.within;
-          own = λ c h. let o = all.own c h in class_kept (get_or owners c 0) (λ e. absurd (omega (arith, o, e, h, few, states))) ∙ o;
-          few = omega (arith, few, fewer);
+          own = λ c below. elim (cases_lt c (length owners)) [
+            | inl before ↦ OwnsClass-more (Extends-refl places) HaveMore-give keeps (all.own c before)
+            | inr past ↦
+                let e : class ≡ c = omega (arith, size, below, past, is) in
+                subst (OwnsClass places new (owners ++ number ∷ [])) e (record { owner = place; has = owner; class_is = HasClass-given some })
+          ];
+          few = let few = all.few in let more = given.more in omega (arith, size, few, more);
         }
 
-    -- a state with the key of a class leads to the same classes as its owner
-    pub IsSettled-key : {owners : List ℕ} {shapes : List Shape} {flag : Bool} {node : ℕ} → IsAutomaton a → AreClasses a old owners
-        → IsKeyed a old owners shapes flag node class → IsKeyOf a old shapes state node → IsSettled a new state (get_or owners class 0)
-    IsSettled-key {owners} valid all keyed key =
-        let few = all.few in
-        let states = valid.few_states in
-        let known = keyed.class_known in
-        let o = all.own class keyed.class_known in
-        let owner = get_or owners class 0 in
-        let here = given.here in
-        let some : get_or new state 0 ≢ NO_CLASS = λ e. absurd (omega (arith, here, e, known, few, states)) in
-        let owner_new : get_or new (get_or owners class 0) 0 ≡ class = class_kept (get_or owners class 0) (λ e. absurd (omega (arith, o, e, known, few, states))) ∙ o in
-        let at : (letter : ℕ) → (class_at a new state letter ≡ class_at a new (get_or owners class 0) letter) × (class_at a new state letter ≢ NO_CLASS) = λ letter. elim (key.leads letter) [
-          | inl self ↦
-              let mine : class_at a new state letter ≡ class = ap (λ s. get_or new s 0) self.0 ∙ here in
-              let has : class_at a new state letter ≢ NO_CLASS = λ e. some (sym (ap (λ s. get_or new s 0) self.0) ∙ e) in
-              elim (keyed.leads letter) [
-                | inl theirs ↦ (mine ∙ sym (ap (λ s. get_or new s 0) theirs.0 ∙ owner_new), has)
-                | inr led ↦ absurd (led.1 (led.0 ∙ self.1))
-              ]
-          | inr led ↦ elim (keyed.leads letter) [
-            | inl theirs ↦ absurd (led.1 (led.0 ∙ theirs.1))
-            | inr other ↦ (class_kept _ led.1 ∙ led.0 ∙ sym other.0 ∙ sym (class_kept _ other.1), some_kept _ led.1)
-          ]
-        ] in
-        record { same = λ letter. (at letter).0; given = λ letter. (at letter).1 }
-
-    pub IsSettled-join : {owners : List ℕ} → CanJoin a old owners state class → class ≢ NO_CLASS → IsSettled a new state (get_or owners class 0)
-    IsSettled-join {owners} can some =
-        let owner = get_or owners class 0 in
-        let here = given.here in
-        let at : (letter : ℕ) → class_at a new state letter ≡ class_at a new (get_or owners class 0) letter = λ letter. elim (can.rows letter) [
-          | inl self ↦ ap (λ s. get_or new s 0) self.0 ∙ here ∙ sym (class_kept _ (can.given letter) ∙ self.1)
-          | inr led ↦ class_kept _ (λ e. can.given letter (sym led ∙ e)) ∙ led ∙ sym (class_kept _ (can.given letter))
-        ] in
-        record { same = at; given = λ letter e. some_kept _ (can.given letter) (sym (at letter) ∙ e) }
-
-    -- the key of a state that gets a class of its own
-    IsKeyed-own : (owners : List ℕ) {shapes : List Shape} (flag : Bool) {node : ℕ} → class ≡ length owners → is_final a state ≡ flag
-        → IsKeyOf a old shapes state node → IsKeyed a new (owners ++ state ∷ []) shapes flag node class
-    IsKeyed-own owners {shapes} flag {node} is flag_is key =
-        let size = length_push owners state in
-        let last : get_or (owners ++ state ∷ []) class 0 ≡ state = ap (λ k. get_or (owners ++ state ∷ []) k 0) is ∙ get_or_push owners state 0 (length owners) refl in
+    -- the place gets the class of another, whose row leads to the same classes
+    pub AreClasses-shared : {owners : List ℕ} (owner : List ℕ) → HasOwner places owners class owner → w.final owner ≡ w.final place → IsSettled w places new place owner
+        → AreClasses w places old owners → AreClasses w places new owners
+    AreClasses-shared {owners} owner has_owner flag settled all =
+        let keeps = KeepsOwners-refl owners in
         record {
-          known = key.known;
-          class_known = omega (arith, size, is);
-          flag_is = ap (is_final a) last ∙ flag_is;
-          leads = λ letter.
-              let P : ℕ → Type 0 = λ s. IsKeyedAt a new shapes node s letter in
-              let at : P state = elim (key.leads letter) [
-                | inl self ↦ inl self
-                | inr led ↦ inr (class_kept _ led.1 ∙ led.0, some_kept _ led.1)
-              ] in
-              subst P (sym last) at;
+          room = given.few (length places) all.room (slice_get_within places number place there);
+          classed = λ p c has. elim (HasClass-either p c has) [
+            | inl here ↦ subst (IsClassed w places new owners p) here.1 (subst (λ q. IsClassed w places new owners q class) here.0 (record {
+              owner = owner;
+              has = has_owner;
+              flag = flag;
+              rows = inr settled;
+            }))
+            | inr before ↦ IsClassed-more (Extends-refl places) HaveMore-give keeps (all.classed p c before)
+          ];
+          own = λ c below. OwnsClass-more (Extends-refl places) HaveMore-give keeps (all.own c below);
+          few = let few = all.few in let more = given.more in omega (arith, few, more);
         }
 
-    pub AreKeyed-own : {S : Type 0} {owners : List ℕ} {shapes : List Shape} (flag : Bool) {node : ℕ} {keyed : HashMap (Bool × ℕ) ℕ S} (more : HashMap (Bool × ℕ) ℕ S)
-        → class ≡ length owners → is_final a state ≡ flag → IsKeyOf a old shapes state node
-        → Updates key_eq keyed more (flag, node) (Some class) → AreKeyed a old owners shapes keyed → AreKeyed a new (owners ++ state ∷ []) shapes more
-    AreKeyed-own {owners} {shapes} flag {node} more is flag_is key updates all = record {
+    -- a place with the key of a class leads to the same classes as its owner
+    pub IsSettled-key : {shapes : List Shape} {node other : ℕ} (owner : List ℕ) → HasClass places old owner class → class ≢ NO_CLASS
+        → IsKeyOf w places old shapes other owner node → IsKeyOf w places old shapes number place node → IsSettled w places new place owner
+    IsSettled-key {shapes} {node} owner has some theirs mine = record {
+      same = λ letter below. elim (mine.values letter below) [
+        | inl led ↦ elim (theirs.values letter below) [
+          | inl their ↦ record { class = map_at shapes node letter; first = HaveMore-give.kept _ _ led; second = HaveMore-give.kept _ _ their }
+          | inr self ↦ absurd (led.is_class self.1)
+        ]
+        | inr here ↦ elim (theirs.values letter below) [
+          | inl their ↦ absurd (their.is_class here.1)
+          | inr self ↦
+              let mine_is = same_Some place (w.next place letter) (sym there ∙ here.0) in
+              let their_is = same_Some owner (w.next owner letter) (sym theirs.is ∙ self.0) in
+              record {
+                class = class;
+                first = subst (λ p. HasClass places new p class) mine_is (HasClass-given some);
+                second = subst (λ p. HasClass places new p class) their_is (HaveMore-give.kept owner class has);
+              }
+        ]
+      ];
+    }
+
+    pub IsSettled-join : {owners : List ℕ} (can : CanJoin w places old owners number class) → class ≢ NO_CLASS → IsSettled w places new place can.owner
+    IsSettled-join can some =
+        let same_place = same_Some can.place place (sym can.is ∙ there) in
+        subst (λ p. IsSettled w places new p can.owner) same_place (record {
+          same = λ letter below. elim (can.rows letter below) [
+            | inl self ↦ record {
+              class = class;
+              first = subst (λ p. HasClass places new p class) (same_Some place (w.next can.place letter) (sym there ∙ self.0)) (HasClass-given some);
+              second = HaveMore-give.kept _ class self.1;
+            }
+            | inr one ↦ HaveOneClass-more HaveMore-give one
+          ];
+        })
+
+    -- the key of a place that gets a class of its own is its class's
+    pub AreKeyed-own : {S : Type 0} (owners : List ℕ) {shapes : List Shape} (flag : Bool) {node : ℕ} {keyed : HashMap (Bool × ℕ) ℕ S} (more : HashMap (Bool × ℕ) ℕ S)
+        → class ≡ length owners → w.final place ≡ flag → IsKeyOf w places old shapes number place node
+        → Updates key_eq keyed more (flag, node) (Some class) → AreKeyed w places old owners shapes keyed
+        → AreKeyed w places new (owners ++ number ∷ []) shapes more
+    AreKeyed-own owners {shapes} flag {node} {keyed} more is flag_is key updates all = record {
       at = λ f n c at. by f n c (key_eq (flag, node) (f, n)) refl at;
     }
       where
-        by : (f : Bool) (n c : ℕ) (b : Bool) → key_eq (flag, node) (f, n) ≡ b → get key_eq more (f, n) ≡ Some c → IsKeyed a new (owners ++ state ∷ []) shapes f n c
+        own : IsKeyed w places new (owners ++ number ∷ []) shapes flag node class
+        own = record {
+          number = number;
+          at = owner-last owners number class is;
+          place = place;
+          flag_is = flag_is;
+          key = IsKeyOf-more (Extends-refl places) HaveMore-give (Grows-refl shapes) key;
+        }
+
+        by : (f : Bool) (n c : ℕ) (b : Bool) → key_eq (flag, node) (f, n) ≡ b → get key_eq more (f, n) ≡ Some c → IsKeyed w places new (owners ++ number ∷ []) shapes f n c
         by f n c true e at =
             let same = key_eq-true (flag, node) (f, n) e in
             let here : c ≡ class = grind (arith, common_steps, updates.1, at, same) in
-            let P : Bool × ℕ → Type 0 = λ p. IsKeyed a new (owners ++ state ∷ []) shapes p.0 p.1 c in
-            subst P same (subst (IsKeyed a new (owners ++ state ∷ []) shapes flag node) (sym here) (IsKeyed-own owners flag is flag_is key))
-        by f n c false e at = IsKeyed-give (Longer-push owners state) (all.at f n c (sym (updates.2 (f, n) e) ∙ at))
+            let P : Bool × ℕ → Type 0 = λ p. IsKeyed w places new (owners ++ number ∷ []) shapes p.0 p.1 c in
+            subst P same (subst (IsKeyed w places new (owners ++ number ∷ []) shapes flag node) (sym here) own)
+        by f n c false e at =
+            IsKeyed-more (Extends-refl places) HaveMore-give (KeepsOwners-push owners number) (Grows-refl shapes)
+            (all.at f n c (sym (updates.2 (f, n) e) ∙ at))
 
--- a key that is there, of a state with its flag
-pub IsKeyed-at : {S : Type 0} {a : Automaton} {table owners : List ℕ} {shapes : List Shape} {keyed : HashMap (Bool × ℕ) ℕ S} {flag own : Bool} {node class : ℕ}
-    → AreKeyed a table owners shapes keyed → get key_eq keyed (flag, node) ≡ Some class → flag ≡ own → IsKeyed a table owners shapes own node class
-IsKeyed-at {S} {a} {table} {owners} {shapes} {keyed} {flag} {own} {node} {class} all there is = subst (λ f. IsKeyed a table owners shapes f node class) is (all.at flag node class there)
+-- ---- keys of rows
 
-pub class_few : {a : Automaton} {table owners : List ℕ} {class : ℕ} → IsAutomaton a → AreClasses a table owners → class < length owners → class < 2 ^ 31
-class_few valid all known =
-    let few = all.few in
-    let states = valid.few_states in
-    omega (arith, known, few, states)
-
--- the key of a state, as a row's key says it
-pub IsKeyOf-key : (a : Automaton) (table : List ℕ) (shapes : List Shape) (state : ℕ) (key : Key) → get_or table state 0 ≡ NO_CLASS
-    → IsKey a.shapes shapes table state (get_or a.row_nodes state 0) key → IsKeyOf a table shapes state key.node
-IsKeyOf-key a table shapes state key none is = record {
-  known = is.led.known;
-  leads = λ letter. elim (is.own_only letter) [
-    | inl some ↦ inr (sym (is.led.map letter), some)
-    | inr self ↦ inl (self, is.led.map letter ∙ ap (λ s. get_or table s 0) self ∙ none)
-  ];
+-- the key of the row of a number, as it may become the key of a class
+pub IsKeyOf-row : {Spot : Type 0} {g : Graph Spot} {places : List (List ℕ)} {table : List ℕ} {shapes : List Shape} {number node : ℕ} (key : IsRowKey g places table shapes (Some number) number node)
+    → IsKeyOf g.walker places table shapes number key.row.place node
+IsKeyOf-row {Spot} {g} {places} {table} {shapes} {number} {node} key = record {
+  is = key.row.is;
+  known = key.led.known;
+  values = λ letter below.
+      subst (λ p. IsValueOf places table (Some number) p (map_at shapes node letter)) (key.row.row.leads letter below) (key.led.values letter);
 }
 
-pub AreKeyed-grows : {S : Type 0} {a : Automaton} {table owners : List ℕ} {shapes after : List Shape} {keyed : HashMap (Bool × ℕ) ℕ S}
-    → Grows shapes after → AreKeyed a table owners shapes keyed → AreKeyed a table owners after keyed
-AreKeyed-grows grows all = record {
-  at = λ flag node class at.
-      let is = all.at flag node class at in
-      let known = is.known in
-      let g = grows.longer in
-      record {
-        known = omega (arith, known, g);
-        class_known = is.class_known;
-        flag_is = is.flag_is;
-        leads = λ letter. elim (is.leads letter) [
-          | inl self ↦ inl (self.0, grows.map node letter is.known ∙ self.1)
-          | inr led ↦ inr (led.0 ∙ sym (grows.map node letter is.known), led.1)
-        ];
-      };
-}
-
-pub CanJoin-agrees : (a : Automaton) (table owners : List ℕ) (before shapes : List Shape) (state class key row : ℕ) → Grows before shapes
-    → class < length owners → is_final a (get_or owners class 0) ≡ is_final a state → IsKeyOf a table before state key
-    → IsGiven a.shapes shapes table (get_or a.row_nodes (get_or owners class 0) 0) row → AgreesWith shapes key row class → CanJoin a table owners state class
-CanJoin-agrees a table owners before shapes state class key row grows known flag is given agrees = record {
-  known = known;
-  flag = flag;
-  given = given.whole;
-  rows = λ letter.
-      let kept = grows.map key letter is.known in
-      let led = given.led.map letter in
-      elim (is.leads letter) [
-        | inl self ↦ elim (agrees.at letter) [
-          | inl same ↦ absurd (given.whole letter (sym led ∙ sym same ∙ kept ∙ self.1))
-          | inr none ↦ inl (self.0, sym led ∙ none.1)
-        ]
-        | inr there ↦ elim (agrees.at letter) [
-          | inl same ↦ inr (there.0 ∙ sym kept ∙ same ∙ led)
-          | inr none ↦ absurd (there.1 (there.0 ∙ sym kept ∙ none.0))
-        ]
-      ];
-}
+-- a place whose key agrees with the row of a class may have the class
+pub CanJoin-agrees : {Spot : Type 0} {g : Graph Spot} {places : List (List ℕ)} {table owners : List ℕ} {shapes : List Shape} {number class owner key row : ℕ}
+    → slice_get owners class ≡ Some owner → IsRowKey g places table shapes (Some number) number key → IsRowKey g places table shapes None owner row
+    → ((p q : List ℕ) → slice_get places number ≡ Some p → slice_get places owner ≡ Some q → g.walker.final q ≡ g.walker.final p) → AgreesWith shapes key row class
+    → CanJoin g.walker places table owners number class
+CanJoin-agrees {Spot} {g} {places} {table} {owners} {shapes} {number} {class} {owner} {key} {row} at mine theirs flags agrees =
+    let w = g.walker in
+    let p = mine.row.place in
+    let q = theirs.row.place in
+    record {
+      place = p;
+      is = mine.row.is;
+      owner = q;
+      has = record { number = owner; at = at; is = theirs.row.is };
+      flag = flags p q mine.row.is theirs.row.is;
+      rows = λ letter below.
+          let led : HasClass places table (g.leads theirs.spot letter) (map_at shapes row letter) = elim (theirs.led.values letter) [ inl has ↦ has | inr self ↦ absurd self.0 ] in
+          let their = subst (λ n. HasClass places table n (map_at shapes row letter)) (theirs.row.row.leads letter below) led in
+          let is = subst (λ n. IsValueOf places table (Some number) n (map_at shapes key letter)) (mine.row.row.leads letter below) (mine.led.values letter) in
+          elim is [
+            | inl has ↦ elim (agrees.at letter) [
+              | inl same ↦ inr (record { class = map_at shapes key letter; first = has; second = subst (HasClass places table (w.next q letter)) (sym same) their })
+              | inr none ↦ absurd (has.is_class none.0)
+            ]
+            | inr self ↦ elim (agrees.at letter) [
+              | inl same ↦ absurd (their.is_class (sym same ∙ self.1))
+              | inr none ↦ inl (self.0, subst (HasClass places table (w.next q letter)) none.1 their)
+            ]
+          ];
+    }

@@ -1,88 +1,106 @@
--- Nodes that lead to the classes of states, of which some have none yet.
-use Rattle.std.specs.Prelude.{◌≡◌, ◌≢◌, ◌<◌, ◌⊎◌, ℕ, Bool, true, IsTrue, List, Option, Some, length, slice_index}
+-- Nodes that lead to the classes of places, of which some have none yet.
+use Rattle.std.specs.Prelude.{◌≡◌, ◌≢◌, ◌<◌, ◌≤◌, ◌⊎◌, ◌&&◌, ℕ, true, false, List, Option, Some, None, length, slice_get, slice_index_or}
+use Rattle.limits.specs.declared.numbers.TheConstants.{MOST_TRACKS}
 use Rattle.letter_diagram.specs.declared.diagrams.Shape.{Shape}
-use Rattle.letter_diagram.specs.Diagram.{map_at}
-use Rattle.letter_diagram.specs.NodeMemo.{answer_of}
-use Rattle.auto_refine.specs.Leading.{entry_at, IsLedFrom}
+use Rattle.letter_diagram.specs.Diagram.{map_at, top_track}
+use Rattle.auto_walk.specs.declared.grown.Grown.{Grown}
+use Rattle.auto_walk.specs.declared.grown.Grown.TheVariants as reasons
+use Rattle.auto_walk.specs.Walker.{MoreThan}
 use Rattle.auto_merge.specs.declared.keys.TheConstants.{NO_CLASS}
 use Rattle.auto_merge.specs.declared.keys.Guide.{Guide}
-use Rattle.auto_merge.specs.declared.keys.Memos.{Memos}
-use Rattle.auto_merge.specs.declared.keys.Key.{Key}
+use Rattle.auto_merge.specs.declared.keys.Led.{Led}
 use Rattle.auto_merge.specs.declared.keys.NoKey.{NoKey}
-use Rattle.auto_merge.specs.declared.keys.NoKey.TheVariants.{Unclassed, Memory}
+use Rattle.auto_merge.specs.declared.keys.NoKey.TheVariants.{Unclassed, Over, Memory}
+use Rattle.auto_merge.specs.declared.rows.Key.{Key}
+use Rattle.auto_merge.specs.Graph.{Graph, AreSeen, mark_of}
 
--- each value of a node has an entry in a table
-abbrev pub HasEntries : List Shape → List ℕ → ℕ → Type 0
-HasEntries from table a = (letter : ℕ) → map_at from a letter < length table
+-- the class of a number; past the table there is none
+abbrev pub class_in : List ℕ → ℕ → ℕ
+class_in table number = slice_index_or table number NO_CLASS
 
--- the class that a guide has for a state
-abbrev pub class_of : Guide → ℕ → ℕ
-class_of guide state = slice_index guide.table.now state
+-- a place whose number has the class
+pub record HasClass (places : List (List ℕ)) (table : List ℕ) (place : List ℕ) (class : ℕ) : Type 0 where
+  pub number : ℕ
+  pub is : slice_get places number ≡ Some place
+  pub class_is : class_in table number ≡ class
+  pub is_class : class ≢ NO_CLASS
 
--- each value of a node has a class
-abbrev pub IsWhole : List Shape → List ℕ → ℕ → Type 0
-IsWhole from table a = (letter : ℕ) → entry_at table from a letter ≢ NO_CLASS
+-- the place of the number whose row it is, where there is one
+abbrev pub IsOwn : List (List ℕ) → Option ℕ → List ℕ → Type 0
+IsOwn places (Some number) place = slice_get places number ≡ Some place
+IsOwn places None place = ⊥
 
--- each value of a node but one state has a class
-abbrev pub HasOwn : List Shape → List ℕ → ℕ → ℕ → Type 0
-HasOwn from table own a = (letter : ℕ) → (entry_at table from a letter ≢ NO_CLASS) ⊎ (map_at from a letter ≡ own)
+-- a value for a place: its class, or NO_CLASS for the place whose row it is
+abbrev pub IsValueOf : List (List ℕ) → List ℕ → Option ℕ → List ℕ → ℕ → Type 0
+IsValueOf places table own place value = HasClass places table place value ⊎ (IsOwn places own place × (value ≡ NO_CLASS))
 
--- a node that leads to the classes of the values of another, of which each or all but one have a class
-pub record IsKey (from shapes : List Shape) (table : List ℕ) (own a : ℕ) (key : Key) : Type 0 where
-  pub led : IsLedFrom from shapes table a key.node
-  pub own_only : HasOwn from table own a
-  pub whole : IsTrue key.whole → IsWhole from table a
+-- a node gives at each letter the value for the place to which a spot leads it, and looks at no track before those of the spot
+pub record IsLedBy {Spot : Type 0} (g : Graph Spot) (places : List (List ℕ)) (table : List ℕ) (shapes : List Shape) (own : Option ℕ)
+    (spot : Spot) (node : ℕ) : Type 0 where
+  pub known : node < length shapes
+  pub values : (letter : ℕ) → IsValueOf places table own (g.leads spot letter) (map_at shapes node letter)
+  pub top : g.top spot ≤ top_track shapes node
 
--- another state, without a class, to which a node leads
-pub record LeadsToUnclassed (from : List Shape) (table : List ℕ) (own node state : ℕ) : Type 0 where
-  pub within : state < length table
-  pub other : state ≢ own
-  pub unclassed : slice_index table state ≡ NO_CLASS
-  pub letter : ℕ
-  pub leads : map_at from node letter ≡ state
+-- what is remembered of spots
+pub record Remembers {Spot : Type 0} (g : Graph Spot) (places : List (List ℕ)) (table : List ℕ) (shapes : List Shape)
+    (answers : Option ℕ → Spot → ℕ → Type 0) : Type 0 where
+  pub led : (own : Option ℕ) (spot : Spot) (node : ℕ) → answers own spot node
+      → IsLedBy g places table shapes own spot node
 
--- a node leads to the state that is named
-abbrev pub IsNoKey : List Shape → List ℕ → ℕ → ℕ → NoKey → Type 0
-IsNoKey from table own node (Unclassed state) = LeadsToUnclassed from table own node state
-IsNoKey from table own node Memory = Unit {0}
+-- a number without a class
+pub record IsUnclassed (places : List (List ℕ)) (table : List ℕ) (number : ℕ) : Type 0 where
+  pub within : number < length places
+  pub none : class_in table number ≡ NO_CLASS
 
--- a state has no class and is another one, if it is named
-pub record IsLeafUnclassed (table : List ℕ) (own state named : ℕ) : Type 0 where
-  pub is : named ≡ state
-  pub other : state ≢ own
-  pub unclassed : slice_index table state ≡ NO_CLASS
+-- why a spot has no key
+abbrev pub IsNoKey : {Spot : Type 0} → Graph Spot → List (List ℕ) → List ℕ → NoKey → Type 0
+IsNoKey g places table (Unclassed number) = IsUnclassed places table number
+IsNoKey g places table Over = MoreThan g.walker g.most
+IsNoKey g places table Memory = Unit {0}
 
-abbrev pub IsNoLeafKey : List ℕ → ℕ → ℕ → NoKey → Type 0
-IsNoLeafKey table own state (Unclassed named) = IsLeafUnclassed table own state named
-IsNoLeafKey table own state Memory = Unit {0}
+-- the reason that a larger automaton was not made is one that a spot has no key
+abbrev pub no_key_by : Grown → NoKey
+no_key_by reasons.Over = Over
+no_key_by reasons.Memory = Memory
 
--- at most one answer more, where a test holds
-pub record Adds (test : Bool) (old new : List (Option ℕ)) (node answer : ℕ) : Type 0 where
-  pub only : (a r : ℕ) → answer_of new a ≡ Some r
-      → (answer_of old a ≡ Some r) ⊎ ((test ≡ true) × (a ≡ node) × (r ≡ answer))
+-- the key of a spot that leads to the place of one number
+pub record IsLeafKey (shapes : List Shape) (table : List ℕ) (number : ℕ) (own : Option ℕ) (key : Key) : Type 0 where
+  pub known : key.node < length shapes
+  pub map : (letter : ℕ) → map_at shapes key.node letter ≡ class_in table number
+  pub top : top_track shapes key.node ≡ MOST_TRACKS
+  pub given : key.whole ≡ true → class_in table number ≢ NO_CLASS
+  pub unclassed : key.whole ≡ false → (own ≡ Some number) × (class_in table number ≡ NO_CLASS)
 
--- a node that leads to the classes of the values of another, of which each has one
-pub record IsGiven (from shapes : List Shape) (table : List ℕ) (a r : ℕ) : Type 0 where
-  pub led : IsLedFrom from shapes table a r
-  pub whole : IsWhole from table a
+-- why it has none
+abbrev pub IsLeafRefused : List ℕ → ℕ → NoKey → Type 0
+IsLeafRefused table number (Unclassed named) = (named ≡ number) × (class_in table number ≡ NO_CLASS)
+IsLeafRefused table number Over = ⊥
+IsLeafRefused table number Memory = Unit {0}
 
--- what a memo answers leads to classes alone
-pub record RemembersGiven (from shapes : List Shape) (table : List ℕ) (memo : List (Option ℕ)) : Type 0 where
-  pub given : (a r : ℕ) → answer_of memo a ≡ Some r → IsGiven from shapes table a r
+-- the key of a node that tests two keys
+pub record IsTestKey (node : ℕ) (low high key : Key) : Type 0 where
+  pub is : key.node ≡ node
+  pub whole : key.whole ≡ (low.whole && high.whole)
 
--- a node that leads to the classes of the values of another, of which all but one have a class
-pub record IsOwn (from shapes : List Shape) (table : List ℕ) (own a r : ℕ) : Type 0 where
-  pub led : IsLedFrom from shapes table a r
-  pub own_only : HasOwn from table own a
+-- different places are numbered, and what is remembered is true of them
+pub record IsLedTo {Spot : Type 0} (g : Graph Spot) (places : List (List ℕ)) (table : List ℕ) (shapes : List Shape)
+    (answers : Option ℕ → Spot → ℕ → Type 0) : Type 0 where
+  pub seen : AreSeen g places
+  pub remembered : Remembers g places table shapes answers
 
--- what a memo answers leads to classes and to one state without one
-pub record RemembersOwn (from shapes : List Shape) (table : List ℕ) (own : ℕ) (memo : List (Option ℕ)) : Type 0 where
-  pub own_at : (a r : ℕ) → answer_of memo a ≡ Some r → IsOwn from shapes table own a r
+-- the same of what grows, as a guide leads
+abbrev pub IsLedIn : {R Spot Seen Memo : Type 0} → (R → Graph Spot) → (R → Seen → List (List ℕ))
+    → (Memo → Option ℕ → Spot → ℕ → Type 0) → Guide R Spot Seen Memo → Led R Spot Seen Memo → Type 0
+IsLedIn graph places answers guide led =
+    IsLedTo (graph guide.rows.now) (places guide.rows.now led.seen) guide.table.now led.to (answers led.memo)
 
--- what was led to classes alone
-abbrev pub RemembersWhole : Guide → List Shape → Memos → Type 0
-RemembersWhole guide shapes memos = RemembersGiven guide.from.now shapes guide.table.now memos.whole
+-- the key of a spot under a guide
+abbrev pub IsKeyIn : {R Spot Seen Memo : Type 0} → (R → Graph Spot) → (R → Seen → List (List ℕ))
+    → Guide R Spot Seen Memo → Led R Spot Seen Memo → Spot → Key → Type 0
+IsKeyIn graph places guide led spot key =
+    IsLedBy (graph guide.rows.now) (places guide.rows.now led.seen) guide.table.now led.to (mark_of key.whole guide.own) spot key.node
 
--- what was led of the guide's own row
-abbrev pub RemembersOpen : Guide → List Shape → Memos → Type 0
-RemembersOpen guide shapes memos = RemembersOwn guide.from.now shapes guide.table.now guide.own memos.open
+-- why a spot has none
+abbrev pub IsRefusedIn : {R Spot Seen Memo : Type 0} → (R → Graph Spot) → (R → Seen → List (List ℕ))
+    → Guide R Spot Seen Memo → Led R Spot Seen Memo → NoKey → Type 0
+IsRefusedIn graph places guide led why = IsNoKey (graph guide.rows.now) (places guide.rows.now led.seen) guide.table.now why

@@ -1,70 +1,70 @@
--- What merging knows at each moment, and what it leaves.
-use Rattle.std.specs.Prelude.{◌≡◌, ◌≢◌, ℕ, ◌<◌, List, length, slice_index, vec_len}
-use Rattle.std.specs.HashMap.{hash_map_len}
+-- The automaton over classes.
+use Rattle.std.specs.Prelude.{◌≡◌, ℕ, ◌<◌, ◌≤◌, ◌^◌, Bool, false, IsTrue, List, length, slice_get, slice_index_or, Some, None}
 use Rattle.letter_diagram.specs.declared.diagrams.Shape.{Shape}
-use Rattle.letter_diagram.specs.Listed.{EachAnswers}
-use Rattle.auto_core.specs.Automaton.{Automaton, IsAutomaton, width, first_state, next_state, is_final}
-use Rattle.auto_core.specs.Rows.{IsOverNodes}
-use Rattle.auto_refine.specs.Leading.{IsLedFrom}
-use Rattle.auto_merge.specs.declared.keys.TheConstants.{NO_CLASS}
-use Rattle.auto_merge.specs.declared.leading.Led.{Led}
+use Rattle.letter_diagram.specs.Diagram.{map_at, LooksBelow}
+use Rattle.auto_core.specs.Automaton.{Automaton}
+use Rattle.auto_core.specs.Reduced.{AllReached}
+use Rattle.auto_core.specs.Words.{AcceptsWhere}
+use Rattle.auto_walk.specs.Walker.{Walker, place_of, IsReached, MoreThan}
 use Rattle.auto_merge.specs.declared.merging.Merging.{Merging}
-use Rattle.auto_merge.specs.declared.keys.Key.{Key}
-use Rattle.auto_merge.specs.declared.keys.NoKey.{NoKey}
-use Rattle.auto_merge.specs.Keys.{IsGiven, IsKey, IsNoKey, RemembersGiven}
-use Rattle.auto_merge.specs.Merging.{AreClasses, AreKeyed, CanJoin, row_node}
+use Rattle.auto_merge.specs.Graph.{Graph}
+use Rattle.auto_merge.specs.Keys.{HasClass, IsLedBy}
+use Rattle.auto_merge.specs.Merging.{HasOwner}
 
--- the classes, the keys that have one, and what is remembered of rows
-pub record IsMerging (a : Automaton) (m : Merging) : Type 0 where
-  pub classes : AreClasses a m.table.items m.owners.items
-  pub keys : AreKeyed a m.table.items m.owners.items m.to m.keyed
-  pub remembered : RemembersGiven a.shapes m.to m.table.items m.memos.whole
+-- a place whose class is a node's value at a letter
+pub record GivesClass (places : List (List ℕ)) (table : List ℕ) (shapes : List Shape) (node letter : ℕ) : Type 0 where
+  pub place : List ℕ
+  pub class_is : HasClass places table place (map_at shapes node letter)
 
--- there are more classes than keys that have one: some state got a class of its own
-abbrev pub HasOwnClasses : Merging → Type 0
-HasOwnClasses m = hash_map_len m.keyed < vec_len m.owners
+-- a node that leads each letter over the tracks to the class of a given place
+pub record IsRowTo (w : Walker) (places : List (List ℕ)) (table : List ℕ) (shapes : List Shape) (lead : ℕ → List ℕ)
+    (node : ℕ) : Type 0 where
+  pub known : node < length shapes
+  pub narrow : LooksBelow shapes node (length w.tracks)
+  pub given : (letter : ℕ) → GivesClass places table shapes node letter
+  pub leads : (letter : ℕ) → letter < 2 ^ length w.tracks → HasClass places table (lead letter) (map_at shapes node letter)
 
--- a key of the row of a state
-abbrev pub IsRowKey : Automaton → List ℕ → List Shape → ℕ → Key → Type 0
-IsRowKey a table shapes state key = IsKey a.shapes shapes table state (row_node a state) key
+-- the row of the place that got a class first
+pub record IsClassRow (w : Walker) (places : List (List ℕ)) (table owners : List ℕ) (shapes : List Shape)
+    (class node : ℕ) : Type 0 where
+  pub owner : List ℕ
+  pub has : HasOwner places owners class owner
+  pub row : IsRowTo w places table shapes (w.next owner) node
 
--- why the row of a state has no key
-abbrev pub HasNoRowKey : Automaton → List ℕ → ℕ → NoKey → Type 0
-HasNoRowKey a table state why = IsNoKey a.shapes table state (row_node a state) why
+-- the rows of the first classes
+pub record AreClassRows (w : Walker) (places : List (List ℕ)) (table owners : List ℕ) (shapes : List Shape)
+    (rows : List ℕ) : Type 0 where
+  pub at : (class node : ℕ) → slice_get rows class ≡ Some node → IsClassRow w places table owners shapes class node
 
--- a node that leads the row of a state to classes alone
-abbrev pub IsRowGiven : Automaton → List ℕ → List Shape → ℕ → ℕ → Type 0
-IsRowGiven a table shapes state node = IsGiven a.shapes shapes table (row_node a state) node
+-- whether the places that got the classes first are accepting
+pub record AreClassFlags (w : Walker) (places : List (List ℕ)) (owners : List ℕ) (flags : List Bool) : Type 0 where
+  pub size : length flags ≡ length owners
+  pub at : (class : ℕ) (owner : List ℕ) → HasOwner places owners class owner
+      → slice_index_or flags class false ≡ w.final owner
 
--- a state may have a class that another one got first
-abbrev pub MayShare : Automaton → Merging → ℕ → ℕ → Type 0
-MayShare a m state class = CanJoin a m.table.items m.owners.items state class
+-- the automaton accepts the words that lead to accepting places. It has no more states, and words lead to no more places,
+-- than may be
+pub record IsMerged {Spot : Type 0} (g : Graph Spot) (m : Automaton) : Type 0 where
+  pub tracks : m.tracks ≡ g.walker.tracks
+  pub words : AcceptsWhere g.walker.tracks (λ word. IsTrue (g.walker.final (place_of g.walker word))) m
+  pub reached : ((place : List ℕ) → g.is_place place → IsReached g.walker place) → AllReached m
+  pub few : length m.accept ≤ g.most
+  pub within : ¬ MoreThan g.walker g.most
 
--- each state has a class
-abbrev pub HaveClasses : Automaton → List ℕ → Type 0
-HaveClasses a table = (state : ℕ) → state < length a.accept → slice_index table state ≢ NO_CLASS
+-- the node of a spot, each place of which has a class
+abbrev pub IsSettledIn : {R Spot Seen Memo : Type 0} → Graph Spot → (Seen → List (List ℕ))
+    → Merging R Spot Seen Memo → Spot → ℕ → Type 0
+IsSettledIn g places m spot node = IsLedBy g (places m.led.seen) m.table.items m.led.to None spot node
 
--- a first node and others, led through a table
-pub record AreLed (from shapes : List Shape) (table : List ℕ) (first : ℕ) (rows : List ℕ) (led : Led) : Type 0 where
-  pub first_led : IsLedFrom from shapes table first led.first
-  pub rows_led : EachAnswers (IsLedFrom from shapes table) rows led.rows.items
+abbrev pub IsClassRowIn : {R Spot Seen Memo : Type 0} → Graph Spot → (Seen → List (List ℕ))
+    → Merging R Spot Seen Memo → ℕ → ℕ → Type 0
+IsClassRowIn g places m class node =
+    IsClassRow g.walker (places m.led.seen) m.table.items m.owners.items m.led.to class node
 
--- the automaton over the classes, where each state has one
-pub record IsMergedBy (a : Automaton) (table owners : List ℕ) (m : Automaton) : Type 0 where
-  pub source : IsAutomaton a
-  pub over : IsOverNodes a
-  pub valid : IsAutomaton m
-  pub classes : AreClasses a table owners
-  pub all : HaveClasses a table
-  pub tracks : m.tracks ≡ a.tracks
-  pub size : length m.accept ≡ length owners
-  pub first : (letter : ℕ) → letter < width a → first_state m letter ≡ slice_index table (first_state a letter)
-  pub next : (class letter : ℕ) → class < length owners → letter < width a
-      → next_state m class letter ≡ slice_index table (next_state a (slice_index owners class) letter)
-  pub final : (class : ℕ) → class < length owners → is_final m class ≡ is_final a (slice_index owners class)
+abbrev pub AreClassFlagsIn : {R Spot Seen Memo : Type 0} → Graph Spot → (Seen → List (List ℕ))
+    → Merging R Spot Seen Memo → List Bool → Type 0
+AreClassFlagsIn g places m flags = AreClassFlags g.walker (places m.led.seen) m.owners.items flags
 
--- the automaton over some classes
-pub record IsMerged (a m : Automaton) : Type 0 where
-  pub table : List ℕ
-  pub owners : List ℕ
-  pub merged : IsMergedBy a table owners m
+abbrev pub AreClassRowsIn : {R Spot Seen Memo : Type 0} → Graph Spot → (Seen → List (List ℕ))
+    → Merging R Spot Seen Memo → List ℕ → Type 0
+AreClassRowsIn g places m rows = AreClassRows g.walker (places m.led.seen) m.table.items m.owners.items m.led.to rows

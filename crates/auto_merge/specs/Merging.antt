@@ -1,107 +1,121 @@
--- Classes of states that are given one by one. Each is given to a state whose row leads to classes that were given
--- before, or to the state itself: the class of another such state with the same row, or one of its own.
-use Rattle.std.specs.Prelude.{◌≡◌, ◌≢◌, ◌⊎◌, ℕ, ◌<◌, ◌≤◌, ◌+◌, Bool, List, length, slice_index, Some, sum_by, nat_eq, ◌&&◌, if◌then◌else◌}
-use Rattle.std.specs.HashMap.{HashMap, get}
+-- Classes of places that are given one by one. Each is given to a place whose row leads to places with classes that were
+-- given before, or to the place itself: the class of another such place with the same row, or one of its own.
+use Rattle.std.specs.Prelude.{◌≡◌, ◌≢◌, ◌⊎◌, ℕ, ◌<◌, ◌≤◌, ◌+◌, ◌^◌, Bool, List, Option, length, slice_get, Some, None, sum_by, nat_eq, vec_len, ◌&&◌, if◌then◌else◌}
+use Rattle.std.specs.HashMap.{HashMap, get, hash_map_len}
 use Rattle.letter_diagram.specs.declared.diagrams.Shape.{Shape}
-use Rattle.letter_diagram.specs.Diagram.{map_at}
-use Rattle.auto_core.specs.Automaton.{Automaton, is_final}
+use Rattle.letter_diagram.specs.Diagram.{map_at, Grows}
+use Rattle.auto_walk.specs.Walker.{Walker}
+use Rattle.auto_walk.specs.Rows.{Extends}
 use Rattle.auto_merge.specs.declared.keys.TheConstants.{NO_CLASS}
+use Rattle.auto_merge.specs.declared.keys.NoKey.{NoKey}
+use Rattle.auto_merge.specs.declared.rows.Key.{Key}
+use Rattle.auto_merge.specs.declared.merging.Merging.{Merging}
+use Rattle.auto_merge.specs.Graph.{Graph, AreSeen, IsRowAt, mark_of}
+use Rattle.auto_merge.specs.Keys.{class_in, HasClass, IsOwn, IsValueOf, IsLedBy, IsUnclassed, IsNoKey, Remembers}
 use mathlib.Core.Bool.{beq}
 
--- how many states have no class
-abbrev pub unclassed : List ℕ → ℕ
-unclassed table = sum_by (λ class. if nat_eq class NO_CLASS then 1 else 0) table
+-- how many numbers have a class
+abbrev pub classed_count : List ℕ → ℕ
+classed_count table = sum_by (λ class. if nat_eq class NO_CLASS then 0 else 1) table
 
--- the node of a state's row
-abbrev pub row_node : Automaton → ℕ → ℕ
-row_node a state = slice_index a.row_nodes state
+-- the place that got a class first
+pub record HasOwner (places : List (List ℕ)) (owners : List ℕ) (class : ℕ) (place : List ℕ) : Type 0 where
+  pub number : ℕ
+  pub at : slice_get owners class ≡ Some number
+  pub is : slice_get places number ≡ Some place
 
--- the state to which a state's row leads
-abbrev pub next_at : Automaton → ℕ → ℕ → ℕ
-next_at a state letter = map_at a.shapes (row_node a state) letter
+-- two places with one class
+pub record HaveOneClass (places : List (List ℕ)) (table : List ℕ) (p q : List ℕ) : Type 0 where
+  pub class : ℕ
+  pub first : HasClass places table p class
+  pub second : HasClass places table q class
 
--- the class to which a state's row leads
-abbrev pub class_at : Automaton → List ℕ → ℕ → ℕ → ℕ
-class_at a table state letter = slice_index table (next_at a state letter)
+-- each letter leads two places to places with one class
+pub record IsSettled (w : Walker) (places : List (List ℕ)) (table : List ℕ) (p q : List ℕ) : Type 0 where
+  pub same : (letter : ℕ) → letter < 2 ^ length w.tracks → HaveOneClass places table (w.next p letter) (w.next q letter)
 
--- two rows lead each letter to one class
-pub record IsSettled (a : Automaton) (table : List ℕ) (state other : ℕ) : Type 0 where
-  pub same : (letter : ℕ) → class_at a table state letter ≡ class_at a table other letter
-  pub given : (letter : ℕ) → class_at a table state letter ≢ NO_CLASS
+-- the class of a place is that of a place with the same flag, which is it or leads to the same classes
+pub record IsClassed (w : Walker) (places : List (List ℕ)) (table owners : List ℕ) (place : List ℕ) (class : ℕ) : Type 0 where
+  pub owner : List ℕ
+  pub has : HasOwner places owners class owner
+  pub flag : w.final owner ≡ w.final place
+  pub rows : (owner ≡ place) ⊎ IsSettled w places table place owner
 
--- a state with the class of a state that has the same flag, and is it or leads to the same classes
-pub record IsClassed (a : Automaton) (table owners : List ℕ) (state : ℕ) : Type 0 where
-  pub known : slice_index table state < length owners
-  pub flag : is_final a (slice_index owners (slice_index table state)) ≡ is_final a state
-  pub rows : (slice_index owners (slice_index table state) ≡ state)
-      ⊎ IsSettled a table state (slice_index owners (slice_index table state))
+-- the place that got a class first has it
+pub record OwnsClass (places : List (List ℕ)) (table owners : List ℕ) (class : ℕ) : Type 0 where
+  pub owner : List ℕ
+  pub has : HasOwner places owners class owner
+  pub class_is : HasClass places table owner class
 
--- the class of each state that has one, and for each class the state that got it first
-pub record AreClasses (a : Automaton) (table owners : List ℕ) : Type 0 where
-  pub size : length table ≡ length a.accept
-  pub classed : (state : ℕ) → state < length a.accept → slice_index table state ≢ NO_CLASS
-      → IsClassed a table owners state
-  pub within : (class : ℕ) → class < length owners → slice_index owners class < length a.accept
-  pub own : (class : ℕ) → class < length owners → slice_index table (slice_index owners class) ≡ class
-  pub few : length owners + unclassed table ≤ length a.accept
+-- the class of each number that has one, and for each class the number that got it first
+pub record AreClasses (w : Walker) (places : List (List ℕ)) (table owners : List ℕ) : Type 0 where
+  pub room : length table ≤ length places
+  pub classed : (place : List ℕ) (class : ℕ) → HasClass places table place class
+      → IsClassed w places table owners place class
+  pub own : (class : ℕ) → class < length owners → OwnsClass places table owners class
+  pub few : length owners ≤ classed_count table
 
--- a node's value is the class to which a letter leads a state, or NO_CLASS where it leads to the state itself
-abbrev pub IsKeyedAt : Automaton → List ℕ → List Shape → ℕ → ℕ → ℕ → Type 0
-IsKeyedAt a table shapes node state letter =
-    ((next_at a state letter ≡ state) × (map_at shapes node letter ≡ NO_CLASS))
-    ⊎ ((class_at a table state letter ≡ map_at shapes node letter) × (class_at a table state letter ≢ NO_CLASS))
-
--- a flag and a node that are those of the row of the state that got a class first
-pub record IsKeyed (a : Automaton) (table owners : List ℕ) (shapes : List Shape) (flag : Bool) (node class : ℕ) : Type
-    0 where
+-- a node gives for each letter the value for the place to which it leads from the place of a number
+pub record IsKeyOf (w : Walker) (places : List (List ℕ)) (table : List ℕ) (shapes : List Shape) (number : ℕ) (place : List ℕ)
+    (node : ℕ) : Type 0 where
+  pub is : slice_get places number ≡ Some place
   pub known : node < length shapes
-  pub class_known : class < length owners
-  pub flag_is : is_final a (slice_index owners class) ≡ flag
-  pub leads : (letter : ℕ) → IsKeyedAt a table shapes node (slice_index owners class) letter
+  pub values : (letter : ℕ) → letter < 2 ^ length w.tracks
+      → IsValueOf places table (Some number) (w.next place letter) (map_at shapes node letter)
+
+-- a flag and a node that are those of the row of the number that got a class first
+pub record IsKeyed (w : Walker) (places : List (List ℕ)) (table owners : List ℕ) (shapes : List Shape) (flag : Bool)
+    (node class : ℕ) : Type 0 where
+  pub number : ℕ
+  pub at : slice_get owners class ≡ Some number
+  pub place : List ℕ
+  pub flag_is : w.final place ≡ flag
+  pub key : IsKeyOf w places table shapes number place node
 
 -- whether two flags are equal, and two nodes
 abbrev pub key_eq : Bool × ℕ → Bool × ℕ → Bool
 key_eq p q = beq p.0 q.0 && nat_eq p.1 q.1
 
--- each class with a key is that of a state with this flag and this row
-pub record AreKeyed {S : Type 0} (a : Automaton) (table owners : List ℕ) (shapes : List Shape)
+-- each class with a key is that of a number with this flag and this row
+pub record AreKeyed {S : Type 0} (w : Walker) (places : List (List ℕ)) (table owners : List ℕ) (shapes : List Shape)
     (keyed : HashMap (Bool × ℕ) ℕ S) : Type 0 where
   pub at : (flag : Bool) (node class : ℕ) → get key_eq keyed (flag, node) ≡ Some class
-      → IsKeyed a table owners shapes flag node class
+      → IsKeyed w places table owners shapes flag node class
 
--- a node that may become the key of a state without a class
-pub record IsKeyOf (a : Automaton) (table : List ℕ) (shapes : List Shape) (state node : ℕ) : Type 0 where
-  pub known : node < length shapes
-  pub leads : (letter : ℕ) → IsKeyedAt a table shapes node state letter
+-- the row of a number, led to classes, but where it leads to the place of a number that may have none
+pub record IsRowKey {Spot : Type 0} (g : Graph Spot) (places : List (List ℕ)) (table : List ℕ) (shapes : List Shape)
+    (own : Option ℕ) (number node : ℕ) : Type 0 where
+  pub spot : Spot
+  pub row : IsRowAt g places number spot
+  pub led : IsLedBy g places table shapes own spot node
 
--- a letter leads two states to one class, where a class is taken to be that of the first state
-abbrev pub IsJoinedAt : Automaton → List ℕ → ℕ → ℕ → ℕ → ℕ → Type 0
-IsJoinedAt a table state owner class letter =
-    ((next_at a state letter ≡ state) × (class_at a table owner letter ≡ class))
-    ⊎ (class_at a table state letter ≡ class_at a table owner letter)
+-- a letter leads two places to places with one class, where the place of a number is taken to have the class
+abbrev pub IsJoinedAt : List (List ℕ) → List ℕ → ℕ → ℕ → List ℕ → List ℕ → Type 0
+IsJoinedAt places table number class p q =
+    (IsOwn places (Some number) p × HasClass places table q class) ⊎ HaveOneClass places table p q
 
--- a state without a class whose row, led to a class where it leads to the state, is that of the class
-pub record CanJoin (a : Automaton) (table owners : List ℕ) (state class : ℕ) : Type 0 where
-  pub known : class < length owners
-  pub flag : is_final a (slice_index owners class) ≡ is_final a state
-  pub given : (letter : ℕ) → class_at a table (slice_index owners class) letter ≢ NO_CLASS
-  pub rows : (letter : ℕ) → IsJoinedAt a table state (slice_index owners class) class letter
+-- a number without a class whose row, led to a class where it leads to the number's place, is that of the class
+pub record CanJoin (w : Walker) (places : List (List ℕ)) (table owners : List ℕ) (number class : ℕ) : Type 0 where
+  pub place : List ℕ
+  pub is : slice_get places number ≡ Some place
+  pub owner : List ℕ
+  pub has : HasOwner places owners class owner
+  pub flag : w.final owner ≡ w.final place
+  pub rows : (letter : ℕ) → letter < 2 ^ length w.tracks
+      → IsJoinedAt places table number class (w.next place letter) (w.next owner letter)
 
--- one state without a class gets one
-pub record IsClassGiven (old new : List ℕ) (state class : ℕ) : Type 0 where
-  pub size : length new ≡ length old
-  pub here : slice_index new state ≡ class
-  pub others : (other : ℕ) → other ≢ state → slice_index new other ≡ slice_index old other
-  pub fewer : unclassed new + 1 ≡ unclassed old
+-- there is room for so many numbers, and none for more where there was none
+pub record IsRoomMade (old new : List ℕ) (count : ℕ) : Type 0 where
+  pub room : count ≤ length new
+  pub few : (bound : ℕ) → length old ≤ bound → count ≤ bound → length new ≤ bound
+  pub counted : classed_count new ≡ classed_count old
 
--- what had a class keeps it
-pub record KeepsAll (old new : List ℕ) : Type 0 where
-  pub kept : (other : ℕ) → slice_index old other ≢ NO_CLASS → slice_index new other ≡ slice_index old other
-
--- what had a class keeps it, and a state has one
-pub record KeepsClasses (old new : List ℕ) (state : ℕ) : Type 0 where
-  pub has : slice_index new state ≢ NO_CLASS
-  pub kept : (other : ℕ) → slice_index old other ≢ NO_CLASS → slice_index new other ≡ slice_index old other
+-- one number without a class gets one
+pub record IsClassGiven (old new : List ℕ) (number class : ℕ) : Type 0 where
+  pub few : (bound : ℕ) → length old ≤ bound → number < bound → length new ≤ bound
+  pub here : class_in new number ≡ class
+  pub others : (other : ℕ) → other ≢ number → class_in new other ≡ class_in old other
+  pub more : classed_count new ≡ classed_count old + 1
 
 -- a letter at which a node's value is a class
 pub record LeadsToClass (shapes : List Shape) (key class : ℕ) : Type 0 where
@@ -114,3 +128,61 @@ pub record AgreesWith (shapes : List Shape) (key row class : ℕ) : Type 0 where
   pub at : (letter : ℕ)
       → (map_at shapes key letter ≡ map_at shapes row letter)
       ⊎ ((map_at shapes key letter ≡ NO_CLASS) × (map_at shapes row letter ≡ class))
+
+-- the places that are numbered, their classes, the keys that have one, and what is remembered of spots
+pub record IsMerging {R Spot Seen Memo : Type 0} (g : Graph Spot) (places : Seen → List (List ℕ))
+    (answers : Memo → Option ℕ → Spot → ℕ → Type 0) (m : Merging R Spot Seen Memo) : Type 0 where
+  pub seen : AreSeen g (places m.led.seen)
+  pub classes : AreClasses g.walker (places m.led.seen) m.table.items m.owners.items
+  pub keys : AreKeyed g.walker (places m.led.seen) m.table.items m.owners.items m.led.to m.keyed
+  pub remembered : Remembers g (places m.led.seen) m.table.items m.led.to (answers m.led.memo)
+
+-- what was numbered, given and led stays as it was
+pub record Keeps {R Spot Seen Memo : Type 0} (places : Seen → List (List ℕ)) (old new : Merging R Spot Seen Memo) : Type
+    0 where
+  pub numbers : Extends (places old.led.seen) (places new.led.seen)
+  pub classes : (place : List ℕ) (class : ℕ) → HasClass (places old.led.seen) old.table.items place class
+      → HasClass (places new.led.seen) new.table.items place class
+  pub owners : (class number : ℕ) → slice_get old.owners.items class ≡ Some number
+      → slice_get new.owners.items class ≡ Some number
+  pub nodes : Grows old.led.to new.led.to
+  pub counted : classed_count old.table.items ≤ classed_count new.table.items
+
+-- there are more classes than keys that have one: some place got a class of its own
+abbrev pub HasOwnClasses : {R Spot Seen Memo : Type 0} → Merging R Spot Seen Memo → Type 0
+HasOwnClasses m = hash_map_len m.keyed < vec_len m.owners
+
+abbrev pub IsUnclassedIn : {R Spot Seen Memo : Type 0} → (Seen → List (List ℕ)) → Merging R Spot Seen Memo → ℕ → Type 0
+IsUnclassedIn places m number = IsUnclassed (places m.led.seen) m.table.items number
+
+abbrev pub IsClassedIn : {R Spot Seen Memo : Type 0} → Merging R Spot Seen Memo → ℕ → Type 0
+IsClassedIn m number = class_in m.table.items number ≢ NO_CLASS
+
+abbrev pub IsKnownClassIn : {R Spot Seen Memo : Type 0} → Merging R Spot Seen Memo → ℕ → Type 0
+IsKnownClassIn m class = class < length m.owners.items
+
+-- the key of a spot
+abbrev pub IsSpotKeyIn : {R Spot Seen Memo : Type 0} → Graph Spot → (Seen → List (List ℕ))
+    → Merging R Spot Seen Memo → Option ℕ → Spot → Key → Type 0
+IsSpotKeyIn g places m own spot key =
+    IsLedBy g (places m.led.seen) m.table.items m.led.to (mark_of key.whole own) spot key.node
+
+-- why a spot has none
+abbrev pub IsNoSpotKeyIn : {R Spot Seen Memo : Type 0} → Graph Spot → (Seen → List (List ℕ))
+    → Merging R Spot Seen Memo → NoKey → Type 0
+IsNoSpotKeyIn g places m why = IsNoKey g (places m.led.seen) m.table.items why
+
+-- the key of the row of a number, whose place may have no class
+abbrev pub IsRowKeyIn : {R Spot Seen Memo : Type 0} → Graph Spot → (Seen → List (List ℕ))
+    → Merging R Spot Seen Memo → ℕ → ℕ → Type 0
+IsRowKeyIn g places m number node = IsRowKey g (places m.led.seen) m.table.items m.led.to (Some number) number node
+
+-- the row of a number, each place of which has a class
+abbrev pub IsOwnerRowIn : {R Spot Seen Memo : Type 0} → Graph Spot → (Seen → List (List ℕ))
+    → Merging R Spot Seen Memo → ℕ → ℕ → Type 0
+IsOwnerRowIn g places m number node = IsRowKey g (places m.led.seen) m.table.items m.led.to None number node
+
+-- a number may have a class that another one got first
+abbrev pub MayShareIn : {R Spot Seen Memo : Type 0} → Graph Spot → (Seen → List (List ℕ))
+    → Merging R Spot Seen Memo → ℕ → ℕ → Type 0
+MayShareIn g places m number class = CanJoin g.walker (places m.led.seen) m.table.items m.owners.items number class

@@ -1,22 +1,48 @@
--- Walks over states: those on the way, and those that were entered.
-use Rattle.std.specs.Prelude.{◌≡◌, ℕ, ◌<◌, ◌+◌, ◌*◌, Bool, true, false, List, length, All, sum_by}
-use Rattle.auto_core.specs.Automaton.{Automaton}
+-- Walks over numbers of places: those on the way, and those that were entered.
+use Rattle.std.specs.Prelude.{◌≡◌, ℕ, ◌<◌, ◌≤◌, ◌+◌, ◌-◌, ◌*◌, Bool, true, false, List, length, All, sum_by}
+use Rattle.auto_merge.specs.declared.merging.Merging.{Merging}
 use Rattle.auto_merge.specs.declared.walk.Way.{Way}
+use Rattle.auto_merge.specs.Graph.{Graph}
 
--- the states on the way are states of the automaton
-pub record IsWay (a : Automaton) (way : Way) : Type 0 where
-  pub size : length way.entered.items ≡ length a.accept
-  pub within : All (λ state. state < length a.accept) way.states.items
+-- so many numbers are known, and those on the way are among them
+pub record IsWay (count : ℕ) (way : Way) : Type 0 where
+  pub size : length way.entered.items ≤ count
+  pub within : All (λ number. number < count) way.numbers.items
 
--- 1 for a state that was not entered
-abbrev pub number_out : Bool → ℕ
-number_out true = 0
-number_out false = 1
+-- 1 for a number that was entered
+abbrev pub number_in : Bool → ℕ
+number_in true = 1
+number_in false = 0
 
--- how many states were not entered
-abbrev pub not_entered : List Bool → ℕ
-not_entered entered = sum_by number_out entered
+-- how many numbers were entered
+abbrev pub entered_count : List Bool → ℕ
+entered_count entered = sum_by number_in entered
 
--- how long a walk can last: a state that is entered brings itself and the state that leads to it
-abbrev pub steps_left : Way → ℕ
-steps_left way = 2 * not_entered way.entered.items + length way.states.items
+-- there is room for so many numbers, and none for more where there was none
+pub record IsRoomMade (old new : List Bool) (count : ℕ) : Type 0 where
+  pub room : count ≤ length new
+  pub few : (bound : ℕ) → length old ≤ bound → count ≤ bound → length new ≤ bound
+  pub counted : entered_count new ≡ entered_count old
+
+-- a number was entered, as one that was not before, or that was
+pub record IsEntered (old new : List Bool) (number : ℕ) (is_new : Bool) : Type 0 where
+  pub few : (bound : ℕ) → length old ≤ bound → number < bound → length new ≤ bound
+  pub new_counted : is_new ≡ true → entered_count new ≡ entered_count old + 1
+  pub old_counted : is_new ≡ false → entered_count new ≡ entered_count old
+
+-- how long a walk can last where so many numbers may be entered: a number that is entered brings itself and the one that
+-- leads to it
+abbrev pub steps_left : ℕ → Way → ℕ
+steps_left most way = 2 * (most - entered_count way.entered.items) + length way.numbers.items
+
+-- at most two numbers more are on the way, and nothing more is entered but the second
+pub record IsTurned (number next : ℕ) (old new : Way) : Type 0 where
+  pub way : (count : ℕ) → number < count → next < count → IsWay count old → IsWay count new
+  pub left : (count most : ℕ) → next < count → count ≤ most → IsWay count old → steps_left most new ≤ steps_left most old
+
+-- the numbers on the way are numbers of places
+abbrev pub IsWayIn : {R Spot Seen Memo : Type 0} → (Seen → List (List ℕ)) → Merging R Spot Seen Memo → Way → Type 0
+IsWayIn places m way = IsWay (length (places m.led.seen)) way
+
+abbrev pub steps_left_in : {Spot : Type 0} → Graph Spot → Way → ℕ
+steps_left_in g way = steps_left g.most way

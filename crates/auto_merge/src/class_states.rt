@@ -1,63 +1,135 @@
-//! The automaton over classes of states that lead to the same classes.
-ghost use Rattle.std.specs.Prelude.{◌≡◌, ◌≤◌, IfOk, length};
-ghost use Rattle.auto_core.specs.Automaton.{IsAutomaton};
+//! The automaton over classes of places that lead to the same classes.
+ghost use Rattle.std.specs.Prelude.{◌≡◌, ◌<◌, ◌≤◌, Err, length, IfOk, OnOk};
 ghost use Rattle.auto_core.specs.Reduced.{AllReached};
 ghost use Rattle.auto_core.specs.Words.{HasSameWords};
-ghost use Rattle.auto_merge.specs.Merged.{IsMerging, HaveClasses, IsMergedBy, IsMerged};
+ghost use Rattle.auto_walk.specs.Walker.{MoreThan};
+ghost use Rattle.auto_merge.specs.Merging.{IsMerging, Keeps, IsKnownClassIn};
+ghost use Rattle.auto_merge.specs.Walk.{IsWayIn};
+ghost use Rattle.auto_merge.specs.Merged.{IsMerged, IsSettledIn, IsClassRowIn, AreClassRowsIn, AreClassFlagsIn};
 
-use crate::leading::lead_rows;
-use crate::merging::{Merging, has_own_classes};
-use crate::walk::all_classes;
+use crate::keys::NoKey;
+use crate::merging::{Merging, has_own_classes, into_diagrams, no_classes, spot_key};
+use crate::rows::Rows;
+use crate::walk::{Way, class_from, no_way};
 use auto_compact::compact;
 use auto_core::Auto;
 use auto_reduce::reduce;
-use auto_refine::{ByTable, flags, picked};
+use auto_walk::Grown;
+use letter_diagram::Node;
 use std::alloc::{AllocError, Global};
 
-/// The automaton whose states are the classes of the states of another, of which each has one.
-fn over_classes(alloc: Global, a: &Auto, mut merging: Merging) -> Result<Auto, AllocError>
-    requires merging { IsMerging a.now merging }
-    requires all { HaveClasses a.now merging.table.items }
-    ensures { IfOk result (IsMergedBy a.now merging.table.items merging.owners.items) }
+/// The node that leads a spot to classes. Its places that have none get one.
+fn settled_node<R: Rows>(
+    rows: &R,
+    spot: R::Spot,
+    merging: &mut Merging<R>,
+    way: &mut Way,
+) -> Result<Node, Grown>
+    requires read { (R.graph rows.now).can_read spot }
+    requires merging { IsMerging (R.graph rows.now) (R.places rows.now) R.answers merging.old }
+    requires way { IsWayIn (R.places rows.now) merging.old way.old }
+    ensures node { IfOk result (IsSettledIn (R.graph rows.now) (R.places rows.now) merging.new spot) }
+    ensures merging { OnOk result (IsMerging (R.graph rows.now) (R.places rows.now) R.answers merging.new) }
+    ensures kept { OnOk result (Keeps (R.places rows.now) merging.old merging.new) }
+    ensures way { OnOk result (IsWayIn (R.places rows.now) merging.new way.new) }
+    ensures over { result ≡ Err Grown.Over → MoreThan (R.graph rows.now).walker (R.graph rows.now).most }
 {
-    let from = a.diagrams();
-    let accept = flags(alloc, a, merging.owners.as_slice())?;
-    let tracks = a.tracks().to_vec(alloc)?;
-    let rows = picked(alloc, a.row_nodes(), merging.owners.as_slice())?;
-    let classes = ByTable {
-        from,
-        table: merging.table.as_slice(),
-    };
-    let led = lead_rows(
-        &classes,
-        a.first_node(),
-        rows.as_slice(),
-        &mut merging.to,
-        &mut merging.memos.whole,
-    )?;
-    Ok(Auto::from_diagrams(tracks, merging.to, led.first, led.rows, accept))
+    loop {
+        match spot_key(rows, spot, None, merging) {
+            Ok(key) => return Ok(key.node),
+            Err(NoKey::Unclassed(number)) => class_from(rows, number, merging, way)?,
+            Err(NoKey::Over) => return Err(Grown::Over),
+            Err(NoKey::Memory) => return Err(Grown::Memory),
+        }
+    }
+}
+
+/// The row of a class: that of the place that got it first.
+fn class_row<R: Rows>(
+    rows: &R,
+    class: u32,
+    merging: &mut Merging<R>,
+    way: &mut Way,
+) -> Result<Node, Grown>
+    requires known { IsKnownClassIn merging.old class }
+    requires merging { IsMerging (R.graph rows.now) (R.places rows.now) R.answers merging.old }
+    requires way { IsWayIn (R.places rows.now) merging.old way.old }
+    ensures node { IfOk result (IsClassRowIn (R.graph rows.now) (R.places rows.now) merging.new class) }
+    ensures merging { OnOk result (IsMerging (R.graph rows.now) (R.places rows.now) R.answers merging.new) }
+    ensures kept { OnOk result (Keeps (R.places rows.now) merging.old merging.new) }
+    ensures way { OnOk result (IsWayIn (R.places rows.now) merging.new way.new) }
+    ensures over { result ≡ Err Grown.Over → MoreThan (R.graph rows.now).walker (R.graph rows.now).most }
+{
+    let owner = merging.owners[class as usize];
+    let spot = rows.row(&merging.led.seen, owner);
+    let node = settled_node(rows, spot, merging, way)?;
+    Ok(node)
+}
+
+/// The rows of all classes, those that get their first place on the way among them.
+fn class_rows<R: Rows>(
+    alloc: Global,
+    rows: &R,
+    merging: &mut Merging<R>,
+    way: &mut Way,
+) -> Result<Vec<Node>, Grown>
+    requires merging { IsMerging (R.graph rows.now) (R.places rows.now) R.answers merging.old }
+    requires way { IsWayIn (R.places rows.now) merging.old way.old }
+    ensures rows { IfOk result (λ nodes. AreClassRowsIn (R.graph rows.now) (R.places rows.now) merging.new nodes.items) }
+    ensures size { IfOk result (λ nodes. length nodes.items ≡ length merging.new.owners.items) }
+    ensures merging { OnOk result (IsMerging (R.graph rows.now) (R.places rows.now) R.answers merging.new) }
+    ensures kept { OnOk result (Keeps (R.places rows.now) merging.old merging.new) }
+    ensures over { result ≡ Err Grown.Over → MoreThan (R.graph rows.now).walker (R.graph rows.now).most }
+{
+    let mut nodes = Vec::new(alloc);
+    while nodes.len() < merging.owners.len() {
+        let node = class_row(rows, nodes.len() as u32, merging, way)?;
+        nodes.push(node)?;
+    }
+    Ok(nodes)
+}
+
+/// Whether the places that got the classes first are accepting.
+fn class_flags<R: Rows>(
+    alloc: Global,
+    rows: &R,
+    merging: &Merging<R>,
+) -> Result<Vec<bool>, AllocError>
+    requires merging { IsMerging (R.graph rows.now) (R.places rows.now) R.answers merging.now }
+    ensures { IfOk result (λ flags. AreClassFlagsIn (R.graph rows.now) (R.places rows.now) merging.now flags.items) }
+{
+    let mut flags = Vec::new(alloc);
+    for owner in merging.owners.as_slice() {
+        flags.push(rows.is_final(&merging.led.seen, *owner))?;
+    }
+    Ok(flags)
 }
 
 /// An automaton over classes.
 #[derive(Drop)]
 struct Once {
     auto: Auto,
-    /// Whether a way through other states led back to a state, so that some states may be alike that have classes of their own.
+    /// Whether a way through other places led back to a place, so that some places may be alike that have classes of their own.
     is_looped: bool,
-    /// Whether at most half of the states stayed, so that the table may have many nodes that are of no row any more.
+    /// Whether at most half of the places stayed, so that the table may have many nodes that are of no row any more.
     is_halved: bool,
 }
 
-/// The automaton over the classes of all states.
-fn merged(alloc: Global, a: &Auto) -> Result<Once, AllocError>
-    ensures { IfOk result (λ once. IsMerged a.now once.auto) }
+/// The automaton over the classes of all places that rows lead to.
+fn merged<R: Rows>(alloc: Global, rows: &R) -> Result<Once, Grown>
+    ensures ok { IfOk result (λ once. IsMerged (R.graph rows.now) once.auto) }
+    ensures over { result ≡ Err Grown.Over → MoreThan (R.graph rows.now).walker (R.graph rows.now).most }
 {
-    let merging = all_classes(alloc, a)?;
+    let mut merging = no_classes(alloc, rows)?;
+    let mut way = no_way(alloc);
+    let first = settled_node(rows, rows.first(), &mut merging, &mut way)?;
+    let nodes = class_rows(alloc, rows, &mut merging, &mut way)?;
+    let accept = class_flags(alloc, rows, &merging)?;
+    let tracks = rows.tracks().to_vec(alloc)?;
     let is_looped = has_own_classes(&merging);
-    let auto = over_classes(alloc, a, merging)?;
-    let is_halved = auto.states() <= a.states() / 2;
+    let is_halved = accept.len() <= rows.count(&merging.led.seen) / 2;
     Ok(Once {
-        auto,
+        auto: Auto::from_diagrams(tracks, into_diagrams(merging), first, nodes, accept),
         is_looped,
         is_halved,
     })
@@ -81,18 +153,15 @@ fn settled(alloc: Global, once: Once) -> Result<Auto, AllocError>
     Ok(once.auto)
 }
 
-/// An automaton of the same words with at most as many states: states with one flag whose rows lead to the same states, or each to itself
-/// where the other leads to itself, become one. Where a way through other states leads back to a state, what that left is reduced.
-/// Costs the nodes of the rows, and once more those that lead to the state whose row they are in; and then the reduction.
-pub fn merge(alloc: Global, a: &Auto) -> Result<Auto, AllocError>
-    ensures tracks { IfOk result (λ m. m.tracks ≡ a.now.tracks) }
-    ensures words { IfOk result (HasSameWords a.now) }
-    ensures fewer { IfOk result (λ m. length m.accept ≤ length a.now.accept) }
-    ensures reached { IfOk result (λ m. AllReached a.now → AllReached m) }
-    ensures valid { IfOk result IsAutomaton }
+/// The automaton of the words that lead to accepting places, with at most as many states as places that words lead to: places with one
+/// flag whose rows lead to the same states, or each to itself where the other leads to itself, become one. Where a way through other
+/// places leads back to a place, what that left is reduced. `Over` where words lead to more places than may be.
+/// Costs the spots of the rows, and once more those that lead to the place whose row they are in; and then the reduction.
+pub fn merge_rows<R: Rows>(alloc: Global, rows: &R) -> Result<Auto, Grown>
+    ensures ok { IfOk result (IsMerged (R.graph rows.now)) }
+    ensures over { result ≡ Err Grown.Over → MoreThan (R.graph rows.now).walker (R.graph rows.now).most }
 {
-    let once = merged(alloc, a)?;
+    let once = merged(alloc, rows)?;
     let m = settled(alloc, once)?;
-    let _ = m.states(); // for its invariant
     Ok(m)
 }

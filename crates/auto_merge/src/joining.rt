@@ -1,4 +1,4 @@
-//! Whether a state may get the class of a state to which its row leads.
+//! Whether a place may get the class of a place to which its row leads.
 ghost use Rattle.std.specs.Prelude.{◌≡◌, ◌<◌, ◌≤◌, ℕ, None, length, IsTrue, IfSome};
 ghost use Rattle.letter_diagram.specs.Diagram.{map_at};
 ghost use Rattle.auto_merge.specs.declared.keys.TheConstants.{NO_CLASS};

@@ -1,222 +1,294 @@
-//! Classes that are given to states one by one.
-ghost use Rattle.std.specs.Prelude.{◌≡◌, ◌↔◌, ◌<◌, ◌^◌, ◌++◌, ◌∷◌, [], length, slice_index, IfErr, IfOk, IfSome, OnOk, IsTrue, vec_len};
-ghost use Rattle.letter_diagram.specs.Diagram.{Grows};
-ghost use Rattle.auto_merge.specs.Merging.{IsKeyOf, IsClassGiven, KeepsClasses};
-ghost use Rattle.auto_merge.specs.Merged.{HasOwnClasses, IsMerging, IsRowKey, HasNoRowKey, IsRowGiven, MayShare};
+//! Classes that are given to places one by one.
+ghost use Rattle.std.specs.Prelude.{◌≡◌, ◌↔◌, ◌<◌, ◌≤◌, ◌^◌, ◌++◌, ◌∷◌, [], ℕ, Err, length, IfErr, IfOk, IfSome, OnOk, IsTrue, true, false};
+ghost use Rattle.auto_walk.specs.Walker.{MoreThan};
+ghost use Rattle.auto_merge.specs.declared.keys.TheConstants.{NO_CLASS};
+ghost use Rattle.auto_merge.specs.Keys.{class_in};
+ghost use Rattle.auto_merge.specs.Merging.{IsRoomMade, IsClassGiven, IsMerging, Keeps, IsUnclassedIn, IsClassedIn, IsKnownClassIn, IsSpotKeyIn, IsNoSpotKeyIn, IsRowKeyIn, IsOwnerRowIn, MayShareIn, HasOwnClasses};
 
 use crate::joining::{agrees, first_class};
-use crate::keys::{Guide, Key, Memos, NO_CLASS, NoKey, key_of};
-use auto_core::Auto;
-use auto_refine::RoundMemo;
-use letter_diagram::{Diagrams, Node, NodeMemo};
+use crate::keys::{Guide, Led, NO_CLASS, NoKey, key_of};
+use crate::rows::{Key, Rows};
+use auto_walk::Grown;
+use letter_diagram::{Diagrams, Node};
 use std::alloc::{AllocError, Global};
 use std::collections::HashMap;
 
-/// How many pairs of nodes are compared at most before a state is taken to differ from another.
+/// How many pairs of nodes are compared at most before a place is taken to differ from another.
 const MOST_STEPS: u32 = 1000;
 
-/// The classes of states that have one, and how rows are led to them.
+/// The classes of places that have one, and what was led to them.
 #[derive(Drop)]
-pub struct Merging {
-    /// The class of each state, `NO_CLASS` where it has none yet.
+pub struct Merging<R: Rows> {
+    /// The class of each place that has a number, as far as the table goes, `NO_CLASS` where it has none yet.
     pub table: Vec<u32>,
-    /// For each class the state that got it first.
+    /// For each class the number of the place that got it first.
     pub owners: Vec<u32>,
     /// The class of a flag and the key of a row.
     keyed: HashMap<(bool, Node), u32>,
-    /// The diagrams that keys are nodes of.
-    pub to: Diagrams,
-    pub memos: Memos,
+    pub led: Led<R>,
 }
 
-/// No state has a class.
-pub fn no_classes(alloc: Global, a: &Auto) -> Result<Merging, AllocError>
-    ensures { IfOk result (IsMerging a.now) }
+/// No place has a class.
+pub fn no_classes<R: Rows>(alloc: Global, rows: &R) -> Result<Merging<R>, AllocError>
+    ensures { IfOk result (IsMerging (R.graph rows.now) (R.places rows.now) R.answers) }
 {
-    let nodes = a.diagrams().len();
     Ok(Merging {
-        table: vec![in alloc; NO_CLASS; a.states() as usize]?,
+        table: Vec::new(alloc),
         owners: Vec::new(alloc),
         keyed: HashMap::new(alloc),
-        to: Diagrams::new(alloc),
-        memos: Memos {
-            whole: NodeMemo::new(alloc, nodes)?,
-            open: RoundMemo::new(alloc, nodes)?,
+        led: Led {
+            seen: rows.new_seen(alloc)?,
+            to: Diagrams::new(alloc),
+            memo: rows.new_memo(alloc)?,
         },
     })
 }
 
-/// Whether some state got a class of its own without a key. What is said of the classes holds whatever this answers: where it answers no
-/// for yes, states that are alike may stay apart, and where it answers yes for no, a reduction is made for nothing.
-pub fn has_own_classes(merging: &Merging) -> bool
+/// Whether some place got a class of its own without a key. What is said of the classes holds whatever this answers: where it answers no
+/// for yes, places that are alike may stay apart, and where it answers yes for no, a reduction is made for nothing.
+pub fn has_own_classes<R: Rows>(merging: &Merging<R>) -> bool
     ensures { IsTrue result ↔ HasOwnClasses merging.now }
 {
     merging.keyed.len() < merging.owners.len()
 }
 
-/// Gives a state a class.
-fn give(table: &mut Vec<u32>, state: u32, class: u32)
-    requires within { state < vec_len table.old }
-    requires new { slice_index table.old.items state ≡ NO_CLASS }
-    requires class { class < 2 ^ 31 }
-    ensures { IsClassGiven table.old.items table.new.items state class }
+/// The diagrams that spots were led to nodes of.
+pub fn into_diagrams<R: Rows>(merging: Merging<R>) -> Diagrams
+    ensures { result ≡ merging.led.to }
 {
-    table[state as usize] = class;
+    let Merging { led, .. } = merging;
+    let Led { to, .. } = led;
+    to
 }
 
-/// A new class, that a state is the first to get.
-fn new_class(owners: &mut Vec<u32>, state: u32) -> Result<u32, AllocError>
-    requires { vec_len owners.old < 2 ^ 31 }
+/// Makes room for the classes of the numbers below `count`.
+fn make_room(table: &mut Vec<u32>, count: usize) -> Result<(), AllocError>
+    ensures same { (number : ℕ) → class_in table.new.items number ≡ class_in table.old.items number }
+    ensures room { OnOk result (IsRoomMade table.old.items table.new.items count) }
+{
+    if count > table.len() {
+        table.resize(count, NO_CLASS)?;
+    }
+    Ok(())
+}
+
+/// Gives a number a class.
+fn give(table: &mut Vec<u32>, number: u32, class: u32) -> Result<(), AllocError>
+    requires new { class_in table.old.items number ≡ NO_CLASS }
+    requires class { class < 2 ^ 31 }
+    ensures { OnOk result (IsClassGiven table.old.items table.new.items number class) }
+{
+    make_room(table, number as usize + 1)?;
+    table[number as usize] = class;
+    Ok(())
+}
+
+/// A new class, that a number is the first to get.
+fn new_class(owners: &mut Vec<u32>, number: u32) -> Result<u32, AllocError>
+    requires { length owners.old.items < 2 ^ 31 }
     ensures class { IfOk result (λ class. class ≡ length owners.old.items) }
-    ensures owners { OnOk result (owners.new.items ≡ owners.old.items ++ state ∷ []) }
+    ensures owners { OnOk result (owners.new.items ≡ owners.old.items ++ number ∷ []) }
 {
     let class = owners.len() as u32;
-    owners.push(state)?;
+    owners.push(number)?;
     Ok(class)
 }
 
-/// Gives a state a class of its own.
-pub fn give_own(a: &Auto, state: u32, merging: &mut Merging) -> Result<(), AllocError>
-    requires merging { IsMerging a.now merging.old }
-    requires within { state < length a.now.accept }
-    requires new { slice_index merging.old.table.items state ≡ NO_CLASS }
-    ensures merging { OnOk result (IsMerging a.now merging.new) }
-    ensures given { OnOk result (KeepsClasses merging.old.table.items merging.new.table.items state) }
+/// Gives a number a class of its own.
+pub fn give_own<R: Rows>(rows: &R, number: u32, merging: &mut Merging<R>) -> Result<(), AllocError>
+    requires merging { IsMerging (R.graph rows.now) (R.places rows.now) R.answers merging.old }
+    requires new { IsUnclassedIn (R.places rows.now) merging.old number }
+    ensures merging { OnOk result (IsMerging (R.graph rows.now) (R.places rows.now) R.answers merging.new) }
+    ensures kept { OnOk result (Keeps (R.places rows.now) merging.old merging.new) }
+    ensures given { OnOk result (IsClassedIn merging.new number) }
 {
-    let _ = a.states(); // for its invariant
-    let class = new_class(&mut merging.owners, state)?;
-    give(&mut merging.table, state, class);
+    let _ = rows.count(&merging.led.seen);
+    let class = new_class(&mut merging.owners, number)?;
+    give(&mut merging.table, number, class)?;
     Ok(())
 }
 
-/// Gives a state the class that has its key, or one of its own where the key is new.
-fn give_by_key(a: &Auto, state: u32, key: Node, merging: &mut Merging) -> Result<(), AllocError>
-    requires merging { IsMerging a.now merging.old }
-    requires within { state < length a.now.accept }
-    requires new { slice_index merging.old.table.items state ≡ NO_CLASS }
-    requires key { IsKeyOf a.now merging.old.table.items merging.old.to state key }
-    ensures merging { OnOk result (IsMerging a.now merging.new) }
-    ensures given { OnOk result (KeepsClasses merging.old.table.items merging.new.table.items state) }
+/// Gives a number the class that has its key, or one of its own where the key is new.
+fn give_by_key<R: Rows>(
+    rows: &R,
+    number: u32,
+    key: Node,
+    merging: &mut Merging<R>,
+) -> Result<(), AllocError>
+    requires merging { IsMerging (R.graph rows.now) (R.places rows.now) R.answers merging.old }
+    requires new { IsUnclassedIn (R.places rows.now) merging.old number }
+    requires key { IsRowKeyIn (R.graph rows.now) (R.places rows.now) merging.old number key }
+    ensures merging { OnOk result (IsMerging (R.graph rows.now) (R.places rows.now) R.answers merging.new) }
+    ensures kept { OnOk result (Keeps (R.places rows.now) merging.old merging.new) }
+    ensures given { OnOk result (IsClassedIn merging.new number) }
 {
-    let _ = a.states(); // for its invariant
-    let flag = a.accept_of(state);
+    let flag = rows.is_final(&merging.led.seen, number);
     if let Some(class) = merging.keyed.get(&(flag, key)).copied() {
-        give(&mut merging.table, state, class);
+        give(&mut merging.table, number, class)?;
         return Ok(());
     }
-    let class = new_class(&mut merging.owners, state)?;
+    let class = new_class(&mut merging.owners, number)?;
     merging.keyed.insert((flag, key), class)?;
-    give(&mut merging.table, state, class);
+    give(&mut merging.table, number, class)?;
     Ok(())
 }
 
-/// The key of the row of a state.
-pub fn row_key(a: &Auto, state: u32, merging: &mut Merging) -> Result<Key, NoKey>
-    requires merging { IsMerging a.now merging.old }
-    requires within { state < length a.now.accept }
-    ensures key { IfOk result (IsRowKey a.now merging.old.table.items merging.new.to state) }
-    ensures refused { IfErr result (HasNoRowKey a.now merging.old.table.items state) }
-    ensures merging { IsMerging a.now merging.new }
+/// The key of a spot, in the row of a place, or where each place has a class.
+pub fn spot_key<R: Rows>(
+    rows: &R,
+    spot: R::Spot,
+    own: Option<u32>,
+    merging: &mut Merging<R>,
+) -> Result<Key, NoKey>
+    requires read { (R.graph rows.now).can_read spot }
+    requires merging { IsMerging (R.graph rows.now) (R.places rows.now) R.answers merging.old }
+    ensures key { IfOk result (IsSpotKeyIn (R.graph rows.now) (R.places rows.now) merging.new own spot) }
+    ensures refused { IfErr result (IsNoSpotKeyIn (R.graph rows.now) (R.places rows.now) merging.new) }
+    ensures merging { IsMerging (R.graph rows.now) (R.places rows.now) R.answers merging.new }
+    ensures kept { Keeps (R.places rows.now) merging.old merging.new }
     ensures table { merging.new.table ≡ merging.old.table }
     ensures owners { merging.new.owners ≡ merging.old.owners }
-    ensures grows { Grows merging.old.to merging.new.to }
 {
-    merging.memos.open.clear();
     let guide = Guide {
-        from: a.diagrams(),
+        rows,
         table: merging.table.as_slice(),
-        own: state,
+        own,
     };
-    key_of(
-        &guide,
-        a.row_node(state),
-        &mut merging.to,
-        &mut merging.memos,
-    )
+    key_of(&guide, spot, &mut merging.led)
 }
 
-/// The node that leads the row of a state to classes, where each of its values has one.
-fn whole_row(a: &Auto, state: u32, merging: &mut Merging) -> Result<Option<Node>, AllocError>
-    requires merging { IsMerging a.now merging.old }
-    requires within { state < length a.now.accept }
-    ensures row { IfOk result (λ row. IfSome row (IsRowGiven a.now merging.old.table.items merging.new.to state)) }
-    ensures merging { IsMerging a.now merging.new }
+/// The key of the row of a number.
+pub fn row_key<R: Rows>(rows: &R, number: u32, merging: &mut Merging<R>) -> Result<Node, NoKey>
+    requires merging { IsMerging (R.graph rows.now) (R.places rows.now) R.answers merging.old }
+    requires new { IsUnclassedIn (R.places rows.now) merging.old number }
+    ensures key { IfOk result (IsRowKeyIn (R.graph rows.now) (R.places rows.now) merging.new number) }
+    ensures refused { IfErr result (IsNoSpotKeyIn (R.graph rows.now) (R.places rows.now) merging.new) }
+    ensures merging { IsMerging (R.graph rows.now) (R.places rows.now) R.answers merging.new }
+    ensures kept { Keeps (R.places rows.now) merging.old merging.new }
+    ensures new { IsUnclassedIn (R.places rows.now) merging.new number }
+{
+    let spot = rows.row(&merging.led.seen, number);
+    let key = spot_key(rows, spot, Some(number), merging)?;
+    Ok(key.node)
+}
+
+/// The node that leads the row of a number to classes, where each of its places has one.
+fn whole_row<R: Rows>(
+    rows: &R,
+    number: u32,
+    merging: &mut Merging<R>,
+) -> Result<Option<Node>, Grown>
+    requires merging { IsMerging (R.graph rows.now) (R.places rows.now) R.answers merging.old }
+    requires known { number < length (R.places rows.now merging.old.led.seen) }
+    ensures row { IfOk result (λ row. IfSome row (IsOwnerRowIn (R.graph rows.now) (R.places rows.now) merging.new number)) }
+    ensures merging { IsMerging (R.graph rows.now) (R.places rows.now) R.answers merging.new }
+    ensures kept { Keeps (R.places rows.now) merging.old merging.new }
     ensures table { merging.new.table ≡ merging.old.table }
     ensures owners { merging.new.owners ≡ merging.old.owners }
-    ensures grows { Grows merging.old.to merging.new.to }
+    ensures over { result ≡ Err Grown.Over → MoreThan (R.graph rows.now).walker (R.graph rows.now).most }
 {
-    match row_key(a, state, merging) {
-        Ok(key) => {
-            if key.whole {
-                Ok(Some(key.node))
-            } else {
-                Ok(None)
-            }
-        }
+    let spot = rows.row(&merging.led.seen, number);
+    match spot_key(rows, spot, None, merging) {
+        Ok(key) => Ok(Some(key.node)),
         Err(NoKey::Unclassed(_)) => Ok(None),
-        Err(NoKey::Memory) => Err(AllocError),
+        Err(NoKey::Over) => Err(Grown::Over),
+        Err(NoKey::Memory) => Err(Grown::Memory),
     }
 }
 
-/// Whether a state may get a class to which its key leads.
-fn can_join(
-    a: &Auto,
-    state: u32,
+/// Whether a number may get a class to which its key leads.
+fn can_join<R: Rows>(
+    rows: &R,
+    number: u32,
     key: Node,
     class: u32,
-    merging: &mut Merging,
-) -> Result<bool, AllocError>
-    requires merging { IsMerging a.now merging.old }
-    requires within { state < length a.now.accept }
-    requires known { class < length merging.old.owners.items }
-    requires key { IsKeyOf a.now merging.old.table.items merging.old.to state key }
-    ensures can { IfOk result (λ can. IsTrue can → MayShare a.now merging.old state class) }
-    ensures merging { IsMerging a.now merging.new }
-    ensures table { merging.new.table ≡ merging.old.table }
-    ensures owners { merging.new.owners ≡ merging.old.owners }
-    ensures grows { Grows merging.old.to merging.new.to }
+    merging: &mut Merging<R>,
+) -> Result<bool, Grown>
+    requires merging { IsMerging (R.graph rows.now) (R.places rows.now) R.answers merging.old }
+    requires new { IsUnclassedIn (R.places rows.now) merging.old number }
+    requires key { IsRowKeyIn (R.graph rows.now) (R.places rows.now) merging.old number key }
+    requires known { IsKnownClassIn merging.old class }
+    ensures can { IfOk result (λ can. IsTrue can → MayShareIn (R.graph rows.now) (R.places rows.now) merging.new number class) }
+    ensures merging { IsMerging (R.graph rows.now) (R.places rows.now) R.answers merging.new }
+    ensures kept { Keeps (R.places rows.now) merging.old merging.new }
+    ensures new { IsUnclassedIn (R.places rows.now) merging.new number }
+    ensures over { result ≡ Err Grown.Over → MoreThan (R.graph rows.now).walker (R.graph rows.now).most }
 {
     let owner = merging.owners[class as usize];
-    if a.accept_of(owner) != a.accept_of(state) {
+    if rows.is_final(&merging.led.seen, owner) != rows.is_final(&merging.led.seen, number) {
         return Ok(false);
     }
-    match whole_row(a, owner, merging)? {
+    match whole_row(rows, owner, merging)? {
         Some(row) => {
             let mut steps = MOST_STEPS;
-            Ok(agrees(&merging.to, key, row, class, &mut steps))
+            Ok(agrees(&merging.led.to, key, row, class, &mut steps))
         }
         None => Ok(false),
     }
 }
 
-/// Gives a state the class of another with the same row.
-fn give_shared(a: &Auto, state: u32, class: u32, merging: &mut Merging)
-    requires merging { IsMerging a.now merging.old }
-    requires within { state < length a.now.accept }
-    requires new { slice_index merging.old.table.items state ≡ NO_CLASS }
-    requires can { MayShare a.now merging.old state class }
-    ensures merging { IsMerging a.now merging.new }
-    ensures given { KeepsClasses merging.old.table.items merging.new.table.items state }
+/// Gives a number the class of another with the same row.
+fn give_shared<R: Rows>(
+    rows: &R,
+    number: u32,
+    class: u32,
+    merging: &mut Merging<R>,
+) -> Result<(), AllocError>
+    requires merging { IsMerging (R.graph rows.now) (R.places rows.now) R.answers merging.old }
+    requires new { IsUnclassedIn (R.places rows.now) merging.old number }
+    requires can { MayShareIn (R.graph rows.now) (R.places rows.now) merging.old number class }
+    ensures merging { OnOk result (IsMerging (R.graph rows.now) (R.places rows.now) R.answers merging.new) }
+    ensures kept { OnOk result (Keeps (R.places rows.now) merging.old merging.new) }
+    ensures given { OnOk result (IsClassedIn merging.new number) }
 {
-    let _ = a.states(); // for its invariant
-    give(&mut merging.table, state, class);
+    give(&mut merging.table, number, class)?;
+    Ok(())
 }
 
-/// Gives a state whose row has a key a class: one to which the row leads, the class of the key, or one of its own.
-pub fn give_any(a: &Auto, state: u32, key: Node, merging: &mut Merging) -> Result<(), AllocError>
-    requires merging { IsMerging a.now merging.old }
-    requires within { state < length a.now.accept }
-    requires new { slice_index merging.old.table.items state ≡ NO_CLASS }
-    requires key { IsKeyOf a.now merging.old.table.items merging.old.to state key }
-    ensures merging { OnOk result (IsMerging a.now merging.new) }
-    ensures given { OnOk result (KeepsClasses merging.old.table.items merging.new.table.items state) }
+/// Gives a number a class to which its key leads, if it may have that of the first. Whether it may.
+fn give_led<R: Rows>(
+    rows: &R,
+    number: u32,
+    key: Node,
+    merging: &mut Merging<R>,
+) -> Result<bool, Grown>
+    requires merging { IsMerging (R.graph rows.now) (R.places rows.now) R.answers merging.old }
+    requires new { IsUnclassedIn (R.places rows.now) merging.old number }
+    requires key { IsRowKeyIn (R.graph rows.now) (R.places rows.now) merging.old number key }
+    ensures merging { OnOk result (IsMerging (R.graph rows.now) (R.places rows.now) R.answers merging.new) }
+    ensures kept { OnOk result (Keeps (R.places rows.now) merging.old merging.new) }
+    ensures given { IfOk result (λ given. given ≡ true → IsClassedIn merging.new number) }
+    ensures left { IfOk result (λ given. given ≡ false → IsUnclassedIn (R.places rows.now) merging.new number) }
+    ensures over { result ≡ Err Grown.Over → MoreThan (R.graph rows.now).walker (R.graph rows.now).most }
 {
-    let _ = a.diagrams(); // for its invariant
-    if let Some(class) = first_class(&merging.to, key) {
-        if can_join(a, state, key, class, merging)? {
-            give_shared(a, state, class, merging);
-            return Ok(());
-        }
+    let Some(class) = first_class(&merging.led.to, key) else {
+        return Ok(false);
+    };
+    if !can_join(rows, number, key, class, merging)? {
+        return Ok(false);
     }
-    give_by_key(a, state, key, merging)
+    give_shared(rows, number, class, merging)?;
+    Ok(true)
+}
+
+/// Gives a number whose row has a key a class: one to which the row leads, the class of the key, or one of its own.
+pub fn give_any<R: Rows>(
+    rows: &R,
+    number: u32,
+    key: Node,
+    merging: &mut Merging<R>,
+) -> Result<(), Grown>
+    requires merging { IsMerging (R.graph rows.now) (R.places rows.now) R.answers merging.old }
+    requires new { IsUnclassedIn (R.places rows.now) merging.old number }
+    requires key { IsRowKeyIn (R.graph rows.now) (R.places rows.now) merging.old number key }
+    ensures merging { OnOk result (IsMerging (R.graph rows.now) (R.places rows.now) R.answers merging.new) }
+    ensures kept { OnOk result (Keeps (R.places rows.now) merging.old merging.new) }
+    ensures given { OnOk result (IsClassedIn merging.new number) }
+    ensures over { result ≡ Err Grown.Over → MoreThan (R.graph rows.now).walker (R.graph rows.now).most }
+{
+    if give_led(rows, number, key, merging)? {
+        return Ok(());
+    }
+    give_by_key(rows, number, key, merging)?;
+    Ok(())
 }

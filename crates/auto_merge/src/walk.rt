@@ -1,121 +1,185 @@
-//! The order in which states get their classes: those that a row leads to before the state whose row it is.
-ghost use Rattle.std.specs.Prelude.{◌≡◌, ◌<◌, ◌≤◌, ◌+◌, length, IfOk, OnOk, IsTrue};
-ghost use Rattle.auto_merge.specs.Merging.{KeepsClasses, KeepsAll};
-ghost use Rattle.auto_merge.specs.Merged.{IsMerging, HaveClasses};
-ghost use Rattle.auto_merge.specs.Walk.{IsWay, not_entered, steps_left};
+//! The order in which places get their classes: those that a row leads to before the place whose row it is.
+ghost use Rattle.std.specs.Prelude.{◌≡◌, ◌<◌, ◌≤◌, ◌+◌, Err, length, IfOk, OnOk, true, false};
+ghost use Rattle.auto_walk.specs.Walker.{MoreThan};
+ghost use Rattle.auto_walk.specs.Rows.{Extends};
+ghost use Rattle.auto_merge.specs.Merging.{IsMerging, Keeps, IsUnclassedIn, IsClassedIn};
+ghost use Rattle.auto_merge.specs.Walk.{IsWay, IsRoomMade, IsEntered, IsTurned, IsWayIn, steps_left_in};
 
-use crate::keys::{NO_CLASS, NoKey};
-use crate::merging::{Merging, give_any, give_own, no_classes, row_key};
-use auto_core::Auto;
+use crate::keys::{NO_CLASS, NoKey, class_of};
+use crate::merging::{Merging, give_any, give_own, row_key};
+use crate::rows::Rows;
+use auto_walk::Grown;
 use std::alloc::{AllocError, Global};
 
-/// A walk over states, depth first: those on the way, and those that were entered.
+/// A walk over numbers of places, depth first: those on the way, and those that were entered.
 #[derive(Drop)]
-struct Way {
-    states: Vec<u32>,
+pub struct Way {
+    numbers: Vec<u32>,
+    /// Whether each number was entered, as far as the list goes. One past it was not.
     entered: Vec<bool>,
 }
 
-/// Whether a state was not entered; it is from now on.
-fn enter(way: &mut Way, state: u32) -> bool
-    requires { state < length way.old.entered.items }
-    ensures states { way.new.states ≡ way.old.states }
-    ensures size { length way.new.entered.items ≡ length way.old.entered.items }
-    ensures counted { IsTrue result → not_entered way.new.entered.items + 1 ≡ not_entered way.old.entered.items }
-    ensures fewer { not_entered way.new.entered.items ≤ not_entered way.old.entered.items }
+/// No number was entered.
+pub fn no_way(alloc: Global) -> Way
+    ensures { IsWay 0 result }
 {
-    let place = state as usize;
+    Way {
+        numbers: Vec::new(alloc),
+        entered: Vec::new(alloc),
+    }
+}
+
+/// Makes room for the numbers below `count`.
+fn make_room(entered: &mut Vec<bool>, count: usize) -> Result<(), AllocError>
+    ensures { OnOk result (IsRoomMade entered.old.items entered.new.items count) }
+{
+    if count > entered.len() {
+        entered.resize(count, false)?;
+    }
+    Ok(())
+}
+
+/// Whether a number was not entered; it is from now on.
+fn enter(way: &mut Way, number: u32) -> Result<bool, AllocError>
+    ensures numbers { way.new.numbers ≡ way.old.numbers }
+    ensures entered { IfOk result (IsEntered way.old.entered.items way.new.entered.items number) }
+{
+    make_room(&mut way.entered, number as usize + 1)?;
+    let place = number as usize;
     let is_new = !way.entered[place];
     way.entered[place] = true;
-    is_new
+    Ok(is_new)
 }
 
-/// Gives a state a class, unless its row leads to a state that has none and was not entered: then that one comes first, and the row
-/// is led again behind it, but for what leads to classes alone.
-fn visit(a: &Auto, state: u32, merging: &mut Merging, way: &mut Way) -> Result<(), AllocError>
-    requires merging { IsMerging a.now merging.old }
-    requires within { state < length a.now.accept }
-    requires way { IsWay a.now way.old }
-    ensures merging { OnOk result (IsMerging a.now merging.new) }
-    ensures kept { OnOk result (KeepsAll merging.old.table.items merging.new.table.items) }
-    ensures way { OnOk result (IsWay a.now way.new) }
-    ensures left { OnOk result (steps_left way.new ≤ steps_left way.old) }
+/// Puts a number on the way, and another one that comes first, unless that one was entered; it is from now on. Whether it was not.
+fn turn_to(way: &mut Way, number: u32, next: u32) -> Result<bool, AllocError>
+    ensures { OnOk result (IsTurned number next way.old way.new) }
 {
-    if merging.table[state as usize] != NO_CLASS {
+    if !enter(way, next)? {
+        return Ok(false);
+    }
+    way.numbers.push(number)?;
+    way.numbers.push(next)?;
+    Ok(true)
+}
+
+/// Goes on with a number whose row leads to another one without a class: that one comes first, and the row is led again behind it, but
+/// for what leads to classes alone. Where it was entered, a way led back to it: then the number gets a class of its own.
+fn put_off<R: Rows>(
+    rows: &R,
+    number: u32,
+    next: u32,
+    merging: &mut Merging<R>,
+    way: &mut Way,
+) -> Result<(), Grown>
+    requires merging { IsMerging (R.graph rows.now) (R.places rows.now) R.answers merging.old }
+    requires new { IsUnclassedIn (R.places rows.now) merging.old number }
+    requires next { next < length (R.places rows.now merging.old.led.seen) }
+    requires way { IsWayIn (R.places rows.now) merging.old way.old }
+    ensures merging { OnOk result (IsMerging (R.graph rows.now) (R.places rows.now) R.answers merging.new) }
+    ensures kept { OnOk result (Keeps (R.places rows.now) merging.old merging.new) }
+    ensures way { OnOk result (IsWayIn (R.places rows.now) merging.new way.new) }
+    ensures left { OnOk result (steps_left_in (R.graph rows.now) way.new ≤ steps_left_in (R.graph rows.now) way.old) }
+    ensures memory { ¬ (result ≡ Err Grown.Over) }
+{
+    if turn_to(way, number, next)? {
         return Ok(());
     }
-    match row_key(a, state, merging) {
-        Ok(key) => give_any(a, state, key.node, merging),
-        Err(NoKey::Unclassed(next)) => {
-            if enter(way, next) {
-                way.states.push(state)?;
-                way.states.push(next)?;
-                Ok(())
-            } else {
-                give_own(a, state, merging)
-            }
+    give_own(rows, number, merging)?;
+    Ok(())
+}
+
+/// Gives a number a class, unless its row leads to one that has none and was not entered.
+fn visit<R: Rows>(
+    rows: &R,
+    number: u32,
+    merging: &mut Merging<R>,
+    way: &mut Way,
+) -> Result<(), Grown>
+    requires merging { IsMerging (R.graph rows.now) (R.places rows.now) R.answers merging.old }
+    requires within { number < length (R.places rows.now merging.old.led.seen) }
+    requires way { IsWayIn (R.places rows.now) merging.old way.old }
+    ensures merging { OnOk result (IsMerging (R.graph rows.now) (R.places rows.now) R.answers merging.new) }
+    ensures kept { OnOk result (Keeps (R.places rows.now) merging.old merging.new) }
+    ensures way { OnOk result (IsWayIn (R.places rows.now) merging.new way.new) }
+    ensures left { OnOk result (steps_left_in (R.graph rows.now) way.new ≤ steps_left_in (R.graph rows.now) way.old) }
+    ensures over { result ≡ Err Grown.Over → MoreThan (R.graph rows.now).walker (R.graph rows.now).most }
+{
+    if class_of(merging.table.as_slice(), number) != NO_CLASS {
+        return Ok(());
+    }
+    match row_key(rows, number, merging) {
+        Ok(key) => {
+            give_any(rows, number, key, merging)?;
+            Ok(())
         }
-        Err(NoKey::Memory) => Err(AllocError),
+        Err(NoKey::Unclassed(next)) => {
+            put_off(rows, number, next, merging, way)?;
+            Ok(())
+        }
+        Err(NoKey::Over) => Err(Grown::Over),
+        Err(NoKey::Memory) => Err(Grown::Memory),
     }
 }
 
-/// Gives a class to the states on a way and to those to which they lead.
-fn follow(a: &Auto, merging: &mut Merging, way: &mut Way) -> Result<(), AllocError>
-    requires merging { IsMerging a.now merging.old }
-    requires way { IsWay a.now way.old }
-    ensures merging { OnOk result (IsMerging a.now merging.new) }
-    ensures kept { OnOk result (KeepsAll merging.old.table.items merging.new.table.items) }
-    ensures way { OnOk result (IsWay a.now way.new) }
+/// Gives a class to the numbers on a way and to those to which they lead.
+fn follow<R: Rows>(rows: &R, merging: &mut Merging<R>, way: &mut Way) -> Result<(), Grown>
+    requires merging { IsMerging (R.graph rows.now) (R.places rows.now) R.answers merging.old }
+    requires way { IsWayIn (R.places rows.now) merging.old way.old }
+    ensures merging { OnOk result (IsMerging (R.graph rows.now) (R.places rows.now) R.answers merging.new) }
+    ensures kept { OnOk result (Keeps (R.places rows.now) merging.old merging.new) }
+    ensures way { OnOk result (IsWayIn (R.places rows.now) merging.new way.new) }
+    ensures over { result ≡ Err Grown.Over → MoreThan (R.graph rows.now).walker (R.graph rows.now).most }
 {
-    while let Some(state) = way.states.pop() {
-        visit(a, state, merging, way)?;
-    }
-    Ok(())
-}
-
-/// Begins a way at a state that was not entered.
-fn start(a: &Auto, state: u32, merging: &mut Merging, way: &mut Way) -> Result<(), AllocError>
-    requires merging { IsMerging a.now merging.old }
-    requires within { state < length a.now.accept }
-    requires way { IsWay a.now way.old }
-    ensures merging { OnOk result (IsMerging a.now merging.new) }
-    ensures kept { OnOk result (KeepsAll merging.old.table.items merging.new.table.items) }
-    ensures way { OnOk result (IsWay a.now way.new) }
-{
-    if enter(way, state) {
-        way.states.push(state)?;
-        follow(a, merging, way)?;
+    while let Some(number) = way.numbers.pop() {
+        visit(rows, number, merging, way)?;
     }
     Ok(())
 }
 
-/// Gives a state a class of its own, unless it has one.
-fn settle(a: &Auto, state: u32, merging: &mut Merging) -> Result<(), AllocError>
-    requires merging { IsMerging a.now merging.old }
-    requires within { state < length a.now.accept }
-    ensures merging { OnOk result (IsMerging a.now merging.new) }
-    ensures given { OnOk result (KeepsClasses merging.old.table.items merging.new.table.items state) }
+/// Begins a way at a number, if it was not entered.
+fn start<R: Rows>(
+    rows: &R,
+    number: u32,
+    merging: &mut Merging<R>,
+    way: &mut Way,
+) -> Result<(), Grown>
+    requires merging { IsMerging (R.graph rows.now) (R.places rows.now) R.answers merging.old }
+    requires within { number < length (R.places rows.now merging.old.led.seen) }
+    requires way { IsWayIn (R.places rows.now) merging.old way.old }
+    ensures merging { OnOk result (IsMerging (R.graph rows.now) (R.places rows.now) R.answers merging.new) }
+    ensures kept { OnOk result (Keeps (R.places rows.now) merging.old merging.new) }
+    ensures way { OnOk result (IsWayIn (R.places rows.now) merging.new way.new) }
+    ensures over { result ≡ Err Grown.Over → MoreThan (R.graph rows.now).walker (R.graph rows.now).most }
 {
-    if merging.table[state as usize] != NO_CLASS {
+    if !enter(way, number)? {
         return Ok(());
     }
-    give_own(a, state, merging)
+    way.numbers.push(number)?;
+    follow(rows, merging, way)
 }
 
-/// The classes of all states. A state gets its class after those to which its row leads, but for those from which a way leads back;
+/// Gives a number a class, after those to which its row leads, but for those from which a way leads back;
 /// nothing but the number of classes hangs on that order.
-pub fn all_classes(alloc: Global, a: &Auto) -> Result<Merging, AllocError>
-    ensures merging { IfOk result (IsMerging a.now) }
-    ensures all { IfOk result (λ merging. HaveClasses a.now merging.table.items) }
+pub fn class_from<R: Rows>(
+    rows: &R,
+    number: u32,
+    merging: &mut Merging<R>,
+    way: &mut Way,
+) -> Result<(), Grown>
+    requires merging { IsMerging (R.graph rows.now) (R.places rows.now) R.answers merging.old }
+    requires within { number < length (R.places rows.now merging.old.led.seen) }
+    requires way { IsWayIn (R.places rows.now) merging.old way.old }
+    ensures merging { OnOk result (IsMerging (R.graph rows.now) (R.places rows.now) R.answers merging.new) }
+    ensures kept { OnOk result (Keeps (R.places rows.now) merging.old merging.new) }
+    ensures way { OnOk result (IsWayIn (R.places rows.now) merging.new way.new) }
+    ensures given { OnOk result (IsClassedIn merging.new number) }
+    ensures over { result ≡ Err Grown.Over → MoreThan (R.graph rows.now).walker (R.graph rows.now).most }
 {
-    let mut way = Way {
-        states: Vec::new(alloc),
-        entered: vec![in alloc; false; a.states() as usize]?,
-    };
-    let mut merging = no_classes(alloc, a)?;
-    for state in 0..a.states() {
-        start(a, state, &mut merging, &mut way)?;
-        settle(a, state, &mut merging)?;
+    start(rows, number, merging, way)?;
+    if class_of(merging.table.as_slice(), number) != NO_CLASS {
+        return Ok(());
     }
-    Ok(merging)
+    give_own(rows, number, merging)?;
+    Ok(())
 }

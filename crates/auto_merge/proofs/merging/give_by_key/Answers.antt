@@ -1,45 +1,51 @@
-use Rattle.std.proofs.Common.{sym, ◌∙◌, subst}
-use Rattle.auto_merge.specs.Merging.{AreClasses, AreKeyed}
-use Rattle.auto_merge.proofs.Classes.{Longer-same, AreClasses-own, AreClasses-shared, AreKeyed-give, AreKeyed-own, RemembersGiven-give, KeepsClasses-give, IsSettled-key, IsKeyed-at, class_few}
+use Rattle.std.proofs.Common.{arith, length, sym, ◌∙◌}
+use Rattle.auto_merge.proofs.Classes.{KeepsOwners-refl, KeepsOwners-push}
+use Rattle.auto_merge.proofs.Mergings.{keyed_known, class_few, class_is_class, of-IsMerging, IsMerging-of, IsMergingOf-key, IsMergingOf-new_key, Keeps-of, KeepsOf-give, classed-given}
 use Rattle.auto_merge.proofs.merging.give_by_key.Goals as goal
 
 pub give-requires-clause-class : goal.give-requires-clause-class
-give-requires-clause-class c =
+give-requires-clause-class g c =
     let m = c.requires.merging in
-    class_few c.states.ensures.valid m.classes (IsKeyed-at m.keys (sym c.get.ensures.value ∙ sym c.copied.ensures ∙ c.in-Some.is) c.accept_of-flag.ensures).class_known
+    let below = keyed_known c.is_final-flag.result c.args.key c.in-Some.class m.keys (sym c.get.ensures.value ∙ sym c.copied.ensures ∙ c.in-Some.is) in
+    class_few m.seen m.classes c.in-Some.class (omega (arith, below))
 
 pub returns-in-Some-clause-merging : goal.returns-in-Some-clause-merging
-returns-in-Some-clause-merging c =
-    let m = c.requires.merging in
-    let a = c.args.a.now in
-    let owners = c.args.merging.now.owners.items in
-    let valid = c.states.ensures.valid in
-    let keyed = IsKeyed-at m.keys (sym c.get.ensures.value ∙ sym c.copied.ensures ∙ c.in-Some.is) c.accept_of-flag.ensures in
-    let settled = IsSettled-key c.give.ensures c.requires.new a valid m.classes keyed c.requires.key in
-    record {
-      classes = AreClasses-shared c.give.ensures c.requires.new a valid m.classes keyed.class_known keyed.flag_is settled;
-      keys = AreKeyed-give c.give.ensures c.requires.new a (Longer-same owners) m.keys;
-      remembered = RemembersGiven-give c.give.ensures c.requires.new m.remembered;
-    }
+returns-in-Some-clause-merging g c =
+    IsMerging-of _ (IsMergingOf-key (of-IsMerging c.requires.merging) c.in_ok-give.ensures c.requires.new (sym c.get.ensures.value ∙ sym c.copied.ensures ∙ c.in-Some.is) c.is_final-flag.ensures c.requires.key)
+
+pub returns-in-Some-clause-kept : goal.returns-in-Some-clause-kept
+returns-in-Some-clause-kept g c =
+    Keeps-of _ _ (KeepsOf-give c.args.merging.now.led.to c.in_ok-give.ensures c.requires.new (KeepsOwners-refl c.args.merging.now.owners.items))
 
 pub returns-in-Some-clause-given : goal.returns-in-Some-clause-given
-returns-in-Some-clause-given c =
+returns-in-Some-clause-given g c =
     let m = c.requires.merging in
-    let keyed = IsKeyed-at m.keys (sym c.get.ensures.value ∙ sym c.copied.ensures ∙ c.in-Some.is) c.accept_of-flag.ensures in
-    let valid = c.states.ensures.valid in
-    KeepsClasses-give c.give.ensures c.requires.new c.args.a.now valid (class_few valid m.classes keyed.class_known)
+    let below = keyed_known c.is_final-flag.result c.args.key c.in-Some.class m.keys (sym c.get.ensures.value ∙ sym c.copied.ensures ∙ c.in-Some.is) in
+    classed-given c.in_ok-give.ensures (class_is_class m.seen m.classes c.in-Some.class (omega (arith, below)))
+
+pub new_class-requires : goal.new_class-requires
+new_class-requires g c =
+    let m = c.requires.merging in
+    class_few m.seen m.classes (length c.args.merging.now.owners.items) (omega arith)
+
+pub give-requires-2-clause-class : goal.give-requires-2-clause-class
+give-requires-2-clause-class g c =
+    let m = c.requires.merging in
+    let own = c.in_ok-class.ensures.class in
+    class_few m.seen m.classes c.in_ok-class.class (omega (arith, own))
 
 pub returns-clause-merging : goal.returns-clause-merging
-returns-clause-merging c =
-    let m = c.requires.merging in
-    let a = c.args.a.now in
-    let owners = c.args.merging.now.owners.items in
-    let table = c.give-2.new.table.items in
-    let own = c.in_ok-class.ensures.class in
+returns-clause-merging g c =
     let items = c.in_ok-class.ensures.owners in
-    let keyed = AreKeyed-own c.give-2.ensures c.requires.new a _ c.insert.new.self own (sym c.accept_of-flag.ensures) c.requires.key c.in_ok-insert.ensures.updates m.keys in
-    record {
-      classes = subst (AreClasses a table) (sym items) (AreClasses-own c.give-2.ensures c.requires.new a c.states.ensures.valid m.classes c.requires.within own);
-      keys = subst (λ l. AreKeyed a table l c.args.merging.now.to c.insert.new.self) (sym items) keyed;
-      remembered = RemembersGiven-give c.give-2.ensures c.requires.new m.remembered;
-    }
+    IsMerging-of _ (rw items (IsMergingOf-new_key (of-IsMerging c.requires.merging) c.in_ok-give-2.ensures c.requires.new c.insert.new.self c.in_ok-class.ensures.class c.is_final-flag.ensures c.requires.key c.in_ok-insert.ensures.updates))
+
+pub returns-clause-kept : goal.returns-clause-kept
+returns-clause-kept g c =
+    let items = c.in_ok-class.ensures.owners in
+    Keeps-of _ _ (rw items (KeepsOf-give c.args.merging.now.led.to c.in_ok-give-2.ensures c.requires.new (KeepsOwners-push c.args.merging.now.owners.items c.args.number)))
+
+pub returns-clause-given : goal.returns-clause-given
+returns-clause-given g c =
+    let m = c.requires.merging in
+    let own = c.in_ok-class.ensures.class in
+    classed-given c.in_ok-give-2.ensures (class_is_class m.seen m.classes c.in_ok-class.class (omega (arith, own)))

@@ -1,20 +1,31 @@
-use Rattle.std.proofs.Common.{sym, subst}
-use Rattle.auto_merge.specs.Merging.{AreClasses, AreKeyed}
-use Rattle.auto_merge.proofs.Classes.{Longer-push, AreClasses-own, AreKeyed-give, RemembersGiven-give}
+use Rattle.std.proofs.Common.{arith, length}
+use Rattle.auto_merge.proofs.Classes.{KeepsOwners-push}
+use Rattle.auto_merge.proofs.Mergings.{class_few, class_is_class, of-IsMerging, IsMerging-of, IsMergingOf-own, Keeps-of, KeepsOf-give, classed-given}
 use Rattle.auto_merge.proofs.merging.give_own.Goals as goal
 
-pub returns-clause-merging : goal.returns-clause-merging
-returns-clause-merging c =
+pub new_class-requires : goal.new_class-requires
+new_class-requires g c =
     let m = c.requires.merging in
-    let owners = c.args.merging.now.owners.items in
-    let table = c.give.new.table.items in
-    let a = c.args.a.now in
+    class_few m.seen m.classes (length c.args.merging.now.owners.items) (omega arith)
+
+pub give-requires-clause-class : goal.give-requires-clause-class
+give-requires-clause-class g c =
+    let m = c.requires.merging in
     let own = c.in_ok-class.ensures.class in
+    class_few m.seen m.classes c.in_ok-class.class (omega (arith, own))
+
+pub returns-clause-merging : goal.returns-clause-merging
+returns-clause-merging g c =
     let items = c.in_ok-class.ensures.owners in
-    record {
-      classes = subst (AreClasses a table) (sym items) (AreClasses-own c.give.ensures c.requires.new a c.states.ensures.valid m.classes c.requires.within own);
-      keys =
-          subst (λ l. AreKeyed a table l c.args.merging.now.to c.args.merging.now.keyed) (sym items)
-          (AreKeyed-give c.give.ensures c.requires.new a (Longer-push owners c.args.state) m.keys);
-      remembered = RemembersGiven-give c.give.ensures c.requires.new m.remembered;
-    }
+    IsMerging-of _ (rw items (IsMergingOf-own (of-IsMerging c.requires.merging) c.in_ok-give.ensures c.requires.new c.in_ok-class.ensures.class))
+
+pub returns-clause-kept : goal.returns-clause-kept
+returns-clause-kept g c =
+    let items = c.in_ok-class.ensures.owners in
+    Keeps-of _ _ (rw items (KeepsOf-give c.args.merging.now.led.to c.in_ok-give.ensures c.requires.new (KeepsOwners-push c.args.merging.now.owners.items c.args.number)))
+
+pub returns-clause-given : goal.returns-clause-given
+returns-clause-given g c =
+    let m = c.requires.merging in
+    let own = c.in_ok-class.ensures.class in
+    classed-given c.in_ok-give.ensures (class_is_class m.seen m.classes c.in_ok-class.class (omega (arith, own)))

@@ -1,14 +1,13 @@
-use Rattle.auto_merge.specs.Merging.{KeepsAll}
-use Rattle.auto_merge.specs.Merged.{IsMerging}
-use Rattle.auto_merge.specs.Walk.{IsWay, steps_left}
+use Rattle.auto_merge.specs.Merging.{IsMerging, Keeps}
+use Rattle.auto_merge.specs.Walk.{IsWayIn, steps_left_in}
 use Rattle.auto_merge.proofs.walk.follow.Given as goal
 
-abbrev pub invariant-loop-state : goal.invariant-loop-state
-invariant-loop-state l = record {
-  merging : IsMerging l.a l.merging;
-  kept : KeepsAll l.initial.merging.table.items l.merging.table.items;
-  way : IsWay l.a l.way;
+abbrev pub invariant-loop-number : goal.invariant-loop-number
+invariant-loop-number g l = record {
+  merging : IsMerging (g.R.Rows.graph l.rows) (g.R.Rows.places l.rows) g.R.Rows.answers l.merging;
+  kept : Keeps (g.R.Rows.places l.rows) l.initial.merging l.merging;
+  way : IsWayIn (g.R.Rows.places l.rows) l.merging l.way;
 }
 
-abbrev pub decreases-loop-state : goal.decreases-loop-state
-decreases-loop-state l = steps_left l.way
+abbrev pub decreases-loop-number : goal.decreases-loop-number
+decreases-loop-number g l = steps_left_in (g.R.Rows.graph l.rows) l.way
