@@ -1,0 +1,4 @@
+mod PairSpots
+mod NumberedPairs
+mod KeyMemos
+mod MergedPairs
