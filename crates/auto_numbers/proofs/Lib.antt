@@ -1,0 +1,7 @@
+pub mod Readings
+pub mod Searches
+pub mod MaskLemmas
+pub mod Sides
+pub mod LengthLemmas
+pub mod GreatestLemmas
+pub mod Ones

@@ -1,0 +1,9 @@
+pub use Rattle.track_word.specs.Word
+pub use Rattle.auto_core.specs.Automaton
+pub use Rattle.auto_core.specs.Integers
+pub use Rattle.auto_core.specs.Reduced
+pub mod Numbers
+pub mod Reading
+pub mod Outlook
+pub mod Lengths
+pub mod Laws
