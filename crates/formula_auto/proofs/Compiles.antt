@@ -6,18 +6,17 @@ use Rattle.auto_walk.specs.declared.grown.Grown.{Grown}
 use Rattle.auto_walk.specs.declared.grown.Grown.TheVariants as grown
 use Rattle.lin_formula.specs.Tree.{Tree, Ex, Not, steps}
 use Rattle.lin_formula.specs.SetOf.{SetOf, members}
-use Rattle.formula_auto.specs.Step.{FirstOver}
+use Rattle.formula_auto.specs.Step.{FirstOver, Exceeds}
 use Rattle.formula_auto.specs.Connected.{connect}
 use Rattle.formula_auto.specs.Decides.{Decides}
 use Rattle.formula_auto.specs.Compiled.{IsMade, IsCompileError}
 use Rattle.formula_auto.specs.StepError.{step_error}
-use Rattle.auto_bool.specs.Words.{StepExceeds}
 use Rattle.auto_project.specs.Lifted.{ForgettingExceeds}
 use Rattle.auto_bool.specs.declared.connective.Connective.{Connective}
 use Rattle.formula_auto.specs.declared.errors.CompileError.{CompileError}
 use Rattle.formula_auto.specs.declared.errors.CompileError.TheVariants as compile_error
 use Rattle.formula_auto.proofs.FirstOvers.{FirstOver-append, FirstOver-over}
-use Rattle.formula_auto.proofs.Exceedings.{Exceeds-connect, Exceeds-Ex}
+use Rattle.formula_auto.proofs.Exceedings.{Exceeds-Ex}
 use Rattle.formula_auto.proofs.Connections.{steps-connect}
 
 module _ (e : ℕ → SetOf) (budget before : ℕ) where
@@ -53,17 +52,16 @@ module _ (e : ℕ → SetOf) (budget before : ℕ) where
         with_last answer h =
             whole answer (FirstOver-append (steps f ++ steps g) (connect connective f g ∷ []) (members e) budget (before + 1) answer (of_both None right.within) h)
 
-        pub made_both : {c : Automaton} → Decides c (connect connective f g) (members e) → (StepExceeds a b budget → ⊥) → IsMade (connect connective f g) e before budget c
-        made_both decides none = record {
-          decides = decides;
-          within = with_last None (inr (λ over. none ((Exceeds-connect (members e) f g a b budget left.decides right.decides connective).1 over), refl));
-        }
+        pub made_two : {c : Automaton} → Decides c (connect connective f g) (members e) → (Exceeds (connect connective f g) (members e) budget → ⊥)
+            → IsMade (connect connective f g) e before budget c
+        made_two decides none = record { decides = decides; within = with_last None (inr (none, refl)) }
 
-        pub step_both : (why : Grown) → (why ≡ grown.Over → StepExceeds a b budget) → IsCompileError (connect connective f g) e before budget (step_error (after + 1) why)
-        step_both grown.Over over =
+        pub step_two : (why : Grown) → (why ≡ grown.Over → Exceeds (connect connective f g) (members e) budget)
+            → IsCompileError (connect connective f g) e before budget (step_error (after + 1) why)
+        step_two grown.Over over =
             let at : after + 1 ≡ before + 1 + length (steps f ++ steps g) = simp length-append (omega arith) in
-            with_last (Some (after + 1)) (inl ((Exceeds-connect (members e) f g a b budget left.decides right.decides connective).0 (over refl), ap Some at))
-        step_both grown.Memory over = tt
+            with_last (Some (after + 1)) (inl (over refl, ap Some at))
+        step_two grown.Memory over = tt
 
   module _ (x : Var) (f : Tree) (a : Automaton) (part : IsMade f e before budget a) where
     pub made_ex : {c : Automaton} → Decides c (Ex x f) (members e) → (ForgettingExceeds x a budget → ⊥) → IsMade (Ex x f) e before budget c

@@ -25,3 +25,8 @@ pub mod Pairs
 pub mod Operands
 pub mod Shorts
 pub mod ShortTables
+pub mod Variables
+pub mod Sayings
+pub mod PairAutomata
+pub mod Chains
+pub mod ChainSteps

@@ -108,6 +108,27 @@ reached-operand : (operand : Operand) (a b : Automaton) → AllReached a → All
 reached-operand Left a b left right = left
 reached-operand Right a b left right = right
 
+-- the part has an automaton that serves as the step on two others, to each state of which words lead
+pub record IsJoined (connective : Connective) (a b : Automaton) (m : MemoState) (l : LevelState) (part : Part) : Type 0 where
+  pub auto : Automaton
+  pub has : IsPart m l part auto
+  pub reached : AllReached auto
+  pub step : IsStepWithin connective a b m.budget auto
+
+module _ (connective : Connective) (m : MemoState) (l : LevelState) (left right : Part) (a b : Automaton) (has_left : IsPart m l left a) (has_right : IsPart m l right b)
+    (a_reached : AllReached a) (b_reached : AllReached b) where
+  -- what two parts make, put together
+  pub joint-auto : (joint : Joint) → IsJointOf connective m l left right joint → IsJoined connective a b m l (joint_part joint left right)
+  joint-auto (joint.Operand operand) is = record {
+    auto = operand_of operand a b;
+    has = has-operand operand m l left right a b has_left has_right;
+    reached = reached-operand operand a b a_reached b_reached;
+    step = is a b has_left has_right;
+  }
+  joint-auto (joint.Made c) is =
+      let made = is a b has_left has_right in
+      record { auto = c; has = refl; reached = made.1; step = made.0 }
+
 -- a part whose automaton serves is what the step makes
 module _ (pair : Pair) {e : ℕ → SetOf} {course : Course} {m0 m1 m2 : MemoState} {l k : LevelState} {left right : Remembered}
     (outside : is_recalled course.recall (connected pair) ≡ false) (one : MayBeOneStep course.recall pair.connective (tree_of pair.right.now))
@@ -126,20 +147,14 @@ module _ (pair : Pair) {e : ℕ → SetOf} {course : Course} {m0 m1 m2 : MemoSta
   -- where it is one of the two, that one's automaton is not made again
   pub part-joint : (joint : Joint) → LevelGrows l k → IsJointOf pair.connective m2 k left.part right.part joint
       → IsRememberedPart (connected pair) e course m0 m2 k (record { part = joint_part joint left.part right.part; done = right.done + 1 })
-  part-joint (joint.Operand operand) grows is =
+  part-joint joint grows is =
       let still = part-after left.part first.auto first.has second.remembered.after grows in
-      part-made (operand_of operand first.auto second.auto) (operand_of operand left.part right.part)
-      (has-operand operand m2 k left.part right.part first.auto second.auto still second.has)
-      (reached-operand operand first.auto second.auto first.reached second.reached)
-      (is first.auto second.auto still second.has)
-  part-joint (joint.Made c) grows is =
-      let still = part-after left.part first.auto first.has second.remembered.after grows in
-      let made = is first.auto second.auto still second.has in
-      part-made c (Fresh c) refl made.1 made.0
+      let made = joint-auto pair.connective m2 k left.part right.part first.auto second.auto still second.has first.reached second.reached joint is in
+      part-made made.auto (joint_part joint left.part right.part) made.has made.reached made.step
 
 -- what two parts make by their automata
 module _ (connective : Connective) (m : MemoState) (l : LevelState) (left right : Part) (a b : Automaton) (has_left : IsPart m l left a) (has_right : IsPart m l right b) where
-  by_theirs : (P : Automaton → Automaton → Type 0) → P a b → (x y : Automaton) → IsPart m l left x → IsPart m l right y → P x y
+  pub by_theirs : (P : Automaton → Automaton → Type 0) → P a b → (x y : Automaton) → IsPart m l left x → IsPart m l right y → P x y
   by_theirs P here x y is_x is_y =
       subst (λ z. P x z) (one_automaton m l right b y has_right is_y) (subst (λ z. P z b) (one_automaton m l left a x has_left is_x) here)
 

@@ -39,7 +39,7 @@ without x (y ∷ ys) (inr there) =
     }
 
 -- different members of a list are no more than its length
-length-among : (xs ys : List Var) → Apart xs → ((z : Var) → IsOneOf z xs → IsOneOf z ys) → length xs ≤ length ys
+pub length-among : (xs ys : List Var) → Apart xs → ((z : Var) → IsOneOf z xs → IsOneOf z ys) → length xs ≤ length ys
 length-among [] ys apart h = omega arith
 length-among (x ∷ xs) ys apart h =
     let part = without x ys (h x (inl refl)) in

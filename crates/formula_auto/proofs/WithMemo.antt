@@ -1,5 +1,5 @@
 -- What compiling makes of a formula, from what it made of its parts.
-use Rattle.std.proofs.Common.{◌≡◌, ℕ, ◌+◌, ◌-◌, ◌≤◌, true, false, [], ◌∷◌, length, None, refl, sym, ap, ◌∙◌, subst, arith, length-append}
+use Rattle.std.proofs.Common.{◌≡◌, ◌↔◌, ℕ, ◌+◌, ◌-◌, ◌≤◌, true, false, [], ◌∷◌, length, None, refl, sym, ap, ◌∙◌, subst, arith, length-append}
 use Rattle.std.specs.List.{Contains}
 use Rattle.track_word.specs.declared.tracks.Var.{Var}
 use Rattle.auto_core.specs.Automaton.{Automaton}
@@ -18,7 +18,7 @@ use Rattle.auto_project.specs.Lifted.{ForgettingExceeds}
 use Rattle.formula_auto.specs.Nodes.{AcceptSame, DecidesNot, DecidesEx, DecidesBoth}
 use Rattle.formula_auto.specs.PlainParts.{plain_within}
 use Rattle.formula_auto.specs.Recalled.{is_recalled, start, MayBeOneStep}
-use Rattle.formula_auto.specs.Step.{FirstOver}
+use Rattle.formula_auto.specs.Step.{FirstOver, Exceeds}
 use Rattle.formula_auto.specs.MemoState.{MemoState, IsEntry, known, counted, IsMemoAfter, IsMemoStopped}
 use Rattle.formula_auto.specs.Remembered.{IsRemembered, IsStopped, IsInterrupted}
 use Rattle.formula_auto.specs.declared.pair.Pair.{Pair}
@@ -27,8 +27,9 @@ use Rattle.formula_auto.specs.declared.course.Recall.{Recall}
 use Rattle.formula_auto.specs.declared.course.Recall.TheVariants.{Plain, Nothing}
 use Rattle.formula_auto.specs.declared.errors.CompileError.{CompileError}
 use Rattle.formula_auto.specs.declared.errors.CompileError.TheVariants.{Over, Memory}
-use Rattle.formula_auto.proofs.Compiles.{made_both, made_ex, step_both, step_ex, error_left, error_right, error_ex, error_not}
+use Rattle.formula_auto.proofs.Compiles.{made_two, made_ex, step_two, step_ex, error_left, error_right, error_ex, error_not}
 use Rattle.formula_auto.proofs.Connections.{size-connect}
+use Rattle.formula_auto.proofs.Exceedings.{Exceeds-connect}
 use Rattle.formula_auto.proofs.SameAutomata.{still_decides}
 use Rattle.formula_auto.proofs.PlainLemmas.{IsOfTwo, of_one-not, of_one-ex, of_two, after_one, after_two, stopped_one, stopped_at_one, stopped_left, stopped_right, stopped_at_two, after-none, after-append}
 use Rattle.formula_auto.proofs.MemoLemmas.{recalled-itself, recalled-plain, recalled-stepless, entry_of-made, made-of_entry, stopped-memory, stopped-inside, after-known}
@@ -118,21 +119,42 @@ module _ (pair : Pair) {e : ℕ → SetOf} {course : Course} {m0 m1 : MemoState}
       right_made : IsMade (right_of pair) e last m0.budget b
       right_made = subst (λ n. IsMade (right_of pair) e last n b) left.after.budget right.made
 
-      pub remembered_both : {c : Automaton} → DecidesBoth pair.connective a b c → (StepExceeds a b m2.budget → ⊥) → IsRemembered (connected pair) e course m0 m2 c (end + 1)
-      remembered_both {c = c} decides none = record {
+      pub remembered_two : {c : Automaton} → Decides c (connected pair) (members e) → (Exceeds (connected pair) (members e) m2.budget → ⊥)
+          → IsRemembered (connected pair) e course m0 m2 c (end + 1)
+      remembered_two {c = c} decides none = record {
         counts = omega (arith, left.counts, right.counts, size-connect pair.connective (left_of pair) (right_of pair));
-        made = made_both e m0.budget course.before pair.connective (left_of pair) (right_of pair) a last left.counts left.made b end right.counts right_made
-            (decides (left_of pair) (right_of pair) e left.made.decides right.made.decides) (subst (λ n. StepExceeds a b n → ⊥) same_budget none);
+        made = made_two e m0.budget course.before pair.connective (left_of pair) (right_of pair) a last left.counts left.made b end right.counts right_made
+            decides (subst (λ n. Exceeds (connected pair) (members e) n → ⊥) same_budget none);
         after = after_two (of_pair course.recall pair outside one) left.after right.after;
       }
 
-      pub interrupted_at_both : (why : Grown) → (why ≡ grown.Over → StepExceeds a b m2.budget) → IsInterrupted (connected pair) e course m0 m2 (step_error (end + 1) why)
-      interrupted_at_both why over = record {
-        error = step_both e m0.budget course.before pair.connective (left_of pair) (right_of pair) a last left.counts left.made b end right.counts right_made why
-            (subst (λ n. why ≡ grown.Over → StepExceeds a b n) same_budget over);
+      pub interrupted_at_two : (why : Grown) → (why ≡ grown.Over → Exceeds (connected pair) (members e) m2.budget)
+          → IsInterrupted (connected pair) e course m0 m2 (step_error (end + 1) why)
+      interrupted_at_two why over = record {
+        error = step_two e m0.budget course.before pair.connective (left_of pair) (right_of pair) a last left.counts left.made b end right.counts right_made why
+            (subst (λ n. why ≡ grown.Over → Exceeds (connected pair) (members e) n) same_budget over);
         stopped = stopped_at_two (of_pair course.recall pair outside one) left.after right.after
             (λ step is. let at = number_of (end + 1) why step is in omega (arith, at, left.counts, right.counts));
       }
+
+      -- the same of the automata of the two
+      on_theirs : StepExceeds a b m2.budget ↔ Exceeds (connected pair) (members e) m2.budget
+      on_theirs = Exceeds-connect (members e) (left_of pair) (right_of pair) a b m2.budget left.made.decides right.made.decides pair.connective
+
+      pub remembered_both : {c : Automaton} → DecidesBoth pair.connective a b c → (StepExceeds a b m2.budget → ⊥) → IsRemembered (connected pair) e course m0 m2 c (end + 1)
+      remembered_both decides none = remembered_two (decides (left_of pair) (right_of pair) e left.made.decides right.made.decides) (λ over. none (on_theirs.1 over))
+
+      pub interrupted_at_both : (why : Grown) → (why ≡ grown.Over → StepExceeds a b m2.budget) → IsInterrupted (connected pair) e course m0 m2 (step_error (end + 1) why)
+      interrupted_at_both why over = interrupted_at_two why (λ is. on_theirs.0 (over is))
+
+-- another automaton that decides the formula serves as well
+pub remembered_as : {f : Tree} {e : ℕ → SetOf} {course : Course} {m0 m1 : MemoState} {a c : Automaton} {last : ℕ} → IsRemembered f e course m0 m1 a last
+    → Decides c f (members e) → IsRemembered f e course m0 m1 c last
+remembered_as made decides = record {
+  counts = made.counts;
+  made = record { decides = decides; within = made.made.within };
+  after = made.after;
+}
 
 module _ {e : ℕ → SetOf} {course : Course} {f : Tree} {m : MemoState} where
   -- without a step nothing is entered and nothing taken

@@ -29,4 +29,6 @@ pub mod EntryOf
 pub mod LevelState
 pub mod Short
 pub mod ShortTable
+pub mod Saying
+pub mod Chains
 pub mod Codes

@@ -22,7 +22,9 @@ ghost use Rattle.formula_auto.specs.Short as short;
 ghost use Rattle.formula_auto.specs.MemoState.{IsMemoAfter, IsMemoStopped, IsKnown};
 ghost use Rattle.formula_auto.specs.PartOf.{IsPart, IsRememberedOn, IsInterruptedOn};
 ghost use Rattle.formula_auto.specs.Joints.{IsJointOf, FitTogether, TogetherExceed};
+ghost use Rattle.formula_auto.specs.Chains.{IsExtension, and_of, IsLinkedOn};
 
+use crate::chain::{Extension, Link, Next, as_extension};
 use crate::course::{Course, Recall};
 use crate::errors::CompileError;
 use crate::joint::Joint;
@@ -224,6 +226,9 @@ impl Memo {
         }
         if is_pair(f) {
             return self.paired(alloc, f, level, course);
+        }
+        if let Some(extension) = as_extension(f) {
+            return self.chained(alloc, extension, level, course);
         }
         self.from_parts(alloc, f, level, course)
     }
@@ -450,8 +455,85 @@ impl Memo {
         }
     }
 
+    /// The automaton of a chain of And.
+    #[cycle(compiled)]
+    fn chained(
+        &mut self,
+        alloc: Global,
+        extension: Extension,
+        level: &mut Level,
+        course: Course,
+    ) -> Result<Remembered, CompileError>
+        requires extension { IsExtension extension }
+        requires same_budget { level.old.budget ≡ self.old.budget }
+        requires ready { IsReady (and_of extension) level.old.sets }
+        requires room { course.before + length (steps (and_of extension)) < 2 ^ 32 }
+        ensures ok { IfOk result (IsRememberedOn (and_of extension.entry) course self.old self.new level.old level.new) }
+        ensures err { IfErr result (IsInterruptedOn (and_of extension.entry) course self.old self.new level.old) }
+        ensures grows { LevelGrows level.old level.new }
+    {
+        let link = self.linked(alloc, extension, level, course)?;
+        let made = self.closed(alloc, level, link)?;
+        Ok(made)
+    }
+
+    /// A chain of And. The last formulas of it may be still to be put to those before them.
+    #[cycle(compiled)]
+    fn linked(
+        &mut self,
+        alloc: Global,
+        extension: Extension,
+        level: &mut Level,
+        course: Course,
+    ) -> Result<Link, CompileError>
+        requires extension { IsExtension extension }
+        requires same_budget { level.old.budget ≡ self.old.budget }
+        requires ready { IsReady (and_of extension) level.old.sets }
+        requires room { course.before + length (steps (and_of extension)) < 2 ^ 32 }
+        ensures ok { IfOk result (IsLinkedOn (and_of extension.entry) course self.old self.new level.old level.new) }
+        ensures err { IfErr result (IsInterruptedOn (and_of extension.entry) course self.old self.new level.old) }
+        ensures grows { LevelGrows level.old level.new }
+    {
+        let left = self.begun(alloc, extension.left, level, course)?;
+        let after_left = Course {
+            before: left.done(),
+            ..course
+        };
+        let right = self.compiled(alloc, extension.right, level, after_left)?;
+        let next = Next {
+            formula: extension.right,
+            part: right.part,
+            step: right.done + 1,
+        };
+        let link = self.lengthened(alloc, level, left, next)?;
+        Ok(link)
+    }
+
+    /// What the last formula of a chain is put to.
+    #[cycle(compiled)]
+    fn begun(
+        &mut self,
+        alloc: Global,
+        f: &Formula,
+        level: &mut Level,
+        course: Course,
+    ) -> Result<Link, CompileError>
+        requires same_budget { level.old.budget ≡ self.old.budget }
+        requires ready { IsReady (tree_of f.now) level.old.sets }
+        requires room { course.before + length (steps (tree_of f.now)) < 2 ^ 32 }
+        ensures ok { IfOk result (IsLinkedOn (tree_of f.now) course self.old self.new level.old level.new) }
+        ensures err { IfErr result (IsInterruptedOn (tree_of f.now) course self.old self.new level.old) }
+        ensures grows { LevelGrows level.old level.new }
+    {
+        if let Some(extension) = as_extension(f) {
+            return self.linked(alloc, extension, level, course);
+        }
+        let made = self.compiled(alloc, f, level, course)?;
+        Ok(Link::Made(made))
+    }
+
     /// What the connective makes of two parts, within the budget. Where it is one of the two, nothing is made.
-    fn put_together(
+    pub(crate) fn put_together(
         &self,
         alloc: Global,
         level: &Level,

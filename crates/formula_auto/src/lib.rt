@@ -3,6 +3,8 @@
 //! subformulas that a memo keeps, `specs/MemoState` how it changes, `specs/LevelState` what is kept over one table of sets.
 #![tactic(auto)]
 
+mod chain;
+mod chaining;
 mod compiling;
 mod course;
 mod entry;

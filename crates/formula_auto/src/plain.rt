@@ -35,7 +35,8 @@ pub fn steps_of(f: &Formula) -> u32
     }
 }
 
-fn names_set(f: &Formula) -> bool
+/// Whether a formula names a set.
+pub fn names_set(f: &Formula) -> bool
     ensures { result ≡ nat_lt 0 (length (symbols (tree_of f.now))) }
 {
     match f {

@@ -23,6 +23,7 @@ use auto_project::forget_within;
 use auto_reduce::reduce;
 use auto_walk::Grown;
 use limits::{Budget, MOST_TRACKS};
+use merged_product::merged_product_within;
 use std::alloc::{AllocError, Global};
 use track_word::{Rel, Var, are_distinct};
 
@@ -65,26 +66,8 @@ pub fn membership(alloc: Global, set: &Auto, vars: &[Var]) -> Result<Auto, Alloc
     reduced(alloc, &a)
 }
 
-/// Two formulas put together.
+/// Two formulas put together: the product of the automata as they are, or else of the reduced ones.
 pub fn joined(
-    alloc: Global,
-    connective: Connective,
-    a: &Auto,
-    b: &Auto,
-    budget: Budget,
-) -> Result<Auto, Grown>
-    requires { length (with_vars a.now.tracks b.now.tracks) ≤ MOST_TRACKS }
-    ensures decides { IfOk result (DecidesBoth connective a.now b.now) }
-    ensures accessible { IfOk result (IsAccessible budget) }
-    ensures within { OnOk result (¬ StepExceeds a.now b.now budget) }
-    ensures over { result ≡ Err Grown.Over → StepExceeds a.now b.now budget }
-{
-    let c = product(alloc, connective, a, b, budget)?;
-    Ok(merged(alloc, &c)?)
-}
-
-/// The product of the automata as they are, or else of the reduced ones.
-fn product(
     alloc: Global,
     connective: Connective,
     a: &Auto,
@@ -118,7 +101,7 @@ fn product_within(
     ensures within { OnOk result (¬ StepExceeds a.now b.now budget) }
     ensures over { IsReduced a.now → IsReduced b.now → result ≡ Err Grown.Over → StepExceeds a.now b.now budget }
 {
-    auto_bool::product_within(alloc, a, b, connective, budget)
+    merged_product_within(alloc, a, b, connective, budget)
 }
 
 fn reduced_product(

@@ -5,7 +5,7 @@ use Rattle.formula_auto.proofs.steps.product_within.Goals as goal
 
 pub returns-clause-decides : goal.returns-clause-decides
 returns-clause-decides c =
-    both_ok c.product_within.result _ _ _ (λ made tracks words. decides-by c.args.connective tracks words) c.product_within.ensures.tracks c.product_within.ensures.words
+    both_ok c.merged_product_within.result _ _ _ (λ made tracks words. decides-by c.args.connective tracks words) c.merged_product_within.ensures.tracks c.merged_product_within.ensures.words
 
 pub returns-clause-accessible : goal.returns-clause-accessible
-returns-clause-accessible c = accessible c.product_within.result c.args.budget c.product_within.ensures.reached c.product_within.ensures.few
+returns-clause-accessible c = accessible c.merged_product_within.result c.args.budget c.merged_product_within.ensures.reached c.merged_product_within.ensures.few

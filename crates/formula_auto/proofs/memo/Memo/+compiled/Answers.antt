@@ -13,6 +13,8 @@ use Rattle.formula_auto.proofs.MemoLemmas.{recalled-plain}
 use Rattle.formula_auto.proofs.Operands.{part-joint}
 use Rattle.formula_auto.proofs.Pairs.{pair_outside, pair_size, part-paired, may_remember, part-remembered}
 use Rattle.formula_auto.proofs.Shorts.{short_part, part-short, after-short}
+use Rattle.formula_auto.proofs.Chains.{link-after}
+use Rattle.formula_auto.proofs.ChainSteps.{stopped_before, stopped_beside, stopped_at, linked, made-linked}
 use Rattle.formula_auto.proofs.memo.Memo.+compiled.Goals as goal
 
 pub recalled-steps_of-requires : goal.recalled-steps_of-requires
@@ -260,3 +262,50 @@ pub shared-returns-clause-ok : goal.shared-returns-clause-ok
 shared-returns-clause-ok t c =
     let made = c.in_ok-made.ensures.ok.remembered in
     part-short c.in_ok-part.ensures.kept made.counts (rw c.keep_short.ensures.same made.after)
+
+pub chained-returns-clause-ok : goal.chained-returns-clause-ok
+chained-returns-clause-ok t c = made-linked c.in_ok-link.ensures.ok c.in_ok-made.ensures
+
+pub linked-returns-in_err-left-clause-err : goal.linked-returns-in_err-left-clause-err
+linked-returns-in_err-left-clause-err t c =
+    let p = err_from_is_err_and c.from_residual.result c.from_residual.ensures.1 in
+    rw (p.1, p.2) (stopped_before c.args.extension c.requires.extension c.in_err-left.ensures.err)
+
+pub linked-returns-in_err-right-clause-err : goal.linked-returns-in_err-right-clause-err
+linked-returns-in_err-right-clause-err t c =
+    let p = err_from_is_err_and c.from_residual-in_err-right.result c.from_residual-in_err-right.ensures.1 in
+    let left = c.in_ok-left.ensures.ok in
+    rw (p.1, p.2) (stopped_beside c.args.extension c.requires.extension left.remembered (rw (c.begun.ensures.grows.sets, c.done.ensures) at c.in_err-right.ensures.err))
+
+pub linked-lengthened-requires-clause-left : goal.linked-lengthened-requires-clause-left
+linked-lengthened-requires-clause-left t c =
+    let f = tree_of c.args.extension.left.now in
+    let e = tables c.args.level.now.sets in
+    record {
+      left = f;
+      sets = e;
+      is = link-after f e c.in_ok-right.ensures.ok.remembered.after c.compiled.ensures.grows c.in_ok-left.left c.in_ok-left.ensures.ok.is;
+      fits = c.requires.ready.0;
+    }
+
+pub linked-lengthened-requires-clause-short : goal.linked-lengthened-requires-clause-short
+linked-lengthened-requires-clause-short t c = short_part c.requires.extension.short c.in_ok-right.ensures.ok
+
+pub linked-returns-in_err-link-clause-err : goal.linked-returns-in_err-link-clause-err
+linked-returns-in_err-link-clause-err t c =
+    let p = err_from_is_err_and c.from_residual-in_err-link.result c.from_residual-in_err-link.ensures.1 in
+    let f = tree_of c.args.extension.left.now in
+    let e = tables c.args.level.now.sets in
+    let left = c.in_ok-left.ensures.ok in
+    let right = rw (c.begun.ensures.grows.sets, c.done.ensures) at c.in_ok-right.ensures.ok in
+    let still = link-after f e c.in_ok-right.ensures.ok.remembered.after c.compiled.ensures.grows c.in_ok-left.left left.is in
+    rw (p.1, p.2, c.lengthened.ensures.same) (stopped_at c.args.extension c.requires.extension left.remembered right.remembered c.compiled.new.level c.in_ok-left.left still c.in_err-link.ensures.err)
+
+pub linked-returns-clause-ok : goal.linked-returns-clause-ok
+linked-returns-clause-ok t c =
+    let f = tree_of c.args.extension.left.now in
+    let e = tables c.args.level.now.sets in
+    let left = c.in_ok-left.ensures.ok in
+    let right = rw (c.begun.ensures.grows.sets, c.done.ensures) at c.in_ok-right.ensures.ok in
+    let still = link-after f e c.in_ok-right.ensures.ok.remembered.after c.compiled.ensures.grows c.in_ok-left.left left.is in
+    rw c.lengthened.ensures.same (linked c.args.extension c.requires.extension left.remembered right.remembered c.compiled.new.level c.in_ok-left.left still refl c.requires.ready.0 c.in_ok-link.ensures.ok)

@@ -23,3 +23,12 @@ decreases-from_parts l = 5 * nodes (tree_of l.f.now)
 
 abbrev pub decreases-both : goal.decreases-both
 decreases-both l = 5 * (nodes (tree_of l.pair.left.now) + nodes (tree_of l.pair.right.now)) + 4
+
+abbrev pub decreases-chained : goal.decreases-chained
+decreases-chained l = 5 * (nodes (tree_of l.extension.left.now) + nodes (tree_of l.extension.right.now)) + 6
+
+abbrev pub decreases-linked : goal.decreases-linked
+decreases-linked l = 5 * (nodes (tree_of l.extension.left.now) + nodes (tree_of l.extension.right.now)) + 5
+
+abbrev pub decreases-begun : goal.decreases-begun
+decreases-begun l = 5 * nodes (tree_of l.f.now) + 4

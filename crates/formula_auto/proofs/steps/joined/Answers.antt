@@ -1,8 +1,0 @@
-use Rattle.formula_auto.proofs.SameAutomata.{both_to_same}
-use Rattle.formula_auto.proofs.steps.joined.Goals as goal
-
-pub returns-clause-decides : goal.returns-clause-decides
-returns-clause-decides c = both_to_same c.args.connective c.in_ok-merged.ensures.same c.in_ok-c.ensures.decides
-
-pub returns-clause-accessible : goal.returns-clause-accessible
-returns-clause-accessible c = c.in_ok-merged.ensures.accessible c.args.budget c.in_ok-c.ensures.accessible
