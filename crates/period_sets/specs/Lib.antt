@@ -1,0 +1,15 @@
+pub use Rattle.auto_core.specs.Automaton
+pub use Rattle.auto_core.specs.Integers
+pub use Rattle.auto_core.specs.Reduced
+pub use Rattle.auto_numbers.specs.Numbers
+pub use Rattle.track_word.specs.Tracks
+pub use Rattle.lin_formula.specs.Tree
+pub use Rattle.lin_formula.specs.TreeOf
+pub use Rattle.lin_formula.specs.SetOf
+pub use Rattle.formula_auto.specs.Step
+pub use Rattle.formula_auto.specs.Compiled
+pub mod Period
+pub mod Question
+pub mod Description
+pub mod Finding
+pub mod Laws

@@ -1,0 +1,58 @@
+//! Which rests modulo the period are in a set that repeats.
+ghost use Rattle.std.specs.Prelude.{◌≡◌, ◌↔◌, ◌+◌, ◌-◌, ◌%◌, ◌<◌, ◌≤◌, ◌^◌};
+ghost use Rattle.auto_numbers.specs.Numbers.{Has};
+ghost use Rattle.auto_numbers.specs.declared.bits.TheConstants.{GREATEST_BITS, MOST_BITS};
+ghost use Rattle.period_sets.specs.Period.{AreRests};
+ghost use Rattle.period_sets.specs.Finding.{AreRestsFrom, Repeating};
+
+use crate::periodic::{MOST_PERIOD, Start};
+use auto_numbers::NumberSet;
+
+/// Bit i says that numbers of rest i are in the set.
+pub fn rests_of(set: &NumberSet, start: Start) -> u64
+    requires { Repeating (Has set.now.auto.now) start }
+    ensures { AreRests (Has set.now.auto.now) start.from start.period result }
+{
+    rests_from(set, start, 0)
+}
+
+/// The bits of the rests from a rest on, its own bit first.
+fn rests_from(set: &NumberSet, start: Start, rest: u8) -> u64
+    requires start { Repeating (Has set.now.auto.now) start }
+    requires rest { rest ≤ start.period }
+    ensures { AreRestsFrom (Has set.now.auto.now) start rest result }
+{
+    if rest == start.period {
+        return 0;
+    }
+    let number = first_of_rest(start, rest);
+    own_bit(set, number) + 2 * rests_from(set, start, rest + 1)
+}
+
+/// The bit of a number.
+fn own_bit(set: &NumberSet, number: u128) -> u64
+    requires { number < 2 ^ MOST_BITS }
+    ensures bit { result < 2 }
+    ensures is { (result ≡ 1) ↔ Has set.now.auto.now number }
+{
+    if set.has(number) { 1 } else { 0 }
+}
+
+/// The first number of a rest.
+fn first_of_rest(start: Start, rest: u8) -> u128
+    requires period { start.period ≤ MOST_PERIOD }
+    requires rest { rest < start.period }
+    requires from { start.from ≤ 2 ^ GREATEST_BITS }
+    ensures from { start.from ≤ result }
+    ensures near { result < start.from + start.period }
+    ensures rest { result % start.period ≡ rest }
+{
+    let period = u128::from(start.period);
+    let rest = u128::from(rest);
+    let own = start.from % period;
+    if own <= rest {
+        start.from + (rest - own)
+    } else {
+        start.from + (period + rest - own)
+    }
+}
