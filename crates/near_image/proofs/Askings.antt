@@ -15,7 +15,7 @@ use Rattle.formula_auto.proofs.Rooms.{set_fits, set_there}
 use Rattle.near_image.specs.Image.{Image, IsShiftable, and_all, ex_all, change, gone, step, image_tree, moved_tree}
 use Rattle.near_image.specs.LeftOut.{MayBeAsked}
 use Rattle.near_image.proofs.Changes.{moved-tree_vars}
-use Rattle.near_image.proofs.Variables.{same-ascending}
+use Rattle.formula_auto.proofs.Variables.{same-ascending}
 
 vars_of-ascend : (f : Tree) → IsAscending (vars_of f)
 vars_of-ascend (Lin terms rel bound) = free_vars-ascend (Lin terms rel bound)

@@ -11,7 +11,7 @@ use Rattle.lin_formula.proofs.FreeVars.{free_vars-free, free_vars-ascend, one_of
 use Rattle.lin_formula.proofs.Coincide.{coincide}
 use Rattle.formula_auto.proofs.Values.{Same, Other, cases_of}
 use Rattle.near_image.specs.Image.{and_all, ex_all}
-use Rattle.near_image.proofs.Variables.{same-ascending}
+use Rattle.formula_auto.proofs.Variables.{same-ascending}
 
 -- the variable is free in one of the formulas
 abbrev pub IsInOne : Var → List Tree → Type 0

@@ -14,7 +14,7 @@ use Rattle.near_image.specs.declared.shift.Shift.{Shift}
 use Rattle.near_image.specs.Image.{Image, IsShiftable, and_all, change, step, gone, moved_tree}
 use Rattle.near_image.specs.Image.{equation_by, equation_of}
 use Rattle.near_image.specs.Laws.{negated}
-use Rattle.near_image.proofs.Variables.{one_of-cases}
+use Rattle.formula_auto.proofs.Variables.{one_of-cases}
 use Rattle.near_image.proofs.Bindings.{AgreeBut, AllHold, with_value-same, with_value-other}
 use Rattle.near_image.proofs.Bindings.{vars-ex_all, holds-and_all, holds-ex_all}
 use Rattle.near_image.proofs.Shifts.{IsAmong, new-not_gone, gone-by}

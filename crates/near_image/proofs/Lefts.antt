@@ -23,12 +23,11 @@ use Rattle.formula_auto.specs.Compiled.{IsAccessible}
 use Rattle.auto_bool.specs.declared.connective.Connective.TheVariants.{AndNot}
 use Rattle.formula_auto.proofs.Exceedings.{Exceeds-connect}
 use Rattle.formula_auto.proofs.Parts.{Decides-AndNot}
-use Rattle.formula_auto.proofs.SameAutomata.{still_decides}
 use Rattle.near_image.specs.Laws.{IsMovedBy, negated}
 use Rattle.near_image.specs.Read.{trees}
 use Rattle.near_image.specs.LeftOut.{IsDifference, IsLeftOf, AreLeftOf}
 use Rattle.near_image.specs.declared.shift.Shift.{Shift}
-use Rattle.near_image.proofs.Variables.{same-ascending}
+use Rattle.formula_auto.proofs.Variables.{same-ascending}
 
 -- an automaton of the same words
 pub moved-same : {a b c : Automaton} {track : ℕ} {d : ℤ} → DecidesMoved a b track d → AcceptSame b c → DecidesMoved a c track d
@@ -91,13 +90,13 @@ integers-same integers same = record {
 }
 
 -- of what is left, for any formulas that the automata decide
-pub differs : {budget : ℕ} {a b c d : Automaton} → c.tracks ≡ with_vars a.tracks b.tracks
+pub differs : {budget : ℕ} {a b c : Automaton} → c.tracks ≡ with_vars a.tracks b.tracks
     → ((word : List ℕ) → IsWord (length c.tracks) word
     → Accepts c word ↔ (Accepts a (part_of c.tracks a.tracks word) × ¬ Accepts b (part_of c.tracks b.tracks word)))
-    → ¬ BothSpreadExceeds a.tracks b.tracks (Accepts a) (Accepts b) budget → AcceptSame c d → IsAccessible budget d → IsDifference budget a b d
-differs {budget = budget} {a = a} {b = b} {c = c} tracks words within same accessible = record {
-  tracks = same.tracks ∙ tracks;
-  decides = λ f g e left right. still_decides same (Decides-AndNot (members e) f g a b c left right tracks words);
+    → ¬ BothSpreadExceeds a.tracks b.tracks (Accepts a) (Accepts b) budget → IsAccessible budget c → IsDifference budget a b c
+differs {budget = budget} {a = a} {b = b} {c = c} tracks words within accessible = record {
+  tracks = tracks;
+  decides = λ f g e left right. Decides-AndNot (members e) f g a b c left right tracks words;
   within = λ f g e left right over. within ((Exceeds-connect (members e) f g a b budget left right AndNot).1 over);
   accessible = accessible;
 }

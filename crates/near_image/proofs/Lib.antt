@@ -1,4 +1,3 @@
-pub mod Variables
 pub mod Bindings
 pub mod Shifts
 pub mod Changes

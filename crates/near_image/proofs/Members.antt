@@ -1,5 +1,5 @@
 -- Membership in a set tells apart no more words than the set has states, whatever the variables are.
-use Rattle.std.proofs.Common.{◌≡◌, ◌↔◌, ℕ, ◌<◌, ◌^◌, List, ◌++◌, length, All, arith, sym, subst}
+use Rattle.std.proofs.Common.{◌≡◌, ◌↔◌, ℕ, ◌<◌, ◌^◌, List, length, All, arith, sym, subst}
 use Rattle.track_word.specs.declared.tracks.Var.{Var}
 use Rattle.track_word.specs.Word.{IsWord}
 use Rattle.track_word.specs.Tracks.{part_of, restrict, word_values, values_at}

@@ -16,7 +16,7 @@ use Rattle.formula_auto.specs.Nodes.{DecidesAmong}
 use Rattle.near_image.specs.declared.shift.Shift.{Shift}
 use Rattle.near_image.specs.Image.{Image, IsShiftable, change, step, gone, moved_var, moved_vars, moved_tree}
 use Rattle.near_image.specs.Laws.{negated, IsMovedBy}
-use Rattle.near_image.proofs.Variables.{one_of-cases, same-ascending}
+use Rattle.formula_auto.proofs.Variables.{one_of-cases, same-ascending}
 use Rattle.near_image.proofs.Bindings.{holds-and_all, holds-ex_all}
 use Rattle.near_image.proofs.Shifts.{IsAmong, new-by, new-among, gone-among, new, new-not_gone}
 use Rattle.near_image.proofs.Shifts.{moved-cases, moved-gone, moved-vars}

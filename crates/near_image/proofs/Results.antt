@@ -5,16 +5,17 @@ use Rattle.track_word.specs.declared.tracks.Var.{Var}
 use Rattle.track_word.specs.Word.{IsWord}
 use Rattle.track_word.specs.Tracks.{with_vars, place, word_values}
 use Rattle.auto_core.specs.Automaton.{Automaton}
-use Rattle.lin_formula.specs.Tree.{Tree, Not, And, free_vars}
+use Rattle.lin_formula.specs.Tree.{Tree, Not, free_vars}
 use Rattle.lin_formula.specs.Holds.{Holds}
 use Rattle.lin_formula.specs.SetOf.{SetOf, members}
 use Rattle.lin_formula.proofs.FreeVars.{one_of-with_vars}
 use Rattle.formula_auto.specs.Decides.{Decides}
 use Rattle.formula_auto.specs.Compiled.{IsAccessible, IsCompiledOn}
+use Rattle.formula_auto.proofs.Sayings.{decides-says}
 use Rattle.near_bound.specs.Equations.{open_ways}
 use Rattle.near_image.specs.declared.shift.Shift.{Shift}
 use Rattle.near_image.specs.Image.{Image, IsShiftable, and_all, image_tree, part_tree, moved_vars, equation_of}
-use Rattle.near_image.specs.Laws.{SaysTheSame, ImageSaysPart, StepsAreWithin, AreClearWithin, HasFewStates, change_colours}
+use Rattle.near_image.specs.Laws.{ImageSaysPart, StepsAreWithin, AreClearWithin, HasFewStates, change_colours}
 use Rattle.near_image.specs.LeftOut.{AreLeftOf}
 use Rattle.near_image.proofs.Shifts.{IsAmong, new-among, moved-vars}
 use Rattle.near_image.proofs.Moving.{place-within}
@@ -42,18 +43,6 @@ module _ (e : ℕ → SetOf) (budget each : ℕ) where
   clear-within [] b decides same = tt
   clear-within {f} (g ∷ gs) b decides (m, left, rest) =
       (left.asked, left.within f decides, clear-within gs b (left.decides f decides) rest)
-
-decides-says : {f g : Tree} (e : ℕ → SetOf) {a : Automaton} → SaysTheSame f g → Decides a g (members e) → Decides a f (members e)
-decides-says {f} {g} e same decides = record {
-  tracks = decides.tracks ∙ sym same.vars;
-  words = λ word is.
-      let w = decides.words word (subst (λ t. IsWord (length t) word) same.vars is) in
-      let says = same.holds e (word_values (free_vars f) word) in
-      let At : List Var → Type 0 = λ t. Holds g (members e) (word_values t word) in (
-        λ h. says.1 (subst At (sym same.vars) (w.0 h)),
-        λ h. w.1 (subst At same.vars (says.0 h)),
-      );
-}
 
 -- one at least
 colours-least : (shifts : List Shift) (each budget : ℕ) → change_colours shifts * each ≤ budget → each ≤ budget

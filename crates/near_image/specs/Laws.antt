@@ -7,6 +7,7 @@ use Rattle.lin_formula.specs.Tree.{Tree, Not, And, free_vars, steps}
 use Rattle.lin_formula.specs.Holds.{Holds}
 use Rattle.lin_formula.specs.SetOf.{SetOf, Table, tables, members}
 use Rattle.formula_auto.specs.Decides.{Decides}
+use Rattle.formula_auto.specs.Saying.{SaysTheSame}
 use Rattle.formula_auto.specs.Compiled.{IsCompiledOn}
 use Rattle.formula_auto.specs.Nodes.{DecidesAmong}
 use Rattle.formula_auto.specs.Step.{Exceeds, FirstOver}
@@ -18,10 +19,6 @@ use Rattle.near_image.specs.Image.{Image, IsShiftable, image_tree, moved_tree, p
 -- the automaton was compiled over these sets, within this budget
 abbrev pub IsCompiledOver : Tree → List Automaton → ℕ → Automaton → Type 0
 IsCompiledOver f sets budget a = IsCompiledOn f (tables sets) 0 budget a
-
-pub record SaysTheSame (f g : Tree) : Type 0 where
-  pub vars : free_vars f ≡ free_vars g
-  pub holds : (e : ℕ → SetOf) (v : Values) → Holds f (members e) v ↔ Holds g (members e) v
 
 abbrev pub ImageSaysPart : Type 0
 ImageSaysPart = (i : Image) → IsShiftable i → SaysTheSame (image_tree i) (part_tree i)

@@ -6,13 +6,13 @@ ghost use Rattle.formula_auto.specs.Compiled.{IsAccessible};
 ghost use Rattle.near_image.specs.Read.{trees};
 ghost use Rattle.near_image.specs.LeftOut.{IsDifference, IsLeftOver, AreLeftOver, MayBeAsked};
 
-use crate::merging::merged;
-use auto_bool::{Connective, product_within};
+use auto_bool::Connective;
 use auto_core::Auto;
 use auto_walk::Grown;
 use formula_auto::{CompileError, Memo, SetTable};
 use limits::{Budget, MOST_TRACKS};
 use lin_formula::Formula;
+use merged_product::merged_product_within;
 use std::alloc::Global;
 
 /// The sets that formulas name, and how many states an automaton may have.
@@ -68,6 +68,6 @@ fn difference(alloc: Global, a: &Auto, b: &Auto, each: Budget) -> Result<Auto, G
     requires { length (with_vars a.now.tracks b.now.tracks) ≤ MOST_TRACKS }
     ensures { IfOk result (IsDifference each a.now b.now) }
 {
-    let only = product_within(alloc, a, b, Connective::AndNot, each)?;
-    Ok(merged(alloc, &only)?)
+    let only = merged_product_within(alloc, a, b, Connective::AndNot, each)?;
+    Ok(only)
 }

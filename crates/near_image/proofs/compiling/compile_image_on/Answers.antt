@@ -1,5 +1,3 @@
-use Rattle.lin_formula.specs.TreeOf.{tree_of}
-use Rattle.lin_formula.specs.SetOf.{tables, members}
 use Rattle.formula_auto.proofs.Stable.{Decides-integers}
 use Rattle.near_image.proofs.compiling.compile_image_on.Goals as goal
 

@@ -1,6 +1,5 @@
 use Rattle.std.proofs.Common.{◌≡◌, ap}
 use Rattle.lin_formula.specs.SetOf.{Table, tables, as_set}
-use Rattle.near_image.specs.Image.{moved_tree}
 use Rattle.near_image.specs.Laws.{HasFewStates}
 use Rattle.near_image.specs.Read.{image_of}
 use Rattle.near_image.proofs.Askings.{set_is_there, set_is_fit, may_ask}

@@ -1,7 +1,6 @@
 use Rattle.std.proofs.Common.{◌<◌, ◌≤◌, refl, ◌∙◌, arith, length}
 use Rattle.std.proofs.lemmas.List.{drop_all}
 use Rattle.lin_formula.specs.TreeOf.{tree_of}
-use Rattle.lin_formula.specs.SetOf.{tables}
 use Rattle.near_image.specs.Read.{trees}
 use Rattle.near_image.proofs.Lefts.{tree-at, left-more, length-trees}
 use Rattle.near_image.proofs.leaving.left_of_all.Goals as goal
