@@ -1,2 +1,4 @@
+pub mod Tuple
+pub mod Stock
 pub mod Sets
 pub mod Places

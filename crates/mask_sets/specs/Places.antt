@@ -1,7 +1,7 @@
 -- Where a man's coordinates are among those of a position.
 use Rattle.std.specs.Prelude.{ℕ, zero, suc, length}
 use Rattle.game_rules.specs.Game.{Position}
-use Rattle.rule_formula.specs.Placed.{tuple_to}
+use Rattle.mask_sets.specs.Tuple.{tuple_to}
 
 -- how many coordinates there are before those of this man
 abbrev pub coordinates_before : Position → ℕ → ℕ

@@ -1,7 +1,7 @@
 //! The coordinates of a position, and where a man's are among them.
 ghost use Rattle.std.specs.Prelude.{◌≡◌, ◌≤◌, ◌+◌, ◌++◌, length};
 ghost use Rattle.game_rules.specs.Game.{place_square};
-ghost use Rattle.rule_formula.specs.Placed.{coordinates_of, tuple_of};
+ghost use Rattle.mask_sets.specs.Tuple.{coordinates_of, tuple_of};
 ghost use Rattle.mask_sets.specs.Places.{coordinates_before};
 
 use arrayvec::ArrayVec;

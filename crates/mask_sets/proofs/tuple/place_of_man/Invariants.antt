@@ -1,5 +1,5 @@
 use Rattle.std.proofs.Common.{◌≡◌, ◌*◌, ◌≤◌, length}
-use Rattle.rule_formula.specs.Placed.{tuple_to}
+use Rattle.mask_sets.specs.Tuple.{tuple_to}
 use Rattle.mask_sets.proofs.tuple.place_of_man.Given as goal
 
 abbrev pub invariant-loop-n : goal.invariant-loop-n

@@ -2,9 +2,9 @@ use Rattle.std.proofs.Common.{◌≡◌, Option, Some, None, length, ap, subst, 
 use Rattle.std.specs.Prelude.{IsSomeAnd, option_copied}
 use Rattle.auto_core.specs.Automaton.{Automaton}
 use Rattle.auto_core.specs.Integers.{IsAccepted}
-use Rattle.rule_formula.specs.Fits.{mask_of}
-use Rattle.rule_formula.specs.Placed.{tuple_of}
-use Rattle.rule_formula.proofs.FitLemmas.{mask_one}
+use Rattle.mask_sets.specs.Stock.{mask_of}
+use Rattle.mask_sets.specs.Tuple.{tuple_of}
+use Rattle.mask_sets.proofs.Masks.{mask_one}
 use Rattle.mask_sets.specs.Sets.{set_at}
 use Rattle.mask_sets.proofs.table.MaskSets.contains.Goals.{In-Some}
 use Rattle.mask_sets.proofs.table.MaskSets.contains.Goals as goal
