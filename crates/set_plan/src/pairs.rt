@@ -5,12 +5,12 @@ ghost use Rattle.set_plan.specs.Program.{IsSetOf, LastExceeds};
 ghost use Rattle.set_plan.specs.Sets.{IsSetOn, IsReachedOn, IsReductionOf};
 ghost use Rattle.set_plan.specs.Unite.{difference as difference_of, either as either_of};
 
-use auto_bool::{Connective, difference, join, operand_by, product_within};
+use auto_bool::{Connective, difference, join, operand_by};
 use auto_core::Auto;
-use auto_merge::merge;
 use auto_reduce::reduce;
 use auto_walk::Grown;
 use limits::Budget;
+use merged_product::merged_product_within;
 use std::alloc::{AllocError, Global};
 use track_word::Var;
 
@@ -47,8 +47,8 @@ fn either_reached(
 {
     let _ = a.tracks(); // for its invariant
     let _ = budget.states(); // for its invariant
-    match product_within(alloc, a, b, Connective::Or, budget) {
-        Ok(c) => Ok(merge(alloc, &c)?),
+    match merged_product_within(alloc, a, b, Connective::Or, budget) {
+        Ok(c) => Ok(c),
         Err(Grown::Over) => either_of_reduced(alloc, tracks, a, b, budget),
         Err(Grown::Memory) => Err(Grown::Memory),
     }
