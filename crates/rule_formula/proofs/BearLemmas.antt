@@ -1,19 +1,23 @@
 -- How men of a placed position bear.
-use Rattle.std.proofs.Common.{◌≡◌, ◌↔◌, ℕ, zero, suc, ◌<◌, ◌≤◌, ◌-ℤ◌, Bool, true, false, List, [], ◌∷◌, length, get_or, Some, inl, inr, refl, subst, sym, arith}
+use Rattle.std.proofs.Common.{◌≡◌, ◌↔◌, ℕ, zero, suc, ◌<◌, ◌≤◌, ◌-ℤ◌, Bool, true, false, List, length, Some, inl, inr, refl, subst, sym, arith}
 use Rattle.std.specs.Prelude.{IsSomeAnd}
 use Rattle.std.specs.List.{All}
-use Rattle.std.proofs.lemmas.Option.{slice_get_within, slice_get-get_or}
+use Rattle.std.proofs.lemmas.Option.{slice_get_within}
 use Rattle.game_rules.specs.declared.men.Side.{Side}
 use Rattle.game_rules.specs.declared.men.Man.{Man}
 use Rattle.game_rules.specs.declared.men.Square.{Square}
-use Rattle.game_rules.specs.Game.{Bears, HasReach, IsBetween, IsLiveAnd, IsOpen, IsSlider, Position, StandsOn, place_square}
+use Rattle.game_rules.specs.Game.{Bears, IsBetween, IsLiveAnd, IsOpen, Position, StandsOn, place_square}
+use Rattle.game_laws.specs.Reach.{HasReach}
+use Rattle.game_laws.proofs.OpenLemmas.{bears_openly, openly_bears}
 use Rattle.game_rules.specs.declared.men.Ray.{Ray}
 use Rattle.game_rules.specs.Rays.{serves_captures}
-use Rattle.game_laws.proofs.RayLemmas.{true_or_not}
-use Rattle.rule_formula.proofs.RayLemmas.{LiesOn, IsSteps, IsFair, IsWithin, along_moves, far, near, slide_steps_same}
-use Rattle.rule_formula.specs.Placed.{place_at, placed, stock_man}
+use Rattle.game_laws.proofs.RayLemmas.{near_open, true_or_not}
+use Rattle.rule_formula.proofs.RayLemmas.{LiesOn, IsSteps, IsFair, IsWithin, along_moves, far, is_along, near, slide_steps_same}
+use Rattle.rule_formula.specs.Placed.{place_at, placed}
+use Rattle.mask_sets.specs.Stock.{stock_man}
 use Rattle.rule_formula.proofs.KindLemmas.{IsRayOf, between_is, reach_along}
-use Rattle.rule_formula.proofs.PlacedLemmas.{all_men, from_placed, placed_man}
+use Rattle.rule_formula.proofs.PlacedLemmas.{from_placed, placed_man}
+use Rattle.mask_sets.proofs.Men.{all_men}
 
 -- a man of the stock in the position
 abbrev pub man_placed : (ℕ → Bool) → (ℕ → Square) → ℕ → Man → Man
@@ -38,12 +42,6 @@ pub stands_at : (b : Bool) (z : Square) → b ≡ true → place_square (place_a
 stands_at true z e = refl
 stands_at false z e = absurd (cc)
 
--- the stock has each man up to its length
-pub stock_has : (stock : List Man) (k : ℕ) → 0 < k → k ≤ length stock → (m : Man) × (stock_man stock k ≡ Some m)
-stock_has stock zero low high = absurd (omega (arith, low))
-stock_has [] (suc k) low high = absurd (omega (arith, high))
-stock_has (m ∷ ms) (suc k) low high = (get_or (m ∷ ms) k m, slice_get-get_or (m ∷ ms) k m (omega (arith, high)))
-
 pub record IsNumber (stock : List Man) (k : ℕ) : Type 0 where
   pub low : 0 < k
   pub high : k ≤ length stock
@@ -65,13 +63,13 @@ open_is stock live turn f a b =
           let v = (live_and (live k) (f k) (IsBetween a b)).0 w in h k m is v.0 v.1),
     )
 
-pub bears_at : (p : Position) (m : Man) (a z : Square) → StandsOn m a → HasReach m.side m.kind (z.x -ℤ a.x) (z.y -ℤ a.y) × (IsSlider m.kind → IsOpen p a z) → Bears p m z
-bears_at p m a z stands h =
-    subst (λ o. IsSomeAnd o (λ a. HasReach m.side m.kind (z.x -ℤ a.x) (z.y -ℤ a.y) × (IsSlider m.kind → IsOpen p a z))) (sym stands) h
+pub bears_at : (p : Position) (m : Man) (a z : Square) → StandsOn m a → HasReach m.side m.kind (z.x -ℤ a.x) (z.y -ℤ a.y) → IsOpen p a z → Bears p m z
+bears_at p m a z stands reach clear =
+    openly_bears p m z (subst (λ o. IsSomeAnd o (λ a. HasReach m.side m.kind (z.x -ℤ a.x) (z.y -ℤ a.y) × IsOpen p a z)) (sym stands) (reach, clear))
 
-pub bears_from : (p : Position) (m : Man) (a z : Square) → StandsOn m a → Bears p m z → HasReach m.side m.kind (z.x -ℤ a.x) (z.y -ℤ a.y) × (IsSlider m.kind → IsOpen p a z)
+pub bears_from : (p : Position) (m : Man) (a z : Square) → StandsOn m a → Bears p m z → HasReach m.side m.kind (z.x -ℤ a.x) (z.y -ℤ a.y) × IsOpen p a z
 bears_from p m a z stands h =
-    subst (λ o. IsSomeAnd o (λ a. HasReach m.side m.kind (z.x -ℤ a.x) (z.y -ℤ a.y) × (IsSlider m.kind → IsOpen p a z))) stands h
+    subst (λ o. IsSomeAnd o (λ a. HasReach m.side m.kind (z.x -ℤ a.x) (z.y -ℤ a.y) × IsOpen p a z)) stands (bears_openly p m z h)
 
 -- no live man stands before b on the way from a
 abbrev pub IsClearTo : List Man → (ℕ → Bool) → (ℕ → Square) → Ray → Square → ℕ → Type 0
@@ -92,16 +90,13 @@ pub bears_along : (stock : List Man) (live : ℕ → Bool) (turn : Side) (f : �
     → Bears (placed stock live turn f) m b ↔ (r.far ≡ true → IsClearTo stock live f r a w.distance)
 bears_along stock live turn f m n r a b is serves stands w =
     let p : Position = placed stock live turn f in (
-      λ h is_far. (open_along stock live turn f is.fair is_far w).0 ((bears_from p m a b stands h).1 (is.slides is_far)),
+      λ h is_far. (open_along stock live turn f is.fair is_far w).0 (bears_from p m a b stands h).1,
       λ h.
-          bears_at p m a b stands (
-            reach_along is serves w,
-            λ slider.
-                elim (true_or_not r.far) [
-                  | inl is_far ↦ (open_along stock live turn f is.fair is_far w).1 (h is_far)
-                  | inr is_near ↦ absurd (is.leaps is_near slider)
-                ],
-          ),
+          bears_at p m a b stands (reach_along is serves w)
+          (elim (true_or_not r.far) [
+            | inl is_far ↦ (open_along stock live turn f is.fair is_far w).1 (h is_far)
+            | inr is_near ↦ let along = is_along w in near_open p m.side m.kind n r along.0 a b is.is_ray is_near along.1
+          ]),
     )
 
 -- who stands on an end of a slide is not on the way

@@ -19,7 +19,7 @@ use Rattle.rule_formula.proofs.MoveLemmas.{same_man, same_number, some_number}
 use Rattle.rule_formula.proofs.PlacedLemmas.{placed_man, stands_placed}
 use Rattle.lin_formula.specs.Tree as tree
 
-bears_of : {stock : List Man} (turn : Side) {mask k n g : ℕ} {man target : Man} {r : Ray} → IsBearing stock mask k n g man target r → (f : ℕ → Square)
+pub bears_of : {stock : List Man} (turn : Side) {mask k n g : ℕ} {man target : Man} {r : Ray} → IsBearing stock mask k n g man target r → (f : ℕ → Square)
     → SeesAlong stock (is_live mask) k g r f → BearsAlong r k g (placed stock (is_live mask) turn f)
 bears_of {stock} turn {mask} {k} {n} {g} {man} {target} {r} b f (along, clear) =
     let ray : IsRayOf man.side man.kind n r = ray_is man.side man.kind n r b.ray in
@@ -46,7 +46,7 @@ bears_of {stock} turn {mask} {k} {n} {g} {man} {target} {r} b f (along, clear) =
       bears = (bears_along stock (is_live mask) turn f (man_placed (is_live mask) f k man) n r (f k) (f g) ray b.serves stands along).1 open_to;
     }
 
-sees_of : {stock : List Man} (turn : Side) {mask k n g : ℕ} {man target : Man} {r : Ray} → IsBearing stock mask k n g man target r → (f : ℕ → Square)
+pub sees_of : {stock : List Man} (turn : Side) {mask k n g : ℕ} {man target : Man} {r : Ray} → IsBearing stock mask k n g man target r → (f : ℕ → Square)
     → BearsAlong r k g (placed stock (is_live mask) turn f) → SeesAlong stock (is_live mask) k g r f
 sees_of {stock} turn {mask} {k} {n} {g} {man} {target} {r} b f h =
     let p : Position = placed stock (is_live mask) turn f in

@@ -4,7 +4,7 @@ use Rattle.std.specs.Prelude.{if◌then◌else◌, IsSomeAnd}
 use Rattle.std.specs.List.{Contains}
 use Rattle.std.proofs.lemmas.Option.{slice_get_within}
 use Rattle.game_rules.specs.declared.men.Kind.{Kind}
-use Rattle.game_rules.specs.declared.men.Kind.TheVariants.{King, Queen, Rook, Bishop, Knight, Pawn}
+use Rattle.game_rules.specs.declared.men.Kind.TheVariants.{King, Queen, Rook, Bishop, Knight, Pawn, Chancellor, Archbishop, Amazon, Nightrider}
 use Rattle.game_rules.specs.declared.men.Side.{Side}
 use Rattle.game_rules.specs.declared.men.Man.{Man}
 use Rattle.game_rules.specs.declared.men.Ray.{Ray}
@@ -16,17 +16,18 @@ use Rattle.game_laws.proofs.SoundLemmas.{any_at, live_at, other_differs, other_o
 use Rattle.game_laws.proofs.CheckLemmas.{any_is}
 use Rattle.rule_formula.specs.declared.opt.Bearing.{Bearing}
 use Rattle.rule_formula.specs.Bearings.{IsBearingOf, along_rays, bearing, bearings_of, bearings_to, is_king_man, king_number, king_to, man_bearings}
-use Rattle.rule_formula.specs.Fits.{Fits, IsGameMask, mask_of}
+use Rattle.rule_formula.specs.Fits.{Fits, IsGameMask}
+use Rattle.mask_sets.specs.Stock.{mask_of, stock_man}
 use Rattle.rule_formula.specs.Meaning.{BearsBy}
 use Rattle.rule_formula.specs.Options.{is_king, is_side}
-use Rattle.rule_formula.specs.Placed.{is_live, stock_man}
-use Rattle.rule_formula.proofs.BearLemmas.{stock_has, stock_number}
+use Rattle.rule_formula.specs.Placed.{is_live}
+use Rattle.rule_formula.proofs.BearLemmas.{stock_number}
+use Rattle.mask_sets.proofs.Men.{stock_has, stock_man-men}
 use Rattle.rule_formula.proofs.ChainLemmas.{last_or_before}
 use Rattle.rule_formula.proofs.FitLemmas.{AreAlike, alike_back, alike_of}
 use Rattle.rule_formula.proofs.GameTheorem.{live_in_mask}
 use Rattle.rule_formula.proofs.ListTheorem.{appended, both_true, get_some, is_his_side, nothing, only_if, pushed_if, side_is, some_or_none, true_both}
 use Rattle.rule_formula.proofs.OptionTheorem.{bears_lives, some_square, way_of_bears}
-use Rattle.rule_formula.proofs.PlacedLemmas.{stock_man-men}
 use Rattle.rule_formula.proofs.RayLemmas.{is_along}
 
 record IsAlongRays (sort : Kind) (k g n : ℕ) (b : Bearing) : Type 0 where
@@ -126,6 +127,10 @@ king_of_test Queen e = absurd (cc)
 king_of_test Rook e = absurd (cc)
 king_of_test Bishop e = absurd (cc)
 king_of_test Knight e = absurd (cc)
+king_of_test Chancellor e = absurd (cc)
+king_of_test Archbishop e = absurd (cc)
+king_of_test Amazon e = absurd (cc)
+king_of_test Nightrider e = absurd (cc)
 king_of_test Pawn e = absurd (cc)
 
 record IsKingAt (stock : List Man) (s : Side) (k : ℕ) : Type 0 where

@@ -1,5 +1,5 @@
 -- What is known of a formula that is built of small atoms over few variables.
-use Rattle.std.proofs.Common.{◌≡◌, ◌≢◌, ◌⊎◌, ℕ, suc, ◌+◌, ◌<◌, ◌≤◌, ℤ, pos, negsuc, List, [], ◌∷◌, length, nat_lt, ◌==◌, if◌then◌else◌, inl, inr, refl, sym, ap, ◌∙◌, ◌%◌, arith}
+use Rattle.std.proofs.Common.{◌≡◌, ◌≢◌, ◌⊎◌, ℕ, suc, ◌+◌, ◌<◌, ◌≤◌, ℤ, pos, negsuc, neg_ℤ, unsigned_abs, List, [], ◌∷◌, length, nat_lt, ◌==◌, if◌then◌else◌, inl, inr, refl, sym, ap, subst, ◌∙◌, ◌%◌, arith}
 use Rattle.std.specs.List.{All}
 use Rattle.std.proofs.lemmas.Int.{ints}
 use Rattle.std.proofs.lemmas.Bool.Decides.{nat_tests}
@@ -95,6 +95,19 @@ unit_is : (d : ℤ) (x : Var) → IsUnit d → IsCoefficient (d, x)
 unit_is d x (inl e) = (λ w. omega (arith, ints, e, w), omega (arith, ints, e), omega (arith, ints, e))
 unit_is d x (inr e) = (λ w. omega (arith, ints, e, w), omega (arith, ints, e), omega (arith, ints, e))
 
+-- a number that may stand before each variable
+abbrev pub IsFactor : ℤ → Type 0
+IsFactor d = (x : Var) → IsCoefficient (d, x)
+
+pub one_factor : IsFactor (pos 1)
+one_factor x = unit_is (pos 1) x (inl refl)
+
+pub minus_factor : IsFactor (negsuc 0)
+minus_factor x = unit_is (negsuc 0) x (inr refl)
+
+pub short_factor : (d : ℤ) → d ≢ pos 0 → unsigned_abs d ≤ 2 → IsFactor d
+short_factor d some short x = (some, omega (arith, ints, short), omega (arith, ints, short))
+
 -- the difference of two variables
 pub two_atom : (x y : Var) (n : ℤ) → x.0 ≢ y.0 → IsBound n → IsAtom ((pos 1, x) ∷ (negsuc 0, y) ∷ []) n
 two_atom x y n ne bound =
@@ -111,8 +124,8 @@ parity x y even odd e =
     let both : 0 ≡ 1 = sym even ∙ ap (λ n. n % 2) same ∙ odd in absurd (omega (arith, both))
 
 -- two differences
-pub four_atom : (b d : ℤ) (c e : ℤ) (p q r s : Var) → p.0 ≢ q.0 → r.0 ≢ s.0 → q.0 % 2 ≡ 0 → p.0 % 2 ≡ 0 → s.0 % 2 ≡ 1 → r.0 % 2 ≡ 1 → IsUnit b
-    → IsUnit d → IsUnit c → IsUnit e → IsAtom ((b, p) ∷ (d, q) ∷ (c, r) ∷ (e, s) ∷ []) (pos 0)
+pub four_atom : (b d : ℤ) (c e : ℤ) (p q r s : Var) → p.0 ≢ q.0 → r.0 ≢ s.0 → q.0 % 2 ≡ 0 → p.0 % 2 ≡ 0 → s.0 % 2 ≡ 1 → r.0 % 2 ≡ 1 → IsFactor b
+    → IsFactor d → IsFactor c → IsFactor e → IsAtom ((b, p) ∷ (d, q) ∷ (c, r) ∷ (e, s) ∷ []) (pos 0)
 four_atom b d c e p q r s across along q_even p_even s_odd r_odd ub ud uc ue =
     let C = λ (t : ℤ × Var). IsCoefficient t in
     let D = λ (z : Var) (t : ℤ × Var). t.1 ≢ z in (
@@ -128,7 +141,27 @@ four_atom b d c e p q r s across along q_even p_even s_odd r_odd ub ud uc ue =
           ),
         ),
       ),
-      All-cons C (b, p) ((d, q) ∷ (c, r) ∷ (e, s) ∷ []) (unit_is b p ub)
-          (All-cons C (d, q) ((c, r) ∷ (e, s) ∷ []) (unit_is d q ud) (All-cons C (c, r) ((e, s) ∷ []) (unit_is c r uc) (All-cons C (e, s) [] (unit_is e s ue) (All-nil C)))),
+      All-cons C (b, p) ((d, q) ∷ (c, r) ∷ (e, s) ∷ []) (ub p)
+          (All-cons C (d, q) ((c, r) ∷ (e, s) ∷ []) (ud q) (All-cons C (c, r) ((e, s) ∷ []) (uc r) (All-cons C (e, s) [] (ue s) (All-nil C)))),
       (omega (arith, ints), omega (arith, ints)),
     )
+
+-- a number that may stand before a variable may be turned
+other_sign : (d : ℤ) → d ≢ pos 0 → unsigned_abs d ≤ 2 → (neg_ℤ d ≢ pos 0) × (unsigned_abs (neg_ℤ d) ≤ 2)
+other_sign d some short = (λ e. some (omega (arith, ints, e)), omega (arith, ints, short))
+
+-- two differences, each with a factor of its own
+pub leaping_atom : (dx dy : ℤ) (p q r s : Var) → p.0 ≢ q.0 → r.0 ≢ s.0 → q.0 % 2 ≡ 0 → p.0 % 2 ≡ 0 → s.0 % 2 ≡ 1 → r.0 % 2 ≡ 1 → dx ≢ pos 0 → dy ≢ pos 0
+    → unsigned_abs dx ≤ 2 → unsigned_abs dy ≤ 2 → IsAtom ((dy, p) ∷ (neg_ℤ dy, q) ∷ (neg_ℤ dx, r) ∷ (dx, s) ∷ []) (pos 0)
+leaping_atom dx dy p q r s across along q_even p_even s_odd r_odd right up short_right short_up =
+    let left = other_sign dx right short_right in
+    let down = other_sign dy up short_up in
+    four_atom dy (neg_ℤ dy) (neg_ℤ dx) dx p q r s across along q_even p_even s_odd r_odd
+    (short_factor dy up short_up) (short_factor (neg_ℤ dy) down.0 down.1) (short_factor (neg_ℤ dx) left.0 left.1) (short_factor dx right short_right)
+
+-- the same, by the terms
+pub terms_atom : (t₁ t₂ t₃ t₄ : ℤ × Var) (a b c d : ℤ × Var) → t₁ ≡ a → t₂ ≡ b → t₃ ≡ c → t₄ ≡ d → IsAtom (a ∷ b ∷ c ∷ d ∷ []) (pos 0) → IsAtom (t₁ ∷ t₂ ∷ t₃ ∷ t₄ ∷ []) (pos 0)
+terms_atom t₁ t₂ t₃ t₄ a b c d e₁ e₂ e₃ e₄ h =
+    subst (λ t. IsAtom (t ∷ t₂ ∷ t₃ ∷ t₄ ∷ []) (pos 0)) (sym e₁)
+    (subst (λ t. IsAtom (a ∷ t ∷ t₃ ∷ t₄ ∷ []) (pos 0)) (sym e₂)
+    (subst (λ t. IsAtom (a ∷ b ∷ t ∷ t₄ ∷ []) (pos 0)) (sym e₃) (subst (λ t. IsAtom (a ∷ b ∷ c ∷ t ∷ []) (pos 0)) (sym e₄) h)))

@@ -15,11 +15,13 @@ use Rattle.game_rules.specs.declared.men.Ray.{Ray}
 use Rattle.rule_formula.specs.declared.atoms.Extent.TheVariants.{Onto, Before}
 use Rattle.rule_formula.specs.declared.seats.Seat.{Seat}
 use Rattle.rule_formula.proofs.RayLemmas.{LiesOn, IsFair, IsWithin, between_holds, on_holds, ray_atoms_hold}
-use Rattle.rule_formula.specs.Placed.{IsMember, man_coordinates, men_from, place_at, placed, tuple_to}
+use Rattle.rule_formula.specs.Placed.{IsMember, men_from, place_at, placed}
+use Rattle.mask_sets.specs.Tuple.{man_coordinates, tuple_to}
 use Rattle.rule_formula.specs.Seats.{at, own, squares, vars_to}
 use Rattle.rule_formula.specs.Trees.{Suits, and_all, clear, clear_as, is_other, on, ray_atoms}
 use Rattle.rule_formula.proofs.ChainLemmas.{Each, and_all_holds, clear_holds}
-use Rattle.rule_formula.proofs.BearLemmas.{man_placed, stock_has, stock_number}
+use Rattle.rule_formula.proofs.BearLemmas.{man_placed, stock_number}
+use Rattle.mask_sets.proofs.Men.{stock_has}
 use Rattle.rule_formula.proofs.MoveLemmas.{EachOther}
 use Rattle.rule_formula.proofs.PlacedLemmas.{length_placed, placed_man}
 use Rattle.lin_formula.specs.Tree as tree

@@ -12,14 +12,15 @@ use Rattle.game_rules.specs.Game.{Attacked, Bears, InCheck, IsEmptySquare, IsLiv
 use Rattle.game_laws.proofs.SoundLemmas.{any_at, other_other}
 use Rattle.rule_formula.specs.declared.opt.Opt.{Opt}
 use Rattle.rule_formula.specs.Laws.{SomeOptionLeads, StepsTo}
-use Rattle.rule_formula.specs.Placed.{is_live, men_from, place_at, placed, stock_man}
+use Rattle.rule_formula.specs.Placed.{is_live, men_from, place_at, placed}
+use Rattle.mask_sets.specs.Stock.{stock_man}
 use Rattle.rule_formula.specs.Trees.{man_square}
 use Rattle.rule_formula.specs.Meaning.{IsOptionOf, TakesOption}
 use Rattle.rule_formula.proofs.BearLemmas.{man_placed}
 use Rattle.rule_formula.proofs.ListTheorem.{options_are}
 use Rattle.rule_formula.proofs.MoveLemmas.{same_man}
 use Rattle.rule_formula.proofs.OptionTheorem.{IsNoKing, goes_capture, option_of_step}
-use Rattle.rule_formula.proofs.PlacedLemmas.{all_men}
+use Rattle.mask_sets.proofs.Men.{all_men}
 
 pub square_or : Option Square → Square
 square_or None = record { x = pos 0; y = pos 0 }

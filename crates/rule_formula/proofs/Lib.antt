@@ -30,3 +30,4 @@ pub mod SweptLemmas
 pub mod TracksTheorem
 pub mod TwinsTheorem
 pub mod ApartLemmas
+pub mod LineTrees

@@ -2,18 +2,21 @@
 use Rattle.std.proofs.Common.{◌≡◌, ◌≢◌, ◌⊎◌, ◌↔◌, ℕ, zero, suc, ◌<◌, ◌≤◌, Bool, true, false, ◌&&◌, not, List, [], ◌∷◌, ◌++◌, length, Option, Some, None, inl, inr, refl, subst, sym, ap, arith, length-append, ◌+◌, ◌*◌}
 use Rattle.std.specs.Prelude.{if◌then◌else◌, slice_get}
 use Rattle.std.specs.List.{Contains}
+use Rattle.std.proofs.Math.Nat.{mul-le-mul_right}
 use Rattle.std.proofs.lemmas.List.Elements.{Contains-append_left, Contains-append_right, Contains-append_cases, Contains-push, Contains-push_cases}
 use Rattle.std.proofs.lemmas.Option.{slice_get_within}
 use Rattle.game_rules.specs.declared.men.Kind.{Kind}
-use Rattle.game_rules.specs.declared.men.Kind.TheVariants.{King, Queen, Rook, Bishop, Knight, Pawn}
+use Rattle.game_rules.specs.declared.men.Kind.TheVariants.{King, Queen, Rook, Bishop, Knight, Pawn, Chancellor, Archbishop, Amazon, Nightrider}
 use Rattle.game_rules.specs.declared.men.Side.{Side}
 use Rattle.game_rules.specs.declared.men.Side.TheVariants.{White, Black}
 use Rattle.game_rules.specs.declared.men.Man.{Man}
 use Rattle.game_rules.specs.Game.{other}
+use Rattle.chess_game.proofs.AnswerBounds.{rays_few as kind_rays_few}
 use Rattle.rule_formula.specs.declared.opt.Opt.{Opt}
 use Rattle.game_rules.specs.declared.men.Ray.{Ray}
 use Rattle.game_rules.specs.Rays.{rays_of, serves_captures, serves_moves}
-use Rattle.rule_formula.specs.Placed.{is_live, stock_man}
+use Rattle.rule_formula.specs.Placed.{is_live}
+use Rattle.mask_sets.specs.Stock.{stock_man}
 use Rattle.rule_formula.specs.Options.{captures_to, is_king, is_prey, is_prey_man, is_side, man_options, option, options_of, options_to, ray_options, rays_to}
 use Rattle.rule_formula.specs.Meaning.{IsOption, IsOptionOfSide, IsPrey, Serves}
 use Rattle.rule_formula.proofs.BearLemmas.{stock_number}
@@ -161,6 +164,10 @@ no_king Queen e = λ w. cc
 no_king Rook e = λ w. cc
 no_king Bishop e = λ w. cc
 no_king Knight e = λ w. cc
+no_king Chancellor e = λ w. cc
+no_king Archbishop e = λ w. cc
+no_king Amazon e = λ w. cc
+no_king Nightrider e = λ w. cc
 no_king Pawn e = λ w. cc
 
 not_king : (k : Kind) → k ≢ King → not (is_king k) ≡ true
@@ -169,6 +176,10 @@ not_king Queen e = refl
 not_king Rook e = refl
 not_king Bishop e = refl
 not_king Knight e = refl
+not_king Chancellor e = refl
+not_king Archbishop e = refl
+not_king Amazon e = refl
+not_king Nightrider e = refl
 not_king Pawn e = refl
 
 prey_from : (stock : List Man) (mask t : ℕ) (s : Side) → is_prey stock mask s t ≡ true → IsPrey stock mask s t
@@ -275,58 +286,127 @@ options_are stock mask s o = (
       lists s (length stock) o w.is his at.high,
 )
 
-push_few : (b : Bool) (xs : List Opt) (y : Opt) → length (if b then xs ++ y ∷ [] else xs) ≤ length xs + 1
-push_few true xs y = let e = length-append xs (y ∷ []) in omega (arith, e)
-push_few false xs y = omega arith
-
 keep_few : (b : Bool) (xs : List Opt) → length (if b then xs else []) ≤ length xs
 keep_few true xs = omega arith
 keep_few false xs = omega arith
 
-captures_few : (stock : List Man) (mask : ℕ) (s : Side) (i n k : ℕ) → length (captures_to stock mask s i n k) ≤ k
+-- how many of the first n numbers pass the test
+count : (ℕ → Bool) → ℕ → ℕ
+count f zero = 0
+count f (suc n) = if f (suc n) then suc (count f n) else count f n
+
+one_more : (b c : Bool) (m n k : ℕ) → (b ≡ true → c ≡ false) → m + n ≤ k → (if b then suc m else m) + (if c then suc n else n) ≤ suc k
+one_more true true m n k apart h = absurd (let no = apart refl in cc)
+one_more true false m n k apart h = omega (arith, h)
+one_more false true m n k apart h = omega (arith, h)
+one_more false false m n k apart h = omega (arith, h)
+
+-- no number passes both tests
+counts_apart : (f g : ℕ → Bool) → ((k : ℕ) → f k ≡ true → g k ≡ false) → (n : ℕ) → count f n + count g n ≤ n
+unfolding count
+counts_apart f g apart zero = omega arith
+counts_apart f g apart (suc n) = one_more (f (suc n)) (g (suc n)) (count f n) (count g n) n (apart (suc n)) (counts_apart f g apart n)
+
+abbrev is_his_man : Side → Option Man → Bool
+is_his_man s None = false
+is_his_man s (Some m) = is_side m.side s
+
+-- man k is a live man of the side
+abbrev is_his : List Man → ℕ → Side → ℕ → Bool
+is_his stock mask s k = is_live mask k && is_his_man s (stock_man stock k)
+
+no_prey_man : (s : Side) (x : Option Man) → is_his_man s x ≡ true → is_prey_man s x ≡ false
+no_prey_man s None h = refl
+no_prey_man s (Some m) h = his_own (is_side m.side s) (not (is_king m.kind)) h
+  where
+    his_own : (b c : Bool) → b ≡ true → (not b && c) ≡ false
+    his_own true c h = refl
+    his_own false c h = absurd (cc)
+
+-- he is no prey of his own side
+no_prey : (stock : List Man) (mask : ℕ) (s : Side) (k : ℕ) → is_his stock mask s k ≡ true → is_prey stock mask s k ≡ false
+no_prey stock mask s k h = cases (is_live mask k) (is_his_man s (stock_man stock k)) (is_prey_man s (stock_man stock k)) h (no_prey_man s (stock_man stock k))
+  where
+    cases : (a b c : Bool) → (a && b) ≡ true → (b ≡ true → c ≡ false) → (a && c) ≡ false
+    cases true b c h none = none h
+    cases false b c h none = refl
+
+push_count : (b : Bool) (xs : List Opt) (y : Opt) (n : ℕ) → length xs ≤ n → length (if b then xs ++ y ∷ [] else xs) ≤ (if b then suc n else n)
+push_count true xs y n h = let e = length-append xs (y ∷ []) in omega (arith, e, h)
+push_count false xs y n h = h
+
+keep_count : (b : Bool) (xs : List Opt) (n : ℕ) → length xs ≤ n → length (if b then xs else []) ≤ (if b then n else 0)
+keep_count true xs n h = h
+keep_count false xs n h = omega arith
+
+-- as many captures along a ray as there are preys
+captures_few : (stock : List Man) (mask : ℕ) (s : Side) (i n k : ℕ) → length (captures_to stock mask s i n k) ≤ count (is_prey stock mask s) k
+unfolding count
 captures_few stock mask s i n zero = omega arith
 captures_few stock mask s i n (suc k) =
-    let rest = captures_few stock mask s i n k in
-    let step = push_few (is_prey stock mask s (suc k)) (captures_to stock mask s i n k) (option i n (suc k)) in omega (arith, rest, step)
+    push_count (is_prey stock mask s (suc k)) (captures_to stock mask s i n k) (option i n (suc k)) (count (is_prey stock mask s) k) (captures_few stock mask s i n k)
 
-ray_few : (stock : List Man) (mask : ℕ) (s : Side) (sort : Kind) (i n : ℕ) → length stock ≤ 8 → length (ray_options stock mask s sort i n) ≤ 9
-ray_few stock mask s sort i n few =
+abbrev preys : List Man → ℕ → Side → ℕ
+preys stock mask s = count (is_prey stock mask s) (length stock)
+
+ray_few : (stock : List Man) (mask : ℕ) (s : Side) (sort : Kind) (i n : ℕ) → length (ray_options stock mask s sort i n) ≤ suc (preys stock mask s)
+ray_few stock mask s sort i n =
     let quiet : List Opt = if serves_moves sort n then option i n 0 ∷ [] else [] in
     let takes : List Opt = if serves_captures sort n then captures_to stock mask s i n (length stock) else [] in
     let both : length (quiet ++ takes) ≡ length quiet + length takes = length-append quiet takes in
     let first : length quiet ≤ 1 = keep_few (serves_moves sort n) (option i n 0 ∷ []) in
     let second : length takes ≤ length (captures_to stock mask s i n (length stock)) = keep_few (serves_captures sort n) (captures_to stock mask s i n (length stock)) in
-    let third = captures_few stock mask s i n (length stock) in omega (arith, both, first, second, third, few)
+    let third : length (captures_to stock mask s i n (length stock)) ≤ preys stock mask s = captures_few stock mask s i n (length stock) in omega (arith, both, first, second, third)
 
-rays_few : (stock : List Man) (mask : ℕ) (s : Side) (sort : Kind) (i n : ℕ) → length stock ≤ 8 → length (rays_to stock mask s sort i n) ≤ 9 * n
-rays_few stock mask s sort i zero few = omega arith
-rays_few stock mask s sort i (suc n) few =
+rays_few : (stock : List Man) (mask : ℕ) (s : Side) (sort : Kind) (i n : ℕ) → length (rays_to stock mask s sort i n) ≤ n * suc (preys stock mask s)
+rays_few stock mask s sort i zero = omega arith
+rays_few stock mask s sort i (suc n) =
     let both = length-append (rays_to stock mask s sort i n) (ray_options stock mask s sort i n) in
-    let rest = rays_few stock mask s sort i n few in
-    let last = ray_few stock mask s sort i n few in omega (arith, both, rest, last)
+    let rest = rays_few stock mask s sort i n in
+    let last = ray_few stock mask s sort i n in more n (suc (preys stock mask s)) _ _ _ both rest last
+  where
+    more : (n c a b d : ℕ) → d ≡ a + b → a ≤ n * c → b ≤ c → d ≤ suc n * c
+    more n c a b d e h k = omega (arith, e, h, k)
 
-ray_count : (sort : Kind) (s : Side) → length (rays_of sort s) ≤ 8
-ray_count King s = omega arith
-ray_count Queen s = omega arith
-ray_count Rook s = omega arith
-ray_count Bishop s = omega arith
-ray_count Knight s = omega arith
-ray_count Pawn s = omega arith
+no_more : (n c a : ℕ) → n ≤ 16 → a ≤ n * c → a ≤ 16 * c
+no_more n c a few h = let most : n * c ≤ 16 * c = mul-le-mul_right c few in omega (arith, h, most)
 
-man_few : (stock : List Man) (mask : ℕ) (s : Side) (i : ℕ) (x : Option Man) → length stock ≤ 8 → length (man_options stock mask s i x) ≤ 72
-man_few stock mask s i None few = omega arith
-man_few stock mask s i (Some m) few =
-    let all = rays_few stock mask s m.kind i (length (rays_of m.kind m.side)) few in
-    let some = keep_few (is_live mask i && is_side m.side s) (rays_to stock mask s m.kind i (length (rays_of m.kind m.side))) in
-    let count = ray_count m.kind m.side in omega (arith, all, some, count)
+man_few : (stock : List Man) (mask : ℕ) (s : Side) (i : ℕ) (x : Option Man)
+    → length (man_options stock mask s i x) ≤ (if is_live mask i && is_his_man s x then 16 * suc (preys stock mask s) else 0)
+man_few stock mask s i None = omega arith
+man_few stock mask s i (Some m) =
+    keep_count (is_live mask i && is_side m.side s) (rays_to stock mask s m.kind i (length (rays_of m.kind m.side))) (16 * suc (preys stock mask s))
+    (no_more (length (rays_of m.kind m.side)) (suc (preys stock mask s)) _ (kind_rays_few m.kind m.side) (rays_few stock mask s m.kind i (length (rays_of m.kind m.side))))
 
-to_few : (stock : List Man) (mask : ℕ) (s : Side) (n : ℕ) → length stock ≤ 8 → length (options_to stock mask s n) ≤ 72 * n
-to_few stock mask s zero few = omega arith
-to_few stock mask s (suc n) few =
+to_few : (stock : List Man) (mask : ℕ) (s : Side) (n : ℕ) → length (options_to stock mask s n) ≤ count (is_his stock mask s) n * (16 * suc (preys stock mask s))
+unfolding count
+to_few stock mask s zero = omega arith
+to_few stock mask s (suc n) =
     let both = length-append (options_to stock mask s n) (man_options stock mask s (suc n) (stock_man stock (suc n))) in
-    let rest = to_few stock mask s n few in
-    let last = man_few stock mask s (suc n) (stock_man stock (suc n)) few in omega (arith, both, rest, last)
+    let rest = to_few stock mask s n in
+    let last = man_few stock mask s (suc n) (stock_man stock (suc n)) in
+    more (is_his stock mask s (suc n)) (count (is_his stock mask s) n) (16 * suc (preys stock mask s)) _ _ _ both rest last
+  where
+    more : (b : Bool) (n c a d e : ℕ) → e ≡ a + d → a ≤ n * c → d ≤ (if b then c else 0) → e ≤ (if b then suc n else n) * c
+    more true n c a d e is h k = omega (arith, is, h, k)
+    more false n c a d e is h k = omega (arith, is, h, k)
 
--- there are at most a thousand options
+product_few : (o f : ℕ) → o + f ≤ 8 → o * (16 * suc f) ≤ 1000
+product_few zero f h = omega arith
+product_few (suc zero) f h = omega (arith, h)
+product_few (suc (suc zero)) f h = omega (arith, h)
+product_few (suc (suc (suc zero))) f h = omega (arith, h)
+product_few (suc (suc (suc (suc zero)))) f h = omega (arith, h)
+product_few (suc (suc (suc (suc (suc zero))))) f h = omega (arith, h)
+product_few (suc (suc (suc (suc (suc (suc zero)))))) f h = omega (arith, h)
+product_few (suc (suc (suc (suc (suc (suc (suc zero))))))) f h = omega (arith, h)
+product_few (suc (suc (suc (suc (suc (suc (suc (suc zero)))))))) f h = omega (arith, h)
+product_few (suc (suc (suc (suc (suc (suc (suc (suc (suc o))))))))) f h = absurd (omega (arith, h))
+
+-- there are at most a thousand options: who has many men has few to take
 pub options_few : (stock : List Man) (mask : ℕ) (s : Side) → length stock ≤ 8 → length (options_of stock mask s) ≤ 1000
-options_few stock mask s few = let all = to_few stock mask s (length stock) few in omega (arith, all, few)
+options_few stock mask s few =
+    let all : length (options_of stock mask s) ≤ count (is_his stock mask s) (length stock) * (16 * suc (preys stock mask s)) = to_few stock mask s (length stock) in
+    let apart : count (is_his stock mask s) (length stock) + preys stock mask s ≤ length stock = counts_apart (is_his stock mask s) (is_prey stock mask s) (no_prey stock mask s) (length stock) in
+    let most : count (is_his stock mask s) (length stock) * (16 * suc (preys stock mask s)) ≤ 1000 =
+    product_few (count (is_his stock mask s) (length stock)) (preys stock mask s) (omega (arith, apart, few)) in omega (arith, all, most)

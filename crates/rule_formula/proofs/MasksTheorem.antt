@@ -8,18 +8,19 @@ use Rattle.std.proofs.lemmas.Bool.{eqb-true, eq-eqb}
 use Rattle.std.proofs.lemmas.Nat.{and_le_l, and_le_r}
 use Rattle.std.proofs.lemmas.Nat.Bits.{bit_at-lt, bit_at_and, same_from_bits_below}
 use Rattle.game_rules.specs.declared.men.Kind.{Kind}
-use Rattle.game_rules.specs.declared.men.Kind.TheVariants.{King, Queen, Rook, Bishop, Knight, Pawn}
+use Rattle.game_rules.specs.declared.men.Kind.TheVariants.{King, Queen, Rook, Bishop, Knight, Pawn, Chancellor, Archbishop, Amazon, Nightrider}
 use Rattle.game_rules.specs.declared.men.Man.{Man}
 use Rattle.game_rules.specs.declared.men.Place.TheVariants.{Gone}
 use Rattle.game_rules.specs.Game.{Position, man_at}
-use Rattle.rule_formula.specs.Fits.{IsGameMask, has_kings, is_king_at, is_part, mask_of, masks_of, masks_to}
+use Rattle.rule_formula.specs.Fits.{IsGameMask, has_kings, is_king_at, is_part, masks_of, masks_to}
+use Rattle.mask_sets.specs.Stock.{mask_of, stock_man}
 use Rattle.rule_formula.specs.Options.{is_king}
-use Rattle.rule_formula.specs.Placed.{is_live, stock_man}
-use Rattle.rule_formula.proofs.BearLemmas.{stock_has, stock_number}
+use Rattle.rule_formula.specs.Placed.{is_live}
+use Rattle.rule_formula.proofs.BearLemmas.{stock_number}
+use Rattle.mask_sets.proofs.Men.{stock_has, stock_man-men}
 use Rattle.rule_formula.proofs.ChainLemmas.{last_or_before}
-use Rattle.rule_formula.proofs.FitLemmas.{mask_tells}
+use Rattle.mask_sets.proofs.Masks.{mask_tells}
 use Rattle.rule_formula.proofs.MaskLemmas.{live_bit_is}
-use Rattle.rule_formula.proofs.PlacedLemmas.{stock_man-men}
 use Rattle.rule_formula.proofs.ListTheorem.{both_true, nothing, pushed_if, some_or_none, true_both}
 use Rattle.rule_formula.proofs.LawTheorem.{live_at}
 
@@ -67,6 +68,10 @@ king_told Queen e = absurd (cc)
 king_told Rook e = absurd (cc)
 king_told Bishop e = absurd (cc)
 king_told Knight e = absurd (cc)
+king_told Chancellor e = absurd (cc)
+king_told Archbishop e = absurd (cc)
+king_told Amazon e = absurd (cc)
+king_told Nightrider e = absurd (cc)
 king_told Pawn e = absurd (cc)
 
 -- each king up to n is in the mask

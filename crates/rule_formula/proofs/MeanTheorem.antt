@@ -12,23 +12,26 @@ use Rattle.lin_formula.specs.Holds.{Holds}
 use Rattle.lin_formula.specs.SetOf.{Member, SetOf, Where, members}
 use Rattle.rule_formula.specs.declared.opt.Bearing.{Bearing}
 use Rattle.rule_formula.specs.declared.opt.Opt.{Opt}
-use Rattle.rule_formula.specs.Fits.{Fits, mask_of, target_of}
+use Rattle.rule_formula.specs.Fits.{Fits, target_of}
+use Rattle.mask_sets.specs.Stock.{mask_of, stock_man}
 use Rattle.rule_formula.specs.Laws.{StepsTo}
 use Rattle.rule_formula.specs.Mean.{BearingsMean, BearsOnKing, GameMeans, HoldsFitting, IsBefore, IsGame, IsImageOf, OptionsMean, PointMeans, RulesMean, mask_tracks}
 use Rattle.rule_formula.specs.Meaning.{IsBearer, IsOptionOf, IsOptionOfSide, IsPrey, IsReached, TakesOption, Serves}
 use Rattle.rule_formula.specs.Options.{options_of}
-use Rattle.rule_formula.specs.Placed.{HoldsApart, IsLiveIn, is_live, placed, stock_man, tuple_of, without}
+use Rattle.rule_formula.specs.Placed.{HoldsApart, IsLiveIn, is_live, placed, without}
+use Rattle.mask_sets.specs.Tuple.{tuple_of}
 use Rattle.rule_formula.specs.Seats.{squares}
 use Rattle.rule_formula.specs.Trees.{bear_of, image_of, point_of, pre_of, safe_of, tracks_of}
-use Rattle.rule_formula.proofs.BearLemmas.{stock_has, stock_number}
+use Rattle.rule_formula.proofs.BearLemmas.{stock_number}
+use Rattle.mask_sets.proofs.Men.{stock_has, stock_man-men}
 use Rattle.rule_formula.proofs.BearingTheorem.{alike_man, alike_ray, bearings_are, checks_are}
-use Rattle.rule_formula.proofs.FitLemmas.{AreAlike, alike_back, alike_of, mask_tells, placed_values, tuple_placed, values_of, squares_values}
+use Rattle.rule_formula.proofs.FitLemmas.{AreAlike, alike_back, alike_of, placed_values, tuple_placed, values_of, squares_values}
+use Rattle.mask_sets.proofs.Masks.{mask_tells}
 use Rattle.rule_formula.proofs.GameTheorem.{Arrives, arrives, fits_mask, live_by_mask, prey_live, sound_fits, target_mask}
 use Rattle.rule_formula.proofs.LawTheorem.{self_placed, square_stands, squares_of, steps_by_options}
 use Rattle.rule_formula.proofs.ListTheorem.{options_are}
 use Rattle.rule_formula.proofs.MasksTheorem.{masks_are}
 use Rattle.rule_formula.proofs.MeaningLemmas.{bear_told, image_told, pre_told_at, safe_told}
-use Rattle.rule_formula.proofs.PlacedLemmas.{stock_man-men}
 use Rattle.rule_formula.proofs.PairTheorem.{pairs_are, pairs_mean}
 use Rattle.rule_formula.proofs.PointTheorem.{point_means}
 use Rattle.rule_formula.proofs.PointTracks.{place_there, point_tracks}

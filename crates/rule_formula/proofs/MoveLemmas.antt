@@ -4,12 +4,12 @@ use Rattle.std.specs.Prelude.{◌==◌}
 use Rattle.std.proofs.lemmas.Int.{ints}
 use Rattle.std.proofs.lemmas.Bool.Decides.{nat_tests}
 use Rattle.game_rules.specs.declared.men.Kind.{Kind}
-use Rattle.game_rules.specs.declared.men.Kind.TheVariants.{King, Queen, Rook, Bishop, Knight, Pawn}
+use Rattle.game_rules.specs.declared.men.Kind.TheVariants.{King, Queen, Rook, Bishop, Knight, Pawn, Chancellor, Archbishop, Amazon, Nightrider}
 use Rattle.game_rules.specs.declared.men.Side.{Side}
 use Rattle.game_rules.specs.declared.men.Man.{Man}
 use Rattle.game_rules.specs.declared.men.Place.TheVariants.{Gone, At}
 use Rattle.game_rules.specs.declared.men.Square.{Square}
-use Rattle.game_rules.specs.Game.{Bears, Goes, GoesAs, IsHeldBy, IsAfter, IsEmptySquare, IsLeftBy, IsSlider, Position, StandsOn, forward, man_at, other, place_square, IsApart}
+use Rattle.game_rules.specs.Game.{Bears, Goes, GoesAs, IsHeldBy, IsAfter, IsEmptySquare, IsLeftBy, Position, StandsOn, forward, man_at, other, place_square, IsApart}
 use Rattle.game_rules.specs.declared.men.Ray.{Ray}
 use Rattle.game_rules.specs.Rays.{leap, serves_captures, serves_moves}
 use Rattle.game_laws.proofs.LineLemmas.{square_is}
@@ -17,11 +17,13 @@ use Rattle.game_laws.proofs.SoundLemmas.{any_at, other_differs}
 use Rattle.game_laws.proofs.RayLemmas.{true_or_not}
 use Rattle.game_laws.proofs.CheckLemmas.{any_is}
 use Rattle.rule_formula.proofs.RayLemmas.{LiesOn, is_along, lies_on, IsSteps, IsWithin, along_moves, one_step, steps_same}
-use Rattle.rule_formula.specs.Placed.{is_live, place_at, placed, stock_man, without}
+use Rattle.rule_formula.specs.Placed.{is_live, place_at, placed, without}
+use Rattle.mask_sets.specs.Stock.{stock_man}
 use Rattle.rule_formula.specs.Meaning.{IsOption, IsPrey, StepsBy, Takes}
 use Rattle.rule_formula.proofs.BearLemmas.{IsClearTo, bears_along, each_placed, man_placed, not_at_end, not_at_start, stands_at}
 use Rattle.rule_formula.proofs.KindLemmas.{IsRayOf, ray_is}
-use Rattle.rule_formula.proofs.PlacedLemmas.{all_men, from_placed, length_placed, placed_man, stands_placed}
+use Rattle.rule_formula.proofs.PlacedLemmas.{from_placed, length_placed, placed_man, stands_placed}
+use Rattle.mask_sets.proofs.Men.{all_men}
 
 -- each live man other than i and t
 abbrev pub EachOther : List Man → (ℕ → Bool) → ℕ → ℕ → (ℕ → Type 0) → Type 0
@@ -65,16 +67,24 @@ goes_as Queen p m z b h = b
 goes_as Rook p m z b h = b
 goes_as Bishop p m z b h = b
 goes_as Knight p m z b h = b
+goes_as Chancellor p m z b h = b
+goes_as Archbishop p m z b h = b
+goes_as Amazon p m z b h = b
+goes_as Nightrider p m z b h = b
 goes_as Pawn p m z b h = inl (b, h)
 
--- a slider, or whoever is no pawn, goes where he bears
-goes_bears : (k : Kind) (p : Position) (m : Man) (z : Square) → IsSlider k → GoesAs k p m z → Bears p m z
-goes_bears King p m z s g = g
-goes_bears Queen p m z s g = g
-goes_bears Rook p m z s g = g
-goes_bears Bishop p m z s g = g
-goes_bears Knight p m z s g = g
-goes_bears Pawn p m z s g = absurd s
+-- whoever is no pawn goes where he bears
+goes_bears : (k : Kind) (p : Position) (m : Man) (z : Square) → (k ≡ Pawn → ⊥) → GoesAs k p m z → Bears p m z
+goes_bears King p m z piece g = g
+goes_bears Queen p m z piece g = g
+goes_bears Rook p m z piece g = g
+goes_bears Bishop p m z piece g = g
+goes_bears Knight p m z piece g = g
+goes_bears Chancellor p m z piece g = g
+goes_bears Archbishop p m z piece g = g
+goes_bears Amazon p m z piece g = g
+goes_bears Nightrider p m z piece g = g
+goes_bears Pawn p m z piece g = absurd (piece refl)
 
 -- a man who takes nobody goes along a ray of moves
 goes_quiet : (k : Kind) (n : ℕ) (p : Position) (m : Man) (z : Square) → serves_moves k n ≡ true → (serves_captures k n ≡ true → Bears p m z)
@@ -84,6 +94,10 @@ goes_quiet Queen n p m z moves bears ahead free = bears refl
 goes_quiet Rook n p m z moves bears ahead free = bears refl
 goes_quiet Bishop n p m z moves bears ahead free = bears refl
 goes_quiet Knight n p m z moves bears ahead free = bears refl
+goes_quiet Chancellor n p m z moves bears ahead free = bears refl
+goes_quiet Archbishop n p m z moves bears ahead free = bears refl
+goes_quiet Amazon n p m z moves bears ahead free = bears refl
+goes_quiet Nightrider n p m z moves bears ahead free = bears refl
 goes_quiet Pawn zero p m z moves bears ahead free = inr (ahead refl, free)
 goes_quiet Pawn (suc n) p m z moves bears ahead free = absurd (cc)
 
@@ -320,13 +334,17 @@ pub nobody_there : (t : ℕ) (p : Position) (z : Square) → Takes t p z → IsA
 nobody_there zero p z takes apart k m is stands ne = (all_men p (λ m. StandsOn m z → ⊥)).0 takes k m is stands
 nobody_there (suc t) p z takes apart k m is stands ne = ne (apart k (suc t) m takes.0 z is takes.1 stands takes.2)
 
-slider_serves : (k : Kind) (n : ℕ) → IsSlider k → serves_captures k n ≡ true
-slider_serves King n s = absurd s
-slider_serves Queen n s = refl
-slider_serves Rook n s = refl
-slider_serves Bishop n s = refl
-slider_serves Knight n s = refl
-slider_serves Pawn n s = absurd s
+piece_serves : (k : Kind) (n : ℕ) → (k ≡ Pawn → ⊥) → serves_captures k n ≡ true
+piece_serves King n piece = refl
+piece_serves Queen n piece = refl
+piece_serves Rook n piece = refl
+piece_serves Bishop n piece = refl
+piece_serves Knight n piece = refl
+piece_serves Chancellor n piece = refl
+piece_serves Archbishop n piece = refl
+piece_serves Amazon n piece = refl
+piece_serves Nightrider n piece = refl
+piece_serves Pawn n piece = absurd (piece refl)
 
 nobody_stands : {stock : List Man} {mask i : ℕ} (n : ℕ) {t : ℕ} {man : Man} {r : Ray} {f g : ℕ → Square} → IsApart (placed stock (is_live mask) man.side f)
     → IsStepOf stock mask i r t man f g → (k : ℕ) (m : Man) → stock_man stock k ≡ Some m → is_live mask k ≡ true → k ≢ t → f k ≡ g i → ⊥
@@ -347,9 +365,9 @@ nobody_within {stock} {mask} {i} {n} {man} {r} o {f} {g} apart h k m is live unt
           (steps_same (subst (IsSteps r (f i) (f k)) e within.steps) h.along.steps)
       | inr earlier ↦ elim (true_or_not r.far) [
         | inl is_far ↦
-            let slider : IsSlider man.kind = ray.slides is_far in
-            (bears_along stock (is_live mask) man.side f (man_placed (is_live mask) f i man) n r (f i) (g i) ray (slider_serves man.kind n slider) (stands_here o f) h.along).0
-            (goes_bears man.kind (placed stock (is_live mask) man.side f) (man_placed (is_live mask) f i man) (g i) slider h.goes)
+            let piece : man.kind ≡ Pawn → ⊥ = ray.piece is_far in
+            (bears_along stock (is_live mask) man.side f (man_placed (is_live mask) f i man) n r (f i) (g i) ray (piece_serves man.kind n piece) (stands_here o f) h.along).0
+            (goes_bears man.kind (placed stock (is_live mask) man.side f) (man_placed (is_live mask) f i man) (g i) piece h.goes)
             is_far k m is live (record { distance = within.distance; positive = positive; before = omega arith; steps = within.steps })
         | inr is_near ↦ let one : h.along.distance ≡ 1 = h.along.near is_near in omega arith
       ]

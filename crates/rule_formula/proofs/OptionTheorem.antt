@@ -3,25 +3,29 @@ use Rattle.std.proofs.Common.{◌≡◌, ◌≢◌, ◌⊎◌, ℕ, zero, suc, �
 use Rattle.std.specs.Prelude.{IsSomeAnd}
 use Rattle.std.proofs.lemmas.Int.{ints}
 use Rattle.game_rules.specs.declared.men.Kind.{Kind}
-use Rattle.game_rules.specs.declared.men.Kind.TheVariants.{King, Queen, Rook, Bishop, Knight, Pawn}
+use Rattle.game_rules.specs.declared.men.Kind.TheVariants.{King, Queen, Rook, Bishop, Knight, Pawn, Chancellor, Archbishop, Amazon, Nightrider}
 use Rattle.game_rules.specs.declared.men.Side.{Side}
 use Rattle.game_rules.specs.declared.men.Man.{Man}
 use Rattle.game_rules.specs.declared.men.Square.{Square}
-use Rattle.game_rules.specs.Game.{Bears, GoesAs, HasReach, IsHeldBy, IsOpen, IsSlider, IsEmptySquare, Position, StandsOn, Step, forward, man_at, other, square_of}
+use Rattle.game_rules.specs.Game.{Bears, GoesAs, IsHeldBy, IsOpen, IsEmptySquare, Position, StandsOn, Step, forward, man_at, other, square_of}
 use Rattle.game_rules.specs.declared.men.Ray.{Ray}
 use Rattle.rule_formula.specs.declared.opt.Opt.{Opt}
 use Rattle.game_rules.specs.Rays.{leap, ray_of, serves_moves}
+use Rattle.game_laws.specs.Reach.{HasReach}
 use Rattle.game_laws.proofs.LineLemmas.{square_is}
+use Rattle.game_laws.proofs.OpenLemmas.{bears_openly}
 use Rattle.game_laws.proofs.RayLemmas.{true_or_not}
 use Rattle.game_laws.proofs.MoveLemmas.{same_or_not}
 use Rattle.game_laws.proofs.SoundLemmas.{any_at, side_or_other}
 use Rattle.game_laws.proofs.CheckLemmas.{any_is}
 use Rattle.rule_formula.proofs.RayLemmas.{LiesOn, is_along}
-use Rattle.rule_formula.specs.Placed.{is_live, placed, stock_man}
+use Rattle.rule_formula.specs.Placed.{is_live, placed}
+use Rattle.mask_sets.specs.Stock.{stock_man}
 use Rattle.rule_formula.specs.Meaning.{IsOptionOf, IsPrey, Serves, TakesOption, Takes}
-use Rattle.rule_formula.proofs.BearLemmas.{bears_from, each_placed, man_placed, stands_at, stock_has, stock_number}
+use Rattle.rule_formula.proofs.BearLemmas.{bears_from, each_placed, man_placed, stands_at, stock_number}
+use Rattle.mask_sets.proofs.Men.{stock_has, all_men}
 use Rattle.rule_formula.proofs.ChainLemmas.{Each, each_more}
-use Rattle.rule_formula.proofs.PlacedLemmas.{all_men, from_placed, placed_man, stands_placed}
+use Rattle.rule_formula.proofs.PlacedLemmas.{from_placed, placed_man, stands_placed}
 use Rattle.rule_formula.proofs.ReachLemmas.{IsRayTo, ray_to}
 
 same_square : (a b : Square) → (a ≡ b) ⊎ (a ≢ b)
@@ -78,6 +82,10 @@ goes_capture Queen p m z full g = g
 goes_capture Rook p m z full g = g
 goes_capture Bishop p m z full g = g
 goes_capture Knight p m z full g = g
+goes_capture Chancellor p m z full g = g
+goes_capture Archbishop p m z full g = g
+goes_capture Amazon p m z full g = g
+goes_capture Nightrider p m z full g = g
 goes_capture Pawn p m z full (inl g) = g.0
 goes_capture Pawn p m z full (inr g) = absurd (full g.1)
 
@@ -87,6 +95,10 @@ all_move Queen n h = refl
 all_move Rook n h = refl
 all_move Bishop n h = refl
 all_move Knight n h = refl
+all_move Chancellor n h = refl
+all_move Archbishop n h = refl
+all_move Amazon n h = refl
+all_move Nightrider n h = refl
 all_move Pawn n h = absurd (h refl)
 
 quiet_way : (p : Position) (m : Man) (a z : Square) → (m.kind ≡ Pawn → ⊥) → StandsOn m a → Bears p m z → IsWay m 0 a z
@@ -113,6 +125,10 @@ step_way Queen p m a z is stands free g = quiet_way p m a z (λ e. cc) stands g
 step_way Rook p m a z is stands free g = quiet_way p m a z (λ e. cc) stands g
 step_way Bishop p m a z is stands free g = quiet_way p m a z (λ e. cc) stands g
 step_way Knight p m a z is stands free g = quiet_way p m a z (λ e. cc) stands g
+step_way Chancellor p m a z is stands free g = quiet_way p m a z (λ e. cc) stands g
+step_way Archbishop p m a z is stands free g = quiet_way p m a z (λ e. cc) stands g
+step_way Amazon p m a z is stands free g = quiet_way p m a z (λ e. cc) stands g
+step_way Nightrider p m a z is stands free g = quiet_way p m a z (λ e. cc) stands g
 step_way Pawn p m a z is stands free (inl g) = absurd (free g.1)
 step_way Pawn p m a z is stands free (inr g) = pawn_way p m a z is stands g.0
 
@@ -121,7 +137,7 @@ some_square None P h = absurd h
 some_square (Some a) P h = (a, refl)
 
 pub bears_lives : (p : Position) (m : Man) (z : Square) → Bears p m z → (a : Square) × StandsOn m a
-bears_lives p m z b = some_square (square_of m) (λ a. HasReach m.side m.kind (z.x -ℤ a.x) (z.y -ℤ a.y) × (IsSlider m.kind → IsOpen p a z)) b
+bears_lives p m z b = some_square (square_of m) (λ a. HasReach m.side m.kind (z.x -ℤ a.x) (z.y -ℤ a.y) × IsOpen p a z) (bears_openly p m z b)
 
 goes_lives : (k : Kind) (p : Position) (m : Man) (z : Square) → GoesAs k p m z → (a : Square) × StandsOn m a
 goes_lives King p m z g = bears_lives p m z g
@@ -129,6 +145,10 @@ goes_lives Queen p m z g = bears_lives p m z g
 goes_lives Rook p m z g = bears_lives p m z g
 goes_lives Bishop p m z g = bears_lives p m z g
 goes_lives Knight p m z g = bears_lives p m z g
+goes_lives Chancellor p m z g = bears_lives p m z g
+goes_lives Archbishop p m z g = bears_lives p m z g
+goes_lives Amazon p m z g = bears_lives p m z g
+goes_lives Nightrider p m z g = bears_lives p m z g
 goes_lives Pawn p m z (inl g) = bears_lives p m z g.0
 goes_lives Pawn p m z (inr g) = (record { x = z.x; y = z.y -ℤ forward m.side }, g.0)
 

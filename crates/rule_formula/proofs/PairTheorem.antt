@@ -9,11 +9,13 @@ use Rattle.game_rules.specs.Game.{Position}
 use Rattle.lin_formula.specs.Tree.{Tree, free_vars}
 use Rattle.lin_formula.specs.SetOf.{Member, members}
 use Rattle.rule_formula.specs.declared.opt.Pair.{Pair}
-use Rattle.rule_formula.specs.Fits.{HasStock, IsGameMask, mask_of}
+use Rattle.rule_formula.specs.Fits.{IsGameMask}
+use Rattle.mask_sets.specs.Stock.{HasStock, mask_of}
 use Rattle.rule_formula.specs.Mean.{PairsMean}
 use Rattle.rule_formula.specs.Meaning.{AreTwins}
 use Rattle.rule_formula.specs.Pairs.{IsPairOf, is_later, later_to, man_pairs, pair, pairs_of, pairs_to}
-use Rattle.rule_formula.specs.Placed.{IsLiveIn, is_live, placed, tuple_of}
+use Rattle.rule_formula.specs.Placed.{IsLiveIn, is_live, placed}
+use Rattle.mask_sets.specs.Tuple.{tuple_of}
 use Rattle.rule_formula.specs.Seats.{own, squares, vars_to}
 use Rattle.rule_formula.specs.Trees.{tracks_of, twins_tree}
 use Rattle.rule_formula.proofs.ChainLemmas.{last_or_before}

@@ -1,13 +1,13 @@
 -- The men of a position that is placed.
-use Rattle.std.proofs.Common.{◌≡◌, ◌↔◌, ℕ, zero, suc, ◌+◌, Bool, true, false, List, [], ◌∷◌, length, get_or, Some, None, refl, subst, ap, arith}
+use Rattle.std.proofs.Common.{◌≡◌, ℕ, zero, suc, ◌+◌, Bool, true, false, List, [], ◌∷◌, length, Some, None, refl, subst, ap, arith}
 use Rattle.std.specs.Prelude.{if◌then◌else◌, slice_get}
-use Rattle.std.specs.List.{All}
-use Rattle.std.proofs.lemmas.Option.{get_or_from_slice_get, slice_get_within, slice_get-get_or}
 use Rattle.game_rules.specs.declared.men.Side.{Side}
 use Rattle.game_rules.specs.declared.men.Man.{Man}
 use Rattle.game_rules.specs.declared.men.Square.{Square}
-use Rattle.game_rules.specs.Game.{Position, man_at, place_square}
-use Rattle.rule_formula.specs.Placed.{men_from, place_at, placed, stock_man}
+use Rattle.game_rules.specs.Game.{man_at, place_square}
+use Rattle.mask_sets.proofs.Men.{stock_man-men}
+use Rattle.rule_formula.specs.Placed.{men_from, place_at, placed}
+use Rattle.mask_sets.specs.Stock.{stock_man}
 
 get_from : (n i k : ℕ) (ms : List Man) (live : ℕ → Bool) (f : ℕ → Square) (m : Man) → k ≡ n + i → slice_get ms i ≡ Some m
     → slice_get (men_from n ms live f) i ≡ Some (record m { place = place_at (live k) (f k) })
@@ -58,20 +58,5 @@ stands_placed false z y h = absurd (cc)
 pub length_placed : (n : ℕ) (stock : List Man) (live : ℕ → Bool) (f : ℕ → Square) → length (men_from n stock live f) ≡ length stock
 length_placed n [] live f = refl
 length_placed n (m ∷ ms) live f = ap suc (length_placed (suc n) ms live f)
-
-pub all_men : (p : Position) (P : Man → Type 0) → All P p.men ↔ ((k : ℕ) (m : Man) → man_at p k ≡ Some m → P m)
-all_men p P = (
-  λ h k m is. all_at p P h k m is,
-  λ h k d within. h (suc k) (get_or p.men k d) (slice_get-get_or p.men k d within),
-) where
-  all_at : (p : Position) (P : Man → Type 0) → All P p.men → (k : ℕ) (m : Man) → man_at p k ≡ Some m → P m
-  all_at p P h zero m is = absurd (cc)
-  all_at p P h (suc k) m is =
-      subst P (get_or_from_slice_get p.men k m m is) (h k m (slice_get_within p.men k m is))
-
--- a man of a position, by the position or by its men
-pub stock_man-men : (p : Position) (k : ℕ) → stock_man p.men k ≡ man_at p k
-stock_man-men p zero = refl
-stock_man-men p (suc k) = refl
 
 pub ruleset numbers = (stock_man-men)

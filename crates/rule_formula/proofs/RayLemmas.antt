@@ -1,5 +1,5 @@
 -- What the atoms of a far ray say.
-use Rattle.std.proofs.Common.{◌≡◌, ◌↔◌, ℕ, zero, suc, ◌<◌, ◌≤◌, ℤ, pos, negsuc, ◌+ℤ◌, ◌*ℤ◌, ◌-ℤ◌, unsigned_abs, Bool, true, false, List, [], ◌∷◌, ◌++◌, ap, refl, subst, sym, ◌∙◌, arith}
+use Rattle.std.proofs.Common.{◌≡◌, ◌↔◌, inl, inr, ℕ, zero, suc, ◌<◌, ◌≤◌, ℤ, pos, negsuc, ◌+ℤ◌, ◌*ℤ◌, ◌-ℤ◌, unsigned_abs, Bool, true, false, List, [], ◌∷◌, ◌++◌, ap, refl, subst, sym, ◌∙◌, arith}
 use Rattle.std.specs.Prelude.{◌≤ℤ◌, ◌==◌, if◌then◌else◌}
 use Rattle.std.proofs.lemmas.Bool.Decides.{nat_tests}
 use Rattle.game_rules.specs.declared.men.Square.{Square}
@@ -14,9 +14,9 @@ use Rattle.rule_formula.specs.declared.atoms.Extent.{Extent}
 use Rattle.rule_formula.specs.declared.atoms.Extent.TheVariants.{Onto, Before}
 use Rattle.rule_formula.specs.declared.seats.Seat.{Seat}
 use Rattle.game_rules.specs.declared.men.Ray.{Ray}
-use Rattle.game_rules.specs.Game.{after_steps}
+use Rattle.game_rules.specs.Game.{IsDirection, after_steps}
 use Rattle.game_rules.specs.Rays.{IsAlong, leap, slide}
-use Rattle.game_laws.proofs.LineLemmas.{square_is}
+use Rattle.game_laws.proofs.LineLemmas.{square_is, steps_distance}
 use Rattle.rule_formula.specs.Seats.{at}
 use Rattle.rule_formula.specs.Trees.{Suits, ahead, difference, line, line_atoms, on, past, ray_atoms, unless_same}
 
@@ -48,76 +48,136 @@ pub is_along : {r : Ray} {a b : Square} → LiesOn r a b → IsAlong r a b
 is_along {r} {a} {b} w =
     (w.distance, record { begun = omega (arith, w.positive); one = w.near; leads = square_at b (after_steps a w.distance r.dx r.dy) w.steps.right w.steps.up })
 
+-- one coordinate of a direction
 pub data Sign : Type 0 where
+  Less : Sign
   Minus : Sign
   Zero : Sign
   Plus : Sign
+  More : Sign
 
 abbrev pub num : Sign → ℤ
+num Less = negsuc 1
 num Minus = negsuc 0
 num Zero = pos 0
 num Plus = pos 1
+num More = pos 2
 
-pub small_sign : (d : ℤ) → unsigned_abs d ≤ 1 → (x : Sign) × (d ≡ num x)
+pub small_sign : (d : ℤ) → unsigned_abs d ≤ 2 → (x : Sign) × (d ≡ num x)
 small_sign (pos zero) h = (Zero, refl)
 small_sign (pos (suc zero)) h = (Plus, refl)
-small_sign (pos (suc (suc m))) h = absurd (omega arith)
+small_sign (pos (suc (suc zero))) h = (More, refl)
+small_sign (pos (suc (suc (suc m)))) h = absurd (omega (arith, h))
 small_sign (negsuc zero) h = (Minus, refl)
-small_sign (negsuc (suc m)) h = absurd (omega arith)
+small_sign (negsuc (suc zero)) h = (Less, refl)
+small_sign (negsuc (suc (suc m))) h = absurd (omega (arith, h))
 
-abbrev pub IsSome : Sign → Sign → Type 0
-IsSome Zero Zero = ⊥
-IsSome _ _ = Unit {0}
+-- a direction goes one to a side, or one up or down
+pub none_of : (dx dy : ℤ) → (unsigned_abs dx ≡ 1 → ⊥) → (unsigned_abs dy ≡ 1 → ⊥) → IsDirection dx dy → ⊥
+none_of dx dy across along (inl h) = across h.0
+none_of dx dy across along (inr h) = along h.0
 
 -- how far one number is below another
 pub gap_above : (a b : ℤ) → ((pos 1 *ℤ a) +ℤ ((negsuc 0 *ℤ b) +ℤ pos 0)) ≤ℤ negsuc 0 → (t : ℕ) × (0 < t) × (b ≡ a +ℤ pos t)
 gap_above a b h = (unsigned_abs (b -ℤ a), grind (arith, ints), grind (arith, ints))
 
-pub steps_from_atoms : (x y : Sign) → IsSome x y → (a b : Seat) (e : Sets) (v : Values) → Holds (line (num x) (num y) a b) e v
+pub steps_from_atoms : (x y : Sign) → IsDirection (num x) (num y) → (a b : Seat) (e : Sets) (v : Values) → Holds (line (num x) (num y) a b) e v
     → Holds (ahead (num x) (num y) a b Before) e v → (t : ℕ) × (0 < t) × IsSteps (slide (num x) (num y)) (at v a) (at v b) t
-steps_from_atoms Zero Zero some a b e v l h = absurd some
-steps_from_atoms Zero Plus some a b e v l h =
-    let g = gap_above (v a.y.0) (v b.y.0) h in (g.0, g.1, record { right = omega (arith, ints, l); up = omega (arith, ints, g.2) })
-steps_from_atoms Zero Minus some a b e v l h =
-    let g = gap_above (v b.y.0) (v a.y.0) h in (g.0, g.1, record { right = omega (arith, ints, l); up = omega (arith, ints, g.2) })
-steps_from_atoms Plus Zero some a b e v l h =
-    let g = gap_above (v a.x.0) (v b.x.0) h in (g.0, g.1, record { right = omega (arith, ints, g.2); up = omega (arith, ints, l) })
-steps_from_atoms Plus Plus some a b e v l h =
-    let g = gap_above (v a.x.0) (v b.x.0) h in (g.0, g.1, record { right = omega (arith, ints, g.2); up = omega (arith, ints, l, g.2) })
-steps_from_atoms Plus Minus some a b e v l h =
-    let g = gap_above (v a.x.0) (v b.x.0) h in (g.0, g.1, record { right = omega (arith, ints, g.2); up = omega (arith, ints, l, g.2) })
-steps_from_atoms Minus Zero some a b e v l h =
-    let g = gap_above (v b.x.0) (v a.x.0) h in (g.0, g.1, record { right = omega (arith, ints, g.2); up = omega (arith, ints, l) })
-steps_from_atoms Minus Plus some a b e v l h =
+steps_from_atoms Less Less some a b e v l h = absurd (none_of (num Less) (num Less) (λ e. omega (arith, e)) (λ e. omega (arith, e)) some)
+steps_from_atoms Less Minus some a b e v l h =
+    let g = gap_above (v b.y.0) (v a.y.0) h in (g.0, g.1, record { right = omega (arith, ints, l, g.2); up = omega (arith, ints, g.2) })
+steps_from_atoms Less Zero some a b e v l h = absurd (none_of (num Less) (num Zero) (λ e. omega (arith, e)) (λ e. omega (arith, e)) some)
+steps_from_atoms Less Plus some a b e v l h =
+    let g = gap_above (v a.y.0) (v b.y.0) h in (g.0, g.1, record { right = omega (arith, ints, l, g.2); up = omega (arith, ints, g.2) })
+steps_from_atoms Less More some a b e v l h = absurd (none_of (num Less) (num More) (λ e. omega (arith, e)) (λ e. omega (arith, e)) some)
+steps_from_atoms Minus Less some a b e v l h =
     let g = gap_above (v b.x.0) (v a.x.0) h in (g.0, g.1, record { right = omega (arith, ints, g.2); up = omega (arith, ints, l, g.2) })
 steps_from_atoms Minus Minus some a b e v l h =
     let g = gap_above (v b.x.0) (v a.x.0) h in (g.0, g.1, record { right = omega (arith, ints, g.2); up = omega (arith, ints, l, g.2) })
+steps_from_atoms Minus Zero some a b e v l h =
+    let g = gap_above (v b.x.0) (v a.x.0) h in (g.0, g.1, record { right = omega (arith, ints, g.2); up = omega (arith, ints, l, g.2) })
+steps_from_atoms Minus Plus some a b e v l h =
+    let g = gap_above (v b.x.0) (v a.x.0) h in (g.0, g.1, record { right = omega (arith, ints, g.2); up = omega (arith, ints, l, g.2) })
+steps_from_atoms Minus More some a b e v l h =
+    let g = gap_above (v b.x.0) (v a.x.0) h in (g.0, g.1, record { right = omega (arith, ints, g.2); up = omega (arith, ints, l, g.2) })
+steps_from_atoms Zero Less some a b e v l h = absurd (none_of (num Zero) (num Less) (λ e. omega (arith, e)) (λ e. omega (arith, e)) some)
+steps_from_atoms Zero Minus some a b e v l h =
+    let g = gap_above (v b.y.0) (v a.y.0) h in (g.0, g.1, record { right = omega (arith, ints, l, g.2); up = omega (arith, ints, g.2) })
+steps_from_atoms Zero Zero some a b e v l h = absurd (none_of (num Zero) (num Zero) (λ e. omega (arith, e)) (λ e. omega (arith, e)) some)
+steps_from_atoms Zero Plus some a b e v l h =
+    let g = gap_above (v a.y.0) (v b.y.0) h in (g.0, g.1, record { right = omega (arith, ints, l, g.2); up = omega (arith, ints, g.2) })
+steps_from_atoms Zero More some a b e v l h = absurd (none_of (num Zero) (num More) (λ e. omega (arith, e)) (λ e. omega (arith, e)) some)
+steps_from_atoms Plus Less some a b e v l h =
+    let g = gap_above (v a.x.0) (v b.x.0) h in (g.0, g.1, record { right = omega (arith, ints, g.2); up = omega (arith, ints, l, g.2) })
+steps_from_atoms Plus Minus some a b e v l h =
+    let g = gap_above (v a.x.0) (v b.x.0) h in (g.0, g.1, record { right = omega (arith, ints, g.2); up = omega (arith, ints, l, g.2) })
+steps_from_atoms Plus Zero some a b e v l h =
+    let g = gap_above (v a.x.0) (v b.x.0) h in (g.0, g.1, record { right = omega (arith, ints, g.2); up = omega (arith, ints, l, g.2) })
+steps_from_atoms Plus Plus some a b e v l h =
+    let g = gap_above (v a.x.0) (v b.x.0) h in (g.0, g.1, record { right = omega (arith, ints, g.2); up = omega (arith, ints, l, g.2) })
+steps_from_atoms Plus More some a b e v l h =
+    let g = gap_above (v a.x.0) (v b.x.0) h in (g.0, g.1, record { right = omega (arith, ints, g.2); up = omega (arith, ints, l, g.2) })
+steps_from_atoms More Less some a b e v l h = absurd (none_of (num More) (num Less) (λ e. omega (arith, e)) (λ e. omega (arith, e)) some)
+steps_from_atoms More Minus some a b e v l h =
+    let g = gap_above (v b.y.0) (v a.y.0) h in (g.0, g.1, record { right = omega (arith, ints, l, g.2); up = omega (arith, ints, g.2) })
+steps_from_atoms More Zero some a b e v l h = absurd (none_of (num More) (num Zero) (λ e. omega (arith, e)) (λ e. omega (arith, e)) some)
+steps_from_atoms More Plus some a b e v l h =
+    let g = gap_above (v a.y.0) (v b.y.0) h in (g.0, g.1, record { right = omega (arith, ints, l, g.2); up = omega (arith, ints, g.2) })
+steps_from_atoms More More some a b e v l h = absurd (none_of (num More) (num More) (λ e. omega (arith, e)) (λ e. omega (arith, e)) some)
 
-pub atoms_from_steps : (x y : Sign) → IsSome x y → (a b : Seat) (e : Sets) (v : Values) {t : ℕ} → 0 < t
+pub atoms_from_steps : (x y : Sign) → IsDirection (num x) (num y) → (a b : Seat) (e : Sets) (v : Values) {t : ℕ} → 0 < t
     → IsSteps (slide (num x) (num y)) (at v a) (at v b) t → Holds (line (num x) (num y) a b) e v × Holds (ahead (num x) (num y) a b Before) e v
-atoms_from_steps Zero Zero some a b e v low h = absurd some
-atoms_from_steps Zero Plus some a b e v low h = (omega (arith, ints, h.right), omega (arith, ints, h.up))
-atoms_from_steps Zero Minus some a b e v low h = (omega (arith, ints, h.right), omega (arith, ints, h.up))
-atoms_from_steps Plus Zero some a b e v low h = (omega (arith, ints, h.up), omega (arith, ints, h.right))
-atoms_from_steps Plus Plus some a b e v low h = (omega (arith, ints, h.right, h.up), omega (arith, ints, h.right))
-atoms_from_steps Plus Minus some a b e v low h = (omega (arith, ints, h.right, h.up), omega (arith, ints, h.right))
-atoms_from_steps Minus Zero some a b e v low h = (omega (arith, ints, h.up), omega (arith, ints, h.right))
-atoms_from_steps Minus Plus some a b e v low h = (omega (arith, ints, h.right, h.up), omega (arith, ints, h.right))
-atoms_from_steps Minus Minus some a b e v low h = (omega (arith, ints, h.right, h.up), omega (arith, ints, h.right))
+atoms_from_steps Less Less some a b e v low h = absurd (none_of (num Less) (num Less) (λ e. omega (arith, e)) (λ e. omega (arith, e)) some)
+atoms_from_steps Less Minus some a b e v low h = (omega (arith, ints, h.right, h.up), omega (arith, ints, h.right, h.up))
+atoms_from_steps Less Zero some a b e v low h = absurd (none_of (num Less) (num Zero) (λ e. omega (arith, e)) (λ e. omega (arith, e)) some)
+atoms_from_steps Less Plus some a b e v low h = (omega (arith, ints, h.right, h.up), omega (arith, ints, h.right, h.up))
+atoms_from_steps Less More some a b e v low h = absurd (none_of (num Less) (num More) (λ e. omega (arith, e)) (λ e. omega (arith, e)) some)
+atoms_from_steps Minus Less some a b e v low h = (omega (arith, ints, h.right, h.up), omega (arith, ints, h.right, h.up))
+atoms_from_steps Minus Minus some a b e v low h = (omega (arith, ints, h.right, h.up), omega (arith, ints, h.right, h.up))
+atoms_from_steps Minus Zero some a b e v low h = (omega (arith, ints, h.right, h.up), omega (arith, ints, h.right, h.up))
+atoms_from_steps Minus Plus some a b e v low h = (omega (arith, ints, h.right, h.up), omega (arith, ints, h.right, h.up))
+atoms_from_steps Minus More some a b e v low h = (omega (arith, ints, h.right, h.up), omega (arith, ints, h.right, h.up))
+atoms_from_steps Zero Less some a b e v low h = absurd (none_of (num Zero) (num Less) (λ e. omega (arith, e)) (λ e. omega (arith, e)) some)
+atoms_from_steps Zero Minus some a b e v low h = (omega (arith, ints, h.right, h.up), omega (arith, ints, h.right, h.up))
+atoms_from_steps Zero Zero some a b e v low h = absurd (none_of (num Zero) (num Zero) (λ e. omega (arith, e)) (λ e. omega (arith, e)) some)
+atoms_from_steps Zero Plus some a b e v low h = (omega (arith, ints, h.right, h.up), omega (arith, ints, h.right, h.up))
+atoms_from_steps Zero More some a b e v low h = absurd (none_of (num Zero) (num More) (λ e. omega (arith, e)) (λ e. omega (arith, e)) some)
+atoms_from_steps Plus Less some a b e v low h = (omega (arith, ints, h.right, h.up), omega (arith, ints, h.right, h.up))
+atoms_from_steps Plus Minus some a b e v low h = (omega (arith, ints, h.right, h.up), omega (arith, ints, h.right, h.up))
+atoms_from_steps Plus Zero some a b e v low h = (omega (arith, ints, h.right, h.up), omega (arith, ints, h.right, h.up))
+atoms_from_steps Plus Plus some a b e v low h = (omega (arith, ints, h.right, h.up), omega (arith, ints, h.right, h.up))
+atoms_from_steps Plus More some a b e v low h = (omega (arith, ints, h.right, h.up), omega (arith, ints, h.right, h.up))
+atoms_from_steps More Less some a b e v low h = absurd (none_of (num More) (num Less) (λ e. omega (arith, e)) (λ e. omega (arith, e)) some)
+atoms_from_steps More Minus some a b e v low h = (omega (arith, ints, h.right, h.up), omega (arith, ints, h.right, h.up))
+atoms_from_steps More Zero some a b e v low h = absurd (none_of (num More) (num Zero) (λ e. omega (arith, e)) (λ e. omega (arith, e)) some)
+atoms_from_steps More Plus some a b e v low h = (omega (arith, ints, h.right, h.up), omega (arith, ints, h.right, h.up))
+atoms_from_steps More More some a b e v low h = absurd (none_of (num More) (num More) (λ e. omega (arith, e)) (λ e. omega (arith, e)) some)
 
 -- of two squares so many steps away, which is ahead of which
-pub ahead_is : (x y : Sign) → IsSome x y → (a b z : Seat) (e : Sets) (v : Values) (extent : Extent) {t s : ℕ}
+pub ahead_is : (x y : Sign) → IsDirection (num x) (num y) → (a b z : Seat) (e : Sets) (v : Values) (extent : Extent) {t s : ℕ}
     → IsSteps (slide (num x) (num y)) (at v a) (at v b) t → IsSteps (slide (num x) (num y)) (at v a) (at v z) s
     → Holds (ahead (num x) (num y) z b extent) e v ↔ (pos s ≤ℤ (pos t +ℤ past extent))
-ahead_is Zero Zero some a b z e v extent h k = absurd some
-ahead_is Zero Plus some a b z e v extent h k = (λ w. omega (arith, ints, h.up, k.up), λ w. omega (arith, ints, h.up, k.up))
-ahead_is Zero Minus some a b z e v extent h k = (λ w. omega (arith, ints, h.up, k.up), λ w. omega (arith, ints, h.up, k.up))
-ahead_is Plus _ some a b z e v extent h k = (λ w. omega (arith, ints, h.right, k.right), λ w. omega (arith, ints, h.right, k.right))
+ahead_is Less Less some a b z e v extent h k = absurd (none_of (num Less) (num Less) (λ e. omega (arith, e)) (λ e. omega (arith, e)) some)
+ahead_is Less Minus some a b z e v extent h k = (λ w. omega (arith, ints, h.up, k.up), λ w. omega (arith, ints, h.up, k.up))
+ahead_is Less Zero some a b z e v extent h k = absurd (none_of (num Less) (num Zero) (λ e. omega (arith, e)) (λ e. omega (arith, e)) some)
+ahead_is Less Plus some a b z e v extent h k = (λ w. omega (arith, ints, h.up, k.up), λ w. omega (arith, ints, h.up, k.up))
+ahead_is Less More some a b z e v extent h k = absurd (none_of (num Less) (num More) (λ e. omega (arith, e)) (λ e. omega (arith, e)) some)
 ahead_is Minus _ some a b z e v extent h k = (λ w. omega (arith, ints, h.right, k.right), λ w. omega (arith, ints, h.right, k.right))
+ahead_is Zero Less some a b z e v extent h k = absurd (none_of (num Zero) (num Less) (λ e. omega (arith, e)) (λ e. omega (arith, e)) some)
+ahead_is Zero Minus some a b z e v extent h k = (λ w. omega (arith, ints, h.up, k.up), λ w. omega (arith, ints, h.up, k.up))
+ahead_is Zero Zero some a b z e v extent h k = absurd (none_of (num Zero) (num Zero) (λ e. omega (arith, e)) (λ e. omega (arith, e)) some)
+ahead_is Zero Plus some a b z e v extent h k = (λ w. omega (arith, ints, h.up, k.up), λ w. omega (arith, ints, h.up, k.up))
+ahead_is Zero More some a b z e v extent h k = absurd (none_of (num Zero) (num More) (λ e. omega (arith, e)) (λ e. omega (arith, e)) some)
+ahead_is Plus _ some a b z e v extent h k = (λ w. omega (arith, ints, h.right, k.right), λ w. omega (arith, ints, h.right, k.right))
+ahead_is More Less some a b z e v extent h k = absurd (none_of (num More) (num Less) (λ e. omega (arith, e)) (λ e. omega (arith, e)) some)
+ahead_is More Minus some a b z e v extent h k = (λ w. omega (arith, ints, h.up, k.up), λ w. omega (arith, ints, h.up, k.up))
+ahead_is More Zero some a b z e v extent h k = absurd (none_of (num More) (num Zero) (λ e. omega (arith, e)) (λ e. omega (arith, e)) some)
+ahead_is More Plus some a b z e v extent h k = (λ w. omega (arith, ints, h.up, k.up), λ w. omega (arith, ints, h.up, k.up))
+ahead_is More More some a b z e v extent h k = absurd (none_of (num More) (num More) (λ e. omega (arith, e)) (λ e. omega (arith, e)) some)
 
--- a ray of one step, or along a row, a column or a diagonal
+-- a ray of one step, or of steps of a direction
 pub data IsFair : Ray → Type 0 where
-  far : (x y : Sign) → IsSome x y → IsFair (slide (num x) (num y))
+  far : (x y : Sign) → IsDirection (num x) (num y) → IsFair (slide (num x) (num y))
   near : (dx dy : ℤ) → (dx ≡ pos 0 → dy ≡ pos 0 → ⊥) → IsFair (leap dx dy)
 
 unless_holds : (f : Tree) (e : Sets) (v : Values) (b : Bool) → (b ≡ true → Holds f e v) → AllHold (if b then [] else f ∷ []) e v ↔ Holds f e v
@@ -137,16 +197,32 @@ self_difference : (x y : Var) (e : Sets) (v : Values) (n : ℤ) → x.0 ≡ y.0 
 self_difference x y e v n same none =
     let e : v x.0 ≡ v y.0 = ap v same in omega (arith, ints)
 
-line_atoms_hold : (x y : Sign) → IsSome x y → (a b : Seat) (e : Sets) (v : Values) → AllHold (line_atoms (num x) (num y) a b) e v ↔ Holds (line (num x) (num y) a b) e v
-line_atoms_hold Zero Zero some a b e v = absurd some
-line_atoms_hold Zero Plus some a b e v = unless_same_holds b.x a.x (line (pos 0) (pos 1) a b) e v (λ same. self_difference b.x a.x e v (pos 0) same refl)
-line_atoms_hold Zero Minus some a b e v = unless_same_holds b.x a.x (line (pos 0) (negsuc 0) a b) e v (λ same. self_difference b.x a.x e v (pos 0) same refl)
-line_atoms_hold Plus Zero some a b e v = unless_same_holds b.y a.y (line (pos 1) (pos 0) a b) e v (λ same. self_difference b.y a.y e v (pos 0) same refl)
-line_atoms_hold Minus Zero some a b e v = unless_same_holds b.y a.y (line (negsuc 0) (pos 0) a b) e v (λ same. self_difference b.y a.y e v (pos 0) same refl)
-line_atoms_hold Plus Plus some a b e v = (λ h. h.0, λ h. (h, tt))
-line_atoms_hold Plus Minus some a b e v = (λ h. h.0, λ h. (h, tt))
-line_atoms_hold Minus Plus some a b e v = (λ h. h.0, λ h. (h, tt))
+line_atoms_hold : (x y : Sign) → IsDirection (num x) (num y) → (a b : Seat) (e : Sets) (v : Values) → AllHold (line_atoms (num x) (num y) a b) e v ↔ Holds (line (num x) (num y) a b) e v
+line_atoms_hold Less Less some a b e v = absurd (none_of (num Less) (num Less) (λ e. omega (arith, e)) (λ e. omega (arith, e)) some)
+line_atoms_hold Less Minus some a b e v = (λ h. h.0, λ h. (h, tt))
+line_atoms_hold Less Zero some a b e v = absurd (none_of (num Less) (num Zero) (λ e. omega (arith, e)) (λ e. omega (arith, e)) some)
+line_atoms_hold Less Plus some a b e v = (λ h. h.0, λ h. (h, tt))
+line_atoms_hold Less More some a b e v = absurd (none_of (num Less) (num More) (λ e. omega (arith, e)) (λ e. omega (arith, e)) some)
+line_atoms_hold Minus Less some a b e v = (λ h. h.0, λ h. (h, tt))
 line_atoms_hold Minus Minus some a b e v = (λ h. h.0, λ h. (h, tt))
+line_atoms_hold Minus Zero some a b e v = unless_same_holds b.y a.y (line (num Minus) (num Zero) a b) e v (λ same. self_difference b.y a.y e v (pos 0) same refl)
+line_atoms_hold Minus Plus some a b e v = (λ h. h.0, λ h. (h, tt))
+line_atoms_hold Minus More some a b e v = (λ h. h.0, λ h. (h, tt))
+line_atoms_hold Zero Less some a b e v = absurd (none_of (num Zero) (num Less) (λ e. omega (arith, e)) (λ e. omega (arith, e)) some)
+line_atoms_hold Zero Minus some a b e v = unless_same_holds b.x a.x (line (num Zero) (num Minus) a b) e v (λ same. self_difference b.x a.x e v (pos 0) same refl)
+line_atoms_hold Zero Zero some a b e v = absurd (none_of (num Zero) (num Zero) (λ e. omega (arith, e)) (λ e. omega (arith, e)) some)
+line_atoms_hold Zero Plus some a b e v = unless_same_holds b.x a.x (line (num Zero) (num Plus) a b) e v (λ same. self_difference b.x a.x e v (pos 0) same refl)
+line_atoms_hold Zero More some a b e v = absurd (none_of (num Zero) (num More) (λ e. omega (arith, e)) (λ e. omega (arith, e)) some)
+line_atoms_hold Plus Less some a b e v = (λ h. h.0, λ h. (h, tt))
+line_atoms_hold Plus Minus some a b e v = (λ h. h.0, λ h. (h, tt))
+line_atoms_hold Plus Zero some a b e v = unless_same_holds b.y a.y (line (num Plus) (num Zero) a b) e v (λ same. self_difference b.y a.y e v (pos 0) same refl)
+line_atoms_hold Plus Plus some a b e v = (λ h. h.0, λ h. (h, tt))
+line_atoms_hold Plus More some a b e v = (λ h. h.0, λ h. (h, tt))
+line_atoms_hold More Less some a b e v = absurd (none_of (num More) (num Less) (λ e. omega (arith, e)) (λ e. omega (arith, e)) some)
+line_atoms_hold More Minus some a b e v = (λ h. h.0, λ h. (h, tt))
+line_atoms_hold More Zero some a b e v = absurd (none_of (num More) (num Zero) (λ e. omega (arith, e)) (λ e. omega (arith, e)) some)
+line_atoms_hold More Plus some a b e v = (λ h. h.0, λ h. (h, tt))
+line_atoms_hold More More some a b e v = absurd (none_of (num More) (num More) (λ e. omega (arith, e)) (λ e. omega (arith, e)) some)
 
 pub one_step : (a b d : ℤ) (t : ℕ) → t ≡ 1 → b ≡ a +ℤ (pos t *ℤ d) → b ≡ a +ℤ d
 one_step a b d t one h = let f : b ≡ a +ℤ (pos 1 *ℤ d) = subst (λ n. b ≡ a +ℤ (pos n *ℤ d)) one h in omega (arith, ints)
@@ -184,7 +260,7 @@ pub record IsWithin (r : Ray) (a z : Square) (n : ℕ) : Type 0 where
   pub before : distance < n
   pub steps : IsSteps r a z distance
 
-far_on_holds : (x y : Sign) → IsSome x y → (a b z : Seat) (e : Sets) (v : Values) (extent : Extent) {t : ℕ}
+far_on_holds : (x y : Sign) → IsDirection (num x) (num y) → (a b z : Seat) (e : Sets) (v : Values) (extent : Extent) {t : ℕ}
     → IsSteps (slide (num x) (num y)) (at v a) (at v b) t → (m : ℕ) → (pos t +ℤ past extent) +ℤ pos 1 ≡ pos m
     → Holds (on (slide (num x) (num y)) a b extent z) e v ↔ IsWithin (slide (num x) (num y)) (at v a) (at v z) m
 far_on_holds x y some a b z e v extent {t} steps m is = (
@@ -219,12 +295,10 @@ between_holds (far x y some) is_far a b z e v w = far_on_holds x y some a b z e 
 between_holds (near dx dy some) is_far a b z e v w = absurd (cc)
 
 -- a square is at most one number of steps away along a slide
-pub slide_steps_same : (x y : Sign) → IsSome x y → {a z : Square} {s t : ℕ} → IsSteps (slide (num x) (num y)) a z s → IsSteps (slide (num x) (num y)) a z t → s ≡ t
-slide_steps_same Zero Zero some h k = absurd some
-slide_steps_same Zero Plus some h k = omega (arith, ints, h.up, k.up)
-slide_steps_same Zero Minus some h k = omega (arith, ints, h.up, k.up)
-slide_steps_same Plus _ some h k = omega (arith, ints, h.right, k.right)
-slide_steps_same Minus _ some h k = omega (arith, ints, h.right, k.right)
+pub slide_steps_same : (x y : Sign) → IsDirection (num x) (num y) → {a z : Square} {s t : ℕ} → IsSteps (slide (num x) (num y)) a z s → IsSteps (slide (num x) (num y)) a z t → s ≡ t
+slide_steps_same x y some {a} {z} {s} {t} h k =
+    sym (steps_distance a z (num x) (num y) some s (square_at z (after_steps a s (num x) (num y)) h.right h.up))
+    ∙ steps_distance a z (num x) (num y) some t (square_at z (after_steps a t (num x) (num y)) k.right k.up)
 
 pub no_steps : (r : Ray) (a : Square) → IsSteps r a a 0
 no_steps r a = record { right = omega (arith, ints); up = omega (arith, ints) }

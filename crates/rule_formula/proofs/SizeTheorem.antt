@@ -1,6 +1,6 @@
 -- The formulas of the rules are small, and name the sets that they are given.
-use Rattle.std.proofs.Common.{◌≡◌, ◌≢◌, ◌⊎◌, ℕ, zero, suc, ◌+◌, ◌*◌, ◌%◌, ◌<◌, ◌≤◌, ℤ, pos, negsuc, unsigned_abs, Bool, true, false, List, [], ◌∷◌, ◌++◌, length, Option, Some, None, inl, inr, refl, sym, ap, ◌∙◌, subst, lit≤, arith, length-append}
-use Rattle.std.specs.Prelude.{◌==◌, ◌&&◌, not, if◌then◌else◌, slice_get}
+use Rattle.std.proofs.Common.{◌≡◌, ◌≢◌, ◌⊎◌, ℕ, zero, suc, ◌+◌, ◌*◌, ◌%◌, ◌<◌, ◌≤◌, ℤ, pos, negsuc, unsigned_abs, Bool, true, false, List, [], ◌∷◌, ◌++◌, length, Option, Some, None, inl, inr, refl, sym, ap, ◌∙◌, subst, arith, length-append}
+use Rattle.std.specs.Prelude.{◌==◌, ◌&&◌, not, if◌then◌else◌}
 use Rattle.std.specs.List.{All}
 use Rattle.std.proofs.lemmas.Int.{ints}
 use Rattle.std.proofs.lemmas.Bool.Decides.{nat_tests}
@@ -8,55 +8,49 @@ use Rattle.track_word.specs.declared.tracks.Var.{Var}
 use Rattle.track_word.specs.declared.atoms.Rel.{Rel}
 use Rattle.track_word.specs.declared.atoms.Rel.TheVariants.{Eq, Le}
 use Rattle.track_word.specs.Atom.{IsBound}
-use Rattle.game_rules.specs.declared.men.Kind.{Kind}
-use Rattle.game_rules.specs.declared.men.Kind.TheVariants.{King, Queen, Rook, Bishop, Knight, Pawn}
 use Rattle.game_rules.specs.declared.men.Side.{Side}
-use Rattle.game_rules.specs.declared.men.Side.TheVariants.{White, Black}
 use Rattle.game_rules.specs.declared.men.Man.{Man}
 use Rattle.game_rules.specs.declared.men.Ray.{Ray}
 use Rattle.game_rules.specs.declared.men.Square.{Square}
-use Rattle.game_rules.specs.Rays.{ray_of, rays_of}
+use Rattle.game_rules.specs.Rays.{ray_of}
 use Rattle.lin_formula.specs.Tree.{Tree, memberships, steps}
 use Rattle.lin_formula.specs.Tree as tree
 use Rattle.rule_formula.specs.declared.opt.Opt.{Opt}
 use Rattle.rule_formula.specs.declared.atoms.Extent.{Extent}
 use Rattle.rule_formula.specs.declared.atoms.Extent.TheVariants.{Onto, Before}
 use Rattle.rule_formula.specs.declared.seats.Seat.{Seat}
-use Rattle.rule_formula.specs.Placed.{IsLiveIn, is_live, stock_man, without}
+use Rattle.rule_formula.specs.Placed.{IsLiveIn, is_live, without}
+use Rattle.mask_sets.specs.Stock.{stock_man}
 use Rattle.rule_formula.specs.Seats.{elsewhere, new_seat, new_seats, old_seats, own, seats_with, spare, swept, vars_to}
-use Rattle.rule_formula.specs.Trees.{AreApart, IsCounted, IsDrawn, Suits, ahead, and_all, and_maybe, bear_of, bear_tree, clear, clear_as, difference, ex_swept, falling, image_body, image_of, image_tree, is_other, line, line_atoms, man_square, on, on_as, ordered, past, point_of, point_to, pre_body, pre_of, pre_tree, ray_at, ray_atoms, rising, safe_of, safe_tree, tracks_of, twins_tree, unless_same, atoms_as, with_square}
+use Rattle.rule_formula.specs.Trees.{AreApart, IsCounted, IsDrawn, Suits, ahead, and_all, and_maybe, bear_of, bear_tree, clear, clear_as, difference, ex_swept, falling, image_body, image_of, image_tree, is_other, leaping, line, line_atoms, man_square, on, on_as, ordered, past, point_of, point_to, pre_body, pre_of, pre_tree, ray_at, ray_atoms, rising, safe_of, safe_tree, tracks_of, twins_tree, unless_same, atoms_as, with_square}
 use Rattle.rule_formula.specs.Meaning.{IsBearer, IsOptionOf, IsPrey}
 use Rattle.rule_formula.specs.Size.{IsModest, IsOver, NamesBoth, NamesOnly, NamesBeforeAndAfter}
 use Rattle.rule_formula.proofs.ApartLemmas.{apart_back, apart_counted, apart_drawn, own_others}
 use Rattle.rule_formula.proofs.BearLemmas.{IsNumber, stock_number}
-use Rattle.rule_formula.proofs.FineLemmas.{IsFine, IsLow, fine_few, fine_made, fine_names, four_atom, two_atom}
+use Rattle.rule_formula.proofs.FineLemmas.{IsFine, IsLow, fine_few, fine_made, fine_names, four_atom, leaping_atom, minus_factor, one_factor, two_atom}
 use Rattle.rule_formula.proofs.FormulaLemmas.{own_apart}
-use Rattle.rule_formula.proofs.KindLemmas.{fair_moves, ray_is}
+use Rattle.game_rules.specs.Game.{IsDirection}
+use Rattle.game_laws.proofs.LineLemmas.{direction_small_x, direction_small_y}
+use Rattle.game_laws.proofs.TableLemmas.{ray_is as table_ray}
 use Rattle.rule_formula.proofs.MeaningLemmas.{ray_at_is}
 use Rattle.rule_formula.proofs.MoveLemmas.{option_untaken}
 use Rattle.rule_formula.proofs.SweptLemmas.{from_spare, new_suits}
 
--- the steps of a ray are short
-abbrev IsSmallRay : Ray → Type 0
-IsSmallRay r = (unsigned_abs r.dx ≤ 2) × (unsigned_abs r.dy ≤ 2)
+-- what holds of both holds of either
+either_tree : (P : Tree → Type 0) (b : Bool) (f g : Tree) → P f → P g → P (if b then f else g)
+either_tree P true f g h k = h
+either_tree P false f g h k = k
 
-abbrev AreSmall : List Ray → Type 0
-AreSmall [] = Unit {0}
-AreSmall (r ∷ rs) = IsSmallRay r × AreSmall rs
+-- what holds of each where it is meant
+chosen_tree : (P : Tree → Type 0) (m n : ℕ) (f g : Tree) → (m ≡ n → P f) → ((m ≡ n → ⊥) → P g) → P (if m == n then f else g)
+chosen_tree P m n f g h k = cases (m == n) (λ e. h (grind (arith, nat_tests))) (λ e. k (λ same. differs m n e same))
+  where
+    differs : (a b : ℕ) → (a == b) ≡ false → a ≡ b → ⊥
+    differs a b e same = grind (arith, nat_tests)
 
-rays_small : (k : Kind) (s : Side) → AreSmall (rays_of k s)
-rays_small King s = ((lit≤ tt, lit≤ tt), ((lit≤ tt, lit≤ tt), ((lit≤ tt, lit≤ tt), ((lit≤ tt, lit≤ tt), ((lit≤ tt, lit≤ tt), ((lit≤ tt, lit≤ tt), ((lit≤ tt, lit≤ tt), ((lit≤ tt, lit≤ tt), tt))))))))
-rays_small Queen s = ((lit≤ tt, lit≤ tt), ((lit≤ tt, lit≤ tt), ((lit≤ tt, lit≤ tt), ((lit≤ tt, lit≤ tt), ((lit≤ tt, lit≤ tt), ((lit≤ tt, lit≤ tt), ((lit≤ tt, lit≤ tt), ((lit≤ tt, lit≤ tt), tt))))))))
-rays_small Rook s = ((lit≤ tt, lit≤ tt), ((lit≤ tt, lit≤ tt), ((lit≤ tt, lit≤ tt), ((lit≤ tt, lit≤ tt), tt))))
-rays_small Bishop s = ((lit≤ tt, lit≤ tt), ((lit≤ tt, lit≤ tt), ((lit≤ tt, lit≤ tt), ((lit≤ tt, lit≤ tt), tt))))
-rays_small Knight s = ((lit≤ tt, lit≤ tt), ((lit≤ tt, lit≤ tt), ((lit≤ tt, lit≤ tt), ((lit≤ tt, lit≤ tt), ((lit≤ tt, lit≤ tt), ((lit≤ tt, lit≤ tt), ((lit≤ tt, lit≤ tt), ((lit≤ tt, lit≤ tt), tt))))))))
-rays_small Pawn White = ((lit≤ tt, lit≤ tt), ((lit≤ tt, lit≤ tt), ((lit≤ tt, lit≤ tt), tt)))
-rays_small Pawn Black = ((lit≤ tt, lit≤ tt), ((lit≤ tt, lit≤ tt), ((lit≤ tt, lit≤ tt), tt)))
-
-small_in : (rs : List Ray) (n : ℕ) (r : Ray) → AreSmall rs → slice_get rs n ≡ Some r → IsSmallRay r
-small_in [] n r h is = absurd (cc)
-small_in (x ∷ rs) zero r h is = let same : x ≡ r = cc in subst IsSmallRay same h.0
-small_in (x ∷ rs) (suc n) r h is = small_in rs n r h.1 is
+    cases : (b : Bool) → (b ≡ true → P f) → (b ≡ false → P g) → P (if b then f else g)
+    cases true h k = h refl
+    cases false h k = k refl
 
 small_bound : (d : ℤ) → unsigned_abs d ≤ 2 → IsBound d
 small_bound d h = (omega (arith, ints, h), omega (arith, ints, h))
@@ -115,45 +109,83 @@ difference_fine P x y rel n ne first second bound = (two_atom x y n ne bound, (f
 
 rising_fine : (P : ℕ × List Var → Type 0) {a b : Seat} → IsGood a → IsGood b → b.x.0 ≢ a.x.0 → b.y.0 ≢ a.y.0 → IsFine P (rising a b)
 rising_fine P {a} {b} from to across along = (
-  four_atom (pos 1) (negsuc 0) (negsuc 0) (pos 1) b.x a.x b.y a.y across along from.even to.even from.odd to.odd (inl refl) (inr refl) (inr refl) (inl refl),
+  four_atom (pos 1) (negsuc 0) (negsuc 0) (pos 1) b.x a.x b.y a.y across along from.even to.even from.odd to.odd one_factor minus_factor minus_factor one_factor,
   (to.x_low, (from.x_low, (to.y_low, (from.y_low, tt)))),
 )
 
 falling_fine : (P : ℕ × List Var → Type 0) {a b : Seat} → IsGood a → IsGood b → b.x.0 ≢ a.x.0 → b.y.0 ≢ a.y.0 → IsFine P (falling a b)
 falling_fine P {a} {b} from to across along = (
-  four_atom (pos 1) (negsuc 0) (pos 1) (negsuc 0) b.x a.x b.y a.y across along from.even to.even from.odd to.odd (inl refl) (inr refl) (inl refl) (inr refl),
+  four_atom (pos 1) (negsuc 0) (pos 1) (negsuc 0) b.x a.x b.y a.y across along from.even to.even from.odd to.odd one_factor minus_factor one_factor minus_factor,
   (to.x_low, (from.x_low, (to.y_low, (from.y_low, tt)))),
 )
 
-line_fine : (P : ℕ × List Var → Type 0) {dx dy : ℤ} {a b : Seat} → IsGood a → IsGood b → IsDrawn dx dy a b → IsFine P (line dx dy a b)
-line_fine P {dx = pos zero} {a} {b} from to drawn = difference_fine P b.x a.x Eq (pos 0) (drawn.across refl) to.x_low from.x_low zero_bound
-line_fine P {dx = pos (suc dx)} {dy = pos zero} {a} {b} from to drawn = difference_fine P b.y a.y Eq (pos 0) (drawn.along refl) to.y_low from.y_low zero_bound
-line_fine P {dx = negsuc dx} {dy = pos zero} {a} {b} from to drawn = difference_fine P b.y a.y Eq (pos 0) (drawn.along refl) to.y_low from.y_low zero_bound
-line_fine P {dx = pos (suc dx)} {dy = pos (suc dy)} from to drawn =
-    let w = drawn.aslant (λ e. omega (arith, ints, e)) (λ e. omega (arith, ints, e)) in rising_fine P from to w.0 w.1
-line_fine P {dx = pos (suc dx)} {dy = negsuc dy} from to drawn =
-    let w = drawn.aslant (λ e. omega (arith, ints, e)) (λ e. omega (arith, ints, e)) in falling_fine P from to w.0 w.1
-line_fine P {dx = negsuc dx} {dy = pos (suc dy)} from to drawn =
-    let w = drawn.aslant (λ e. omega (arith, ints, e)) (λ e. omega (arith, ints, e)) in falling_fine P from to w.0 w.1
-line_fine P {dx = negsuc dx} {dy = negsuc dy} from to drawn =
-    let w = drawn.aslant (λ e. omega (arith, ints, e)) (λ e. omega (arith, ints, e)) in rising_fine P from to w.0 w.1
+leaping_fine : (P : ℕ × List Var → Type 0) (dx dy : ℤ) {a b : Seat} → IsGood a → IsGood b → b.x.0 ≢ a.x.0 → b.y.0 ≢ a.y.0 → dx ≢ pos 0 → dy ≢ pos 0
+    → unsigned_abs dx ≤ 2 → unsigned_abs dy ≤ 2 → IsFine P (leaping dx dy a b)
+leaping_fine P dx dy {a} {b} from to across along right up short_right short_up = (
+  leaping_atom dx dy b.x a.x b.y a.y across along from.even to.even from.odd to.odd right up short_right short_up,
+  (to.x_low, (from.x_low, (to.y_low, (from.y_low, tt)))),
+)
+
+-- a line that is no row and no column
+slanting_fine : (P : ℕ × List Var → Type 0) (dx dy : ℤ) {a b : Seat} → IsGood a → IsGood b → b.x.0 ≢ a.x.0 → b.y.0 ≢ a.y.0 → dx ≢ pos 0 → dy ≢ pos 0
+    → unsigned_abs dx ≤ 2 → unsigned_abs dy ≤ 2 → IsFine P (line dx dy a b)
+slanting_fine P (pos zero) dy from to across along right up short_right short_up = absurd (right refl)
+slanting_fine P (pos (suc dx)) (pos zero) from to across along right up short_right short_up = absurd (up refl)
+slanting_fine P (negsuc dx) (pos zero) from to across along right up short_right short_up = absurd (up refl)
+slanting_fine P (pos (suc dx)) (pos (suc dy)) {a} {b} from to across along right up short_right short_up =
+    either_tree (IsFine P) (dx == dy) (rising a b) (leaping (pos (suc dx)) (pos (suc dy)) a b) (rising_fine P from to across along)
+    (leaping_fine P (pos (suc dx)) (pos (suc dy)) from to across along right up short_right short_up)
+slanting_fine P (pos (suc dx)) (negsuc dy) {a} {b} from to across along right up short_right short_up =
+    either_tree (IsFine P) (dx == dy) (falling a b) (leaping (pos (suc dx)) (negsuc dy) a b) (falling_fine P from to across along)
+    (leaping_fine P (pos (suc dx)) (negsuc dy) from to across along right up short_right short_up)
+slanting_fine P (negsuc dx) (pos (suc dy)) {a} {b} from to across along right up short_right short_up =
+    either_tree (IsFine P) (dx == dy) (falling a b) (leaping (negsuc dx) (pos (suc dy)) a b) (falling_fine P from to across along)
+    (leaping_fine P (negsuc dx) (pos (suc dy)) from to across along right up short_right short_up)
+slanting_fine P (negsuc dx) (negsuc dy) {a} {b} from to across along right up short_right short_up =
+    either_tree (IsFine P) (dx == dy) (rising a b) (leaping (negsuc dx) (negsuc dy) a b) (rising_fine P from to across along)
+    (leaping_fine P (negsuc dx) (negsuc dy) from to across along right up short_right short_up)
+
+line_fine : (P : ℕ × List Var → Type 0) (dx dy : ℤ) {a b : Seat} → IsGood a → IsGood b → IsDrawn dx dy a b → unsigned_abs dx ≤ 2 → unsigned_abs dy ≤ 2 → IsFine P (line dx dy a b)
+line_fine P (pos zero) dy {a} {b} from to drawn short_right short_up = difference_fine P b.x a.x Eq (pos 0) (drawn.across refl) to.x_low from.x_low zero_bound
+line_fine P (pos (suc dx)) (pos zero) {a} {b} from to drawn short_right short_up = difference_fine P b.y a.y Eq (pos 0) (drawn.along refl) to.y_low from.y_low zero_bound
+line_fine P (negsuc dx) (pos zero) {a} {b} from to drawn short_right short_up = difference_fine P b.y a.y Eq (pos 0) (drawn.along refl) to.y_low from.y_low zero_bound
+line_fine P (pos (suc dx)) (pos (suc dy)) from to drawn short_right short_up =
+    let right : pos (suc dx) ≢ pos 0 = λ e. omega (arith, ints, e) in
+    let up : pos (suc dy) ≢ pos 0 = λ e. omega (arith, ints, e) in
+    let w = drawn.aslant right up in slanting_fine P (pos (suc dx)) (pos (suc dy)) from to w.0 w.1 right up short_right short_up
+line_fine P (pos (suc dx)) (negsuc dy) from to drawn short_right short_up =
+    let right : pos (suc dx) ≢ pos 0 = λ e. omega (arith, ints, e) in
+    let up : negsuc dy ≢ pos 0 = λ e. omega (arith, ints, e) in
+    let w = drawn.aslant right up in slanting_fine P (pos (suc dx)) (negsuc dy) from to w.0 w.1 right up short_right short_up
+line_fine P (negsuc dx) (pos (suc dy)) from to drawn short_right short_up =
+    let right : negsuc dx ≢ pos 0 = λ e. omega (arith, ints, e) in
+    let up : pos (suc dy) ≢ pos 0 = λ e. omega (arith, ints, e) in
+    let w = drawn.aslant right up in slanting_fine P (negsuc dx) (pos (suc dy)) from to w.0 w.1 right up short_right short_up
+line_fine P (negsuc dx) (negsuc dy) from to drawn short_right short_up =
+    let right : negsuc dx ≢ pos 0 = λ e. omega (arith, ints, e) in
+    let up : negsuc dy ≢ pos 0 = λ e. omega (arith, ints, e) in
+    let w = drawn.aslant right up in slanting_fine P (negsuc dx) (negsuc dy) from to w.0 w.1 right up short_right short_up
 
 ordered_fine : (P : ℕ × List Var → Type 0) (d : ℤ) (x y : Var) (n : ℤ) → x.0 ≢ y.0 → x.0 < 18 → y.0 < 18 → IsBound n → IsFine P (ordered d x y n)
 ordered_fine P (pos d) x y n ne first second bound = difference_fine P x y Le n ne first second bound
 ordered_fine P (negsuc d) x y n ne first second bound = difference_fine P y x Le n (λ e. ne (sym e)) second first bound
 
 ahead_fine : (P : ℕ × List Var → Type 0) (dx dy : ℤ) (a b : Seat) (extent : Extent) → IsGood a → IsGood b → IsCounted dx dy a b → IsFine P (ahead dx dy a b extent)
-ahead_fine P (pos zero) dy a b extent from to counted = ordered_fine P dy a.y b.y (past extent) (counted.along refl) from.y_low to.y_low (past_bound extent)
-ahead_fine P (pos (suc dx)) dy a b extent from to counted = ordered_fine P (pos (suc dx)) a.x b.x (past extent) (counted.across (λ e. omega (arith, ints, e))) from.x_low to.x_low (past_bound extent)
-ahead_fine P (negsuc dx) dy a b extent from to counted = ordered_fine P (negsuc dx) a.x b.x (past extent) (counted.across (λ e. omega (arith, ints, e))) from.x_low to.x_low (past_bound extent)
+ahead_fine P dx dy a b extent from to counted =
+    chosen_tree (IsFine P) (unsigned_abs dx) 1 (ordered dx a.x b.x (past extent)) (ordered dy a.y b.y (past extent))
+    (λ one. ordered_fine P dx a.x b.x (past extent) (counted.across one) from.x_low to.x_low (past_bound extent))
+    (λ off. ordered_fine P dy a.y b.y (past extent) (counted.along off) from.y_low to.y_low (past_bound extent))
 
-on_fine : (P : ℕ × List Var → Type 0) (far : Bool) (dx dy : ℤ) {a b z : Seat} (extent : Extent) → IsGood a → IsGood b
+on_fine : (P : ℕ × List Var → Type 0) (far : Bool) (dx dy : ℤ) {a b z : Seat} (extent : Extent) → IsDirection dx dy → IsGood a → IsGood b
     → IsGood z → AreApart a z → AreApart z b → IsFine P (on_as far dx dy a b z extent)
-on_fine P true dx dy {a} {b} {z} extent from to middle first last = (
-  (line_fine P from middle (apart_drawn dx dy first), ahead_fine P dx dy a z Before from middle (apart_counted dx dy first)),
+on_fine P true dx dy {a} {b} {z} extent direction from to middle first last = (
+  (
+    line_fine P dx dy from middle (apart_drawn dx dy first) (direction_small_x dx dy direction) (direction_small_y dx dy direction),
+    ahead_fine P dx dy a z Before from middle (apart_counted dx dy first),
+  ),
   ahead_fine P dx dy z b extent middle to (apart_counted dx dy last),
 )
-on_fine P false dx dy {b} {z} extent from to middle first last =
+on_fine P false dx dy {b} {z} extent direction from to middle first last =
     (difference_fine P z.x b.x Eq (pos 0) last.across middle.x_low to.x_low zero_bound, difference_fine P z.y b.y Eq (pos 0) last.along middle.y_low to.y_low zero_bound)
 
 -- each formula of a list is fine
@@ -179,38 +211,60 @@ unless_fine P x y f h = cases (x.0 == y.0) f (λ e. h (λ same. differs x.0 y.0 
     cases true f h = tt
     cases false f h = (h refl, tt)
 
-line_atoms_fine : (P : ℕ × List Var → Type 0) (r : Ray) (dx dy : ℤ) (a b : Seat) → IsGood a → IsGood b → Suits r a b → dx ≡ r.dx → dy ≡ r.dy → AreFine P (line_atoms dx dy a b)
-line_atoms_fine P r (pos zero) dy a b from to suits ex ey =
+line_atoms_fine : (P : ℕ × List Var → Type 0) (r : Ray) (dx dy : ℤ) (a b : Seat) → IsGood a → IsGood b → Suits r a b → dx ≡ r.dx → dy ≡ r.dy
+    → unsigned_abs dx ≤ 2 → unsigned_abs dy ≤ 2 → AreFine P (line_atoms dx dy a b)
+line_atoms_fine P r (pos zero) dy a b from to suits ex ey short_right short_up =
     unless_fine P b.x a.x (line (pos zero) dy a b) (λ ne. difference_fine P b.x a.x Eq (pos 0) ne to.x_low from.x_low zero_bound)
-line_atoms_fine P r (pos (suc dx)) (pos zero) a b from to suits ex ey =
+line_atoms_fine P r (pos (suc dx)) (pos zero) a b from to suits ex ey short_right short_up =
     unless_fine P b.y a.y (line (pos (suc dx)) (pos zero) a b) (λ ne. difference_fine P b.y a.y Eq (pos 0) ne to.y_low from.y_low zero_bound)
-line_atoms_fine P r (negsuc dx) (pos zero) a b from to suits ex ey =
+line_atoms_fine P r (negsuc dx) (pos zero) a b from to suits ex ey short_right short_up =
     unless_fine P b.y a.y (line (negsuc dx) (pos zero) a b) (λ ne. difference_fine P b.y a.y Eq (pos 0) ne to.y_low from.y_low zero_bound)
-line_atoms_fine P r (pos (suc dx)) (pos (suc dy)) a b from to suits ex ey =
-    (rising_fine P from to (λ e. omega (arith, ints, ex ∙ suits.across e)) (λ e. omega (arith, ints, ey ∙ suits.along e)), tt)
-line_atoms_fine P r (pos (suc dx)) (negsuc dy) a b from to suits ex ey =
-    (falling_fine P from to (λ e. omega (arith, ints, ex ∙ suits.across e)) (λ e. omega (arith, ints, ey ∙ suits.along e)), tt)
-line_atoms_fine P r (negsuc dx) (pos (suc dy)) a b from to suits ex ey =
-    (falling_fine P from to (λ e. omega (arith, ints, ex ∙ suits.across e)) (λ e. omega (arith, ints, ey ∙ suits.along e)), tt)
-line_atoms_fine P r (negsuc dx) (negsuc dy) a b from to suits ex ey =
-    (rising_fine P from to (λ e. omega (arith, ints, ex ∙ suits.across e)) (λ e. omega (arith, ints, ey ∙ suits.along e)), tt)
+line_atoms_fine P r (pos (suc dx)) (pos (suc dy)) a b from to suits ex ey short_right short_up = (
+  slanting_fine P (pos (suc dx)) (pos (suc dy)) from to (λ e. omega (arith, ints, ex ∙ suits.across e)) (λ e. omega (arith, ints, ey ∙ suits.along e))
+      (λ e. omega (arith, ints, e)) (λ e. omega (arith, ints, e)) short_right short_up,
+  tt,
+)
+line_atoms_fine P r (pos (suc dx)) (negsuc dy) a b from to suits ex ey short_right short_up = (
+  slanting_fine P (pos (suc dx)) (negsuc dy) from to (λ e. omega (arith, ints, ex ∙ suits.across e)) (λ e. omega (arith, ints, ey ∙ suits.along e))
+      (λ e. omega (arith, ints, e)) (λ e. omega (arith, ints, e)) short_right short_up,
+  tt,
+)
+line_atoms_fine P r (negsuc dx) (pos (suc dy)) a b from to suits ex ey short_right short_up = (
+  slanting_fine P (negsuc dx) (pos (suc dy)) from to (λ e. omega (arith, ints, ex ∙ suits.across e)) (λ e. omega (arith, ints, ey ∙ suits.along e))
+      (λ e. omega (arith, ints, e)) (λ e. omega (arith, ints, e)) short_right short_up,
+  tt,
+)
+line_atoms_fine P r (negsuc dx) (negsuc dy) a b from to suits ex ey short_right short_up = (
+  slanting_fine P (negsuc dx) (negsuc dy) from to (λ e. omega (arith, ints, ex ∙ suits.across e)) (λ e. omega (arith, ints, ey ∙ suits.along e))
+      (λ e. omega (arith, ints, e)) (λ e. omega (arith, ints, e)) short_right short_up,
+  tt,
+)
 
--- what a ray of the table needs for its atoms to be well made
+-- a ray of the table goes by a direction
 record IsGoodRay (r : Ray) : Type 0 where
-  small : IsSmallRay r
-  moves : r.dx ≡ pos 0 → r.dy ≡ pos 0 → ⊥
+  direction : IsDirection r.dx r.dy
+
+-- a direction along a row goes one to a side
+level_one : (dx dy : ℤ) → IsDirection dx dy → (unsigned_abs dx ≡ 1 → ⊥) → dy ≡ pos 0 → ⊥
+level_one dx dy (inl h) off none = off h.0
+level_one dx dy (inr h) off none = omega (arith, h.0, ap unsigned_abs none)
 
 suits_counted : (r : Ray) (a b : Seat) → IsGoodRay r → Suits r a b → IsCounted r.dx r.dy a b
-suits_counted r a b good suits = record { across = λ e same. e (suits.across (sym same)); along = λ e same. good.moves e (suits.along (sym same)) }
+suits_counted r a b ray suits =
+    record {
+      across = λ one same. omega (arith, one, ap unsigned_abs (suits.across (sym same)));
+      along = λ off same. level_one r.dx r.dy ray.direction off (suits.along (sym same));
+    }
 
 ray_atoms_as : (P : ℕ × List Var → Type 0) (b : Bool) {r : Ray} {f g : Seat} → IsGoodRay r → IsGood f → IsGood g → Suits r f g → AreFine P (atoms_as b r.dx r.dy f g)
 ray_atoms_as P true {r} {f} {g} ray from to suits =
-    are_fine-append P (line_atoms r.dx r.dy f g) (ahead r.dx r.dy f g Before ∷ []) (line_atoms_fine P r r.dx r.dy f g from to suits refl refl)
+    are_fine-append P (line_atoms r.dx r.dy f g) (ahead r.dx r.dy f g Before ∷ [])
+    (line_atoms_fine P r r.dx r.dy f g from to suits refl refl (direction_small_x r.dx r.dy ray.direction) (direction_small_y r.dx r.dy ray.direction))
     (ahead_fine P r.dx r.dy f g Before from to (suits_counted r f g ray suits), tt)
 ray_atoms_as P false {r} {f} {g} ray from to suits =
     are_fine-append P (unless_same g.x f.x (difference g.x f.x Eq r.dx)) (unless_same g.y f.y (difference g.y f.y Eq r.dy))
-    (unless_fine P g.x f.x (difference g.x f.x Eq r.dx) (λ ne. difference_fine P g.x f.x Eq r.dx ne to.x_low from.x_low (small_bound r.dx ray.small.0)))
-    (unless_fine P g.y f.y (difference g.y f.y Eq r.dy) (λ ne. difference_fine P g.y f.y Eq r.dy ne to.y_low from.y_low (small_bound r.dy ray.small.1)))
+    (unless_fine P g.x f.x (difference g.x f.x Eq r.dx) (λ ne. difference_fine P g.x f.x Eq r.dx ne to.x_low from.x_low (small_bound r.dx (direction_small_x r.dx r.dy ray.direction))))
+    (unless_fine P g.y f.y (difference g.y f.y Eq r.dy) (λ ne. difference_fine P g.y f.y Eq r.dy ne to.y_low from.y_low (small_bound r.dy (direction_small_y r.dx r.dy ray.direction))))
 
 if_fine : (P : ℕ × List Var → Type 0) (b : Bool) (f g : Tree) → IsFine P f → (b ≡ true → IsFine P g) → IsFine P (if b then tree.And f (tree.Not g) else f)
 if_fine P true f g h k = (h, k refl)
@@ -278,7 +332,7 @@ path_fine P f r a b extent live i j m h ray from to suits few first last =
     clear_fine P (and_all f (ray_atoms r a b)) (λ k. on r a b extent (own k)) live i j m
     (and_all_fine P f (ray_atoms r a b) h (ray_atoms_as P r.far ray from to suits))
     (λ k low high other second. let small : k ≤ 8 = omega (arith, high, few) in
-    on_fine P r.far r.dx r.dy extent from to (own_good k low small) (first k low small other second) (last k low small other second))
+    on_fine P r.far r.dx r.dy extent ray.direction from to (own_good k low small) (first k low small other second) (last k low small other second))
 
 image_fine : (P : ℕ × List Var → Type 0) (n mask i t s : ℕ) {r : Ray} → n ≤ 8 → 0 < i → i ≤ 8 → IsGoodRay r
     → P (s, vars_to (old_seats r i t) (is_live mask) n) → IsFine P (image_tree n mask i r t s)
@@ -323,7 +377,7 @@ bear_fine P n mask k g s r few low high first last ne ray named =
     (ray_atoms_as P r.far ray from to (own_apart k g r low first ne)))
     (λ l begin end other second.
     let small : l ≤ 8 = omega (arith, end, few) in
-    on_fine P r.far r.dx r.dy Before from to (own_good l begin small) (own_others k l low begin (λ e. other (sym e))) (own_others l g begin first second))
+    on_fine P r.far r.dx r.dy Before ray.direction from to (own_good l begin small) (own_others k l low begin (λ e. other (sym e))) (own_others l g begin first second))
 
 safe_fine : (P : ℕ × List Var → Type 0) (n mask k g s : ℕ) (r : Ray) → n ≤ 8 → 0 < k → k ≤ 8 → 0 < g → g ≤ 8 → k ≢ g → IsGoodRay r
     → P (s, vars_to own (is_live mask) n) → IsFine P (safe_tree n mask k r g s)
@@ -364,23 +418,26 @@ unfolding maybe_fine
 point_fine P men t few is = subst (maybe_fine P) is (point_to_fine P men (length men) few)
 
 -- no step in a line
+abbrev HasNoSteps : Tree → Type 0
+HasNoSteps f = length (steps f) ≡ 0
+
 line_steps : (dx dy : ℤ) (a b : Seat) → length (steps (line dx dy a b)) ≡ 0
 line_steps (pos zero) dy a b = refl
 line_steps (pos (suc dx)) (pos zero) a b = refl
-line_steps (pos (suc dx)) (pos (suc dy)) a b = refl
-line_steps (pos (suc dx)) (negsuc dy) a b = refl
 line_steps (negsuc dx) (pos zero) a b = refl
-line_steps (negsuc dx) (pos (suc dy)) a b = refl
-line_steps (negsuc dx) (negsuc dy) a b = refl
+line_steps (pos (suc dx)) (pos (suc dy)) a b = either_tree HasNoSteps (dx == dy) (rising a b) (leaping (pos (suc dx)) (pos (suc dy)) a b) refl refl
+line_steps (pos (suc dx)) (negsuc dy) a b = either_tree HasNoSteps (dx == dy) (falling a b) (leaping (pos (suc dx)) (negsuc dy) a b) refl refl
+line_steps (negsuc dx) (pos (suc dy)) a b = either_tree HasNoSteps (dx == dy) (falling a b) (leaping (negsuc dx) (pos (suc dy)) a b) refl refl
+line_steps (negsuc dx) (negsuc dy) a b = either_tree HasNoSteps (dx == dy) (rising a b) (leaping (negsuc dx) (negsuc dy) a b) refl refl
 
 ordered_steps : (d : ℤ) (x y : Var) (n : ℤ) → length (steps (ordered d x y n)) ≡ 0
 ordered_steps (pos d) x y n = refl
 ordered_steps (negsuc d) x y n = refl
 
 ahead_steps : (dx dy : ℤ) (a b : Seat) (extent : Extent) → length (steps (ahead dx dy a b extent)) ≡ 0
-ahead_steps (pos zero) dy a b extent = ordered_steps dy a.y b.y (past extent)
-ahead_steps (pos (suc dx)) dy a b extent = ordered_steps (pos (suc dx)) a.x b.x (past extent)
-ahead_steps (negsuc dx) dy a b extent = ordered_steps (negsuc dx) a.x b.x (past extent)
+ahead_steps dx dy a b extent =
+    either_tree HasNoSteps (unsigned_abs dx == 1) (ordered dx a.x b.x (past extent)) (ordered dy a.y b.y (past extent))
+    (ordered_steps dx a.x b.x (past extent)) (ordered_steps dy a.y b.y (past extent))
 
 and_steps : (f g : Tree) → length (steps (tree.And f g)) ≡ length (steps f) + length (steps g) + 1
 and_steps f g =
@@ -444,10 +501,10 @@ unfolding all_steps
 line_atoms_steps (pos zero) dy a b = unless_steps b.x a.x (line (pos zero) dy a b) refl
 line_atoms_steps (pos (suc dx)) (pos zero) a b = unless_steps b.y a.y (line (pos (suc dx)) (pos zero) a b) refl
 line_atoms_steps (negsuc dx) (pos zero) a b = unless_steps b.y a.y (line (negsuc dx) (pos zero) a b) refl
-line_atoms_steps (pos (suc dx)) (pos (suc dy)) a b = omega arith
-line_atoms_steps (pos (suc dx)) (negsuc dy) a b = omega arith
-line_atoms_steps (negsuc dx) (pos (suc dy)) a b = omega arith
-line_atoms_steps (negsuc dx) (negsuc dy) a b = omega arith
+line_atoms_steps (pos (suc dx)) (pos (suc dy)) a b = let none = line_steps (pos (suc dx)) (pos (suc dy)) a b in omega (arith, none)
+line_atoms_steps (pos (suc dx)) (negsuc dy) a b = let none = line_steps (pos (suc dx)) (negsuc dy) a b in omega (arith, none)
+line_atoms_steps (negsuc dx) (pos (suc dy)) a b = let none = line_steps (negsuc dx) (pos (suc dy)) a b in omega (arith, none)
+line_atoms_steps (negsuc dx) (negsuc dy) a b = let none = line_steps (negsuc dx) (negsuc dy) a b in omega (arith, none)
 
 ray_steps : (b : Bool) (dx dy : ℤ) (f g : Seat) → all_steps (atoms_as b dx dy f g) ≤ 2
 unfolding all_steps
@@ -543,8 +600,7 @@ record IsGoodOption (stock : List Man) (o : Opt) : Type 0 where
 
 good_ray : (stock : List Man) (k n : ℕ) (m : Man) (r : Ray) → stock_man stock k ≡ Some m → ray_of m.kind m.side n ≡ Some r → IsGoodRay (ray_at stock k n)
 good_ray stock k n m r is ray =
-    subst IsGoodRay (ray_at_is stock k n m r is ray)
-    (record { small = small_in (rays_of m.kind m.side) n r (rays_small m.kind m.side) ray; moves = fair_moves (ray_is m.side m.kind n r ray).fair })
+    subst IsGoodRay (ray_at_is stock k n m r is ray) (record { direction = (table_ray m.side m.kind n r ray).direction })
 
 prey_number : (stock : List Man) (mask t : ℕ) (side : Side) → IsPrey stock mask side t → t ≤ length stock
 prey_number stock mask zero side h = omega arith

@@ -4,11 +4,14 @@ use Rattle.track_word.specs.Tracks.{Values, values_at}
 use Rattle.game_rules.specs.Game.{Position}
 use Rattle.game_rules.specs.declared.men.Man.{Man}
 use Rattle.game_rules.specs.declared.men.Side.{Side}
-use Rattle.rule_formula.specs.Fits.{Fits, HasStock, mask_of}
-use Rattle.rule_formula.specs.Placed.{is_live, placed, tuple_of}
+use Rattle.rule_formula.specs.Fits.{Fits}
+use Rattle.mask_sets.specs.Stock.{HasStock, mask_of}
+use Rattle.rule_formula.specs.Placed.{is_live, placed}
+use Rattle.mask_sets.specs.Tuple.{tuple_of}
 use Rattle.rule_formula.specs.Seats.{squares}
 use Rattle.rule_formula.specs.Trees.{tracks_of}
-use Rattle.rule_formula.proofs.FitLemmas.{alike_of, mask_tells, men_alike, placed_unique, placed_values, tuple_placed, values_of}
+use Rattle.rule_formula.proofs.FitLemmas.{alike_of, men_alike, placed_unique, placed_values, tuple_placed, values_of}
+use Rattle.mask_sets.proofs.Masks.{mask_tells}
 use Rattle.rule_formula.proofs.LawTheorem.{self_placed, squares_of}
 
 -- a position of the stock is made of the stock, with its men on their squares

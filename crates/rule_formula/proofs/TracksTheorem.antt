@@ -1,5 +1,5 @@
 -- The free variables of a formula are those of the live men.
-use Rattle.std.proofs.Common.{◌≡◌, ◌≢◌, ◌⊎◌, ◌↔◌, ℕ, zero, suc, ◌+◌, ◌*◌, ◌<◌, ◌≤◌, ℤ, pos, negsuc, Bool, true, false, List, [], ◌∷◌, ◌++◌, length, nat_lt, ◌==◌, ◌&&◌, not, if◌then◌else◌, inl, inr, refl, sym, ap, ◌∙◌, subst, arith}
+use Rattle.std.proofs.Common.{◌≡◌, ◌≢◌, ◌⊎◌, ◌↔◌, ℕ, zero, suc, ◌+◌, ◌*◌, ◌<◌, ◌≤◌, ℤ, pos, negsuc, neg_ℤ, unsigned_abs, Bool, true, false, List, [], ◌∷◌, ◌++◌, length, nat_lt, ◌==◌, ◌&&◌, not, if◌then◌else◌, inl, inr, refl, sym, ap, ◌∙◌, subst, arith}
 use Rattle.std.proofs.lemmas.Int.{ints}
 use Rattle.std.proofs.lemmas.Bool.Decides.{nat_tests}
 use Rattle.track_word.specs.declared.tracks.Var.{Var}
@@ -20,8 +20,12 @@ use Rattle.rule_formula.specs.declared.atoms.Extent.TheVariants.{Onto, Before}
 use Rattle.rule_formula.specs.declared.seats.Seat.{Seat}
 use Rattle.rule_formula.specs.Placed.{is_live, without}
 use Rattle.rule_formula.specs.Seats.{elsewhere, new_seat, new_seats, old_seats, own, seats_with, spare, swept, var, vars_to}
-use Rattle.rule_formula.specs.Trees.{ahead, and_all, atoms_as, bear_of, bear_tree, clear, clear_as, difference, ex_swept, image_body, image_of, image_tree, is_other, line, line_atoms, on, on_as, ordered, past, pre_body, pre_of, pre_tree, ray_at, ray_atoms, safe_of, tracks_of, unless_same, twins_tree}
+use Rattle.rule_formula.specs.Trees.{ahead, and_all, atoms_as, bear_of, bear_tree, clear, clear_as, difference, ex_swept, falling, image_body, image_of, image_tree, is_other, leaping, line, line_atoms, on, on_as, ordered, past, pre_body, pre_of, pre_tree, ray_at, ray_atoms, rising, safe_of, tracks_of, unless_same, twins_tree}
 use Rattle.rule_formula.specs.Meaning.{IsBearer, IsOptionOf, IsPrey}
+use Rattle.game_rules.specs.Game.{IsDirection}
+use Rattle.game_laws.proofs.MoveLemmas.{same_or_not}
+use Rattle.game_laws.proofs.TableLemmas.{ray_is as table_ray}
+use Rattle.rule_formula.proofs.MeaningLemmas.{ray_at_is}
 use Rattle.rule_formula.proofs.BearLemmas.{IsNumber, stock_number}
 use Rattle.rule_formula.proofs.MoveLemmas.{kept_live, option_untaken, same_number, was_live}
 
@@ -186,23 +190,35 @@ four_in T b d c e p q r s rel n tp tq tr ts z (inr (inr (inl w))) = subst T (sym
 four_in T b d c e p q r s rel n tp tq tr ts z (inr (inr (inr (inl w)))) = subst T (sym w) ts
 four_in T b d c e p q r s rel n tp tq tr ts z (inr (inr (inr (inr none)))) = absurd none
 
+either_in : (T : Var → Type 0) (b : Bool) (f g : Tree) → FreeIn T f → FreeIn T g → FreeIn T (if b then f else g)
+either_in T true f g h k = h
+either_in T false f g h k = k
+
 line_in : (T : Var → Type 0) (dx dy : ℤ) (a b : Seat) → SeatIn T a → SeatIn T b → FreeIn T (line dx dy a b)
 line_in T (pos zero) dy a b f t = difference_in T b.x a.x Eq (pos 0) t.across f.across
 line_in T (pos (suc dx)) (pos zero) a b f t = difference_in T b.y a.y Eq (pos 0) t.along f.along
 line_in T (negsuc dx) (pos zero) a b f t = difference_in T b.y a.y Eq (pos 0) t.along f.along
-line_in T (pos (suc dx)) (pos (suc dy)) a b f t = four_in T (pos 1) (negsuc 0) (negsuc 0) (pos 1) b.x a.x b.y a.y Eq (pos 0) t.across f.across t.along f.along
-line_in T (negsuc dx) (negsuc dy) a b f t = four_in T (pos 1) (negsuc 0) (negsuc 0) (pos 1) b.x a.x b.y a.y Eq (pos 0) t.across f.across t.along f.along
-line_in T (pos (suc dx)) (negsuc dy) a b f t = four_in T (pos 1) (negsuc 0) (pos 1) (negsuc 0) b.x a.x b.y a.y Eq (pos 0) t.across f.across t.along f.along
-line_in T (negsuc dx) (pos (suc dy)) a b f t = four_in T (pos 1) (negsuc 0) (pos 1) (negsuc 0) b.x a.x b.y a.y Eq (pos 0) t.across f.across t.along f.along
+line_in T (pos (suc dx)) (pos (suc dy)) a b f t =
+    either_in T (dx == dy) (rising a b) (leaping (pos (suc dx)) (pos (suc dy)) a b) (four_in T (pos 1) (negsuc 0) (negsuc 0) (pos 1) b.x a.x b.y a.y Eq (pos 0) t.across f.across t.along f.along)
+    (four_in T (pos (suc dy)) (neg_ℤ (pos (suc dy))) (neg_ℤ (pos (suc dx))) (pos (suc dx)) b.x a.x b.y a.y Eq (pos 0) t.across f.across t.along f.along)
+line_in T (negsuc dx) (negsuc dy) a b f t =
+    either_in T (dx == dy) (rising a b) (leaping (negsuc dx) (negsuc dy) a b) (four_in T (pos 1) (negsuc 0) (negsuc 0) (pos 1) b.x a.x b.y a.y Eq (pos 0) t.across f.across t.along f.along)
+    (four_in T (negsuc dy) (neg_ℤ (negsuc dy)) (neg_ℤ (negsuc dx)) (negsuc dx) b.x a.x b.y a.y Eq (pos 0) t.across f.across t.along f.along)
+line_in T (pos (suc dx)) (negsuc dy) a b f t =
+    either_in T (dx == dy) (falling a b) (leaping (pos (suc dx)) (negsuc dy) a b) (four_in T (pos 1) (negsuc 0) (pos 1) (negsuc 0) b.x a.x b.y a.y Eq (pos 0) t.across f.across t.along f.along)
+    (four_in T (negsuc dy) (neg_ℤ (negsuc dy)) (neg_ℤ (pos (suc dx))) (pos (suc dx)) b.x a.x b.y a.y Eq (pos 0) t.across f.across t.along f.along)
+line_in T (negsuc dx) (pos (suc dy)) a b f t =
+    either_in T (dx == dy) (falling a b) (leaping (negsuc dx) (pos (suc dy)) a b) (four_in T (pos 1) (negsuc 0) (pos 1) (negsuc 0) b.x a.x b.y a.y Eq (pos 0) t.across f.across t.along f.along)
+    (four_in T (pos (suc dy)) (neg_ℤ (pos (suc dy))) (neg_ℤ (negsuc dx)) (negsuc dx) b.x a.x b.y a.y Eq (pos 0) t.across f.across t.along f.along)
 
 ordered_in : (T : Var → Type 0) (d : ℤ) (x y : Var) (n : ℤ) → T x → T y → FreeIn T (ordered d x y n)
 ordered_in T (pos d) x y n first second = difference_in T x y Le n first second
 ordered_in T (negsuc d) x y n first second = difference_in T y x Le n second first
 
 ahead_in : (T : Var → Type 0) (dx dy : ℤ) (a b : Seat) (extent : Extent) → SeatIn T a → SeatIn T b → FreeIn T (ahead dx dy a b extent)
-ahead_in T (pos zero) dy a b extent f t = ordered_in T dy a.y b.y (past extent) f.along t.along
-ahead_in T (pos (suc dx)) dy a b extent f t = ordered_in T (pos (suc dx)) a.x b.x (past extent) f.across t.across
-ahead_in T (negsuc dx) dy a b extent f t = ordered_in T (negsuc dx) a.x b.x (past extent) f.across t.across
+ahead_in T dx dy a b extent f t =
+    either_in T (unsigned_abs dx == 1) (ordered dx a.x b.x (past extent)) (ordered dy a.y b.y (past extent))
+    (ordered_in T dx a.x b.x (past extent) f.across t.across) (ordered_in T dy a.y b.y (past extent) f.along t.along)
 
 and_in : (T : Var → Type 0) (f g : Tree) → FreeIn T f → FreeIn T g → FreeIn T (tree.And f g)
 and_in T f g h k z (inl w) = h z w
@@ -508,22 +524,84 @@ unless_any x y f z ne h = cases (x.0 == y.0) (λ e. same x.0 y.0 e)
     cases true e = absurd (ne (e refl))
     cases false e = inl h
 
+-- what is free in both is free in either
+either_free : (z : Var) (b : Bool) (f g : Tree) → IsFree z f → IsFree z g → IsFree z (if b then f else g)
+either_free z true f g h k = h
+either_free z false f g h k = k
+
+-- the end's variables are free in the atom of a line that is no row and no column
+slanting_free : (dx dy : ℤ) (a b : Seat) → dx ≢ pos 0 → dy ≢ pos 0 → IsFree b.x (line dx dy a b) × IsFree b.y (line dx dy a b)
+slanting_free (pos zero) dy a b right up = absurd (right refl)
+slanting_free (pos (suc dx)) (pos zero) a b right up = absurd (up refl)
+slanting_free (negsuc dx) (pos zero) a b right up = absurd (up refl)
+slanting_free (pos (suc dx)) (pos (suc dy)) a b right up = (
+  either_free b.x (dx == dy) (rising a b) (leaping (pos (suc dx)) (pos (suc dy)) a b) (inl refl) (inl refl),
+  either_free b.y (dx == dy) (rising a b) (leaping (pos (suc dx)) (pos (suc dy)) a b) (inr (inr (inl refl))) (inr (inr (inl refl))),
+)
+slanting_free (pos (suc dx)) (negsuc dy) a b right up = (
+  either_free b.x (dx == dy) (falling a b) (leaping (pos (suc dx)) (negsuc dy) a b) (inl refl) (inl refl),
+  either_free b.y (dx == dy) (falling a b) (leaping (pos (suc dx)) (negsuc dy) a b) (inr (inr (inl refl))) (inr (inr (inl refl))),
+)
+slanting_free (negsuc dx) (pos (suc dy)) a b right up = (
+  either_free b.x (dx == dy) (falling a b) (leaping (negsuc dx) (pos (suc dy)) a b) (inl refl) (inl refl),
+  either_free b.y (dx == dy) (falling a b) (leaping (negsuc dx) (pos (suc dy)) a b) (inr (inr (inl refl))) (inr (inr (inl refl))),
+)
+slanting_free (negsuc dx) (negsuc dy) a b right up = (
+  either_free b.x (dx == dy) (rising a b) (leaping (negsuc dx) (negsuc dy) a b) (inl refl) (inl refl),
+  either_free b.y (dx == dy) (rising a b) (leaping (negsuc dx) (negsuc dy) a b) (inr (inr (inl refl))) (inr (inr (inl refl))),
+)
+
+-- so they are free in its list
+slanting_any : (dx dy : ℤ) (a b : Seat) (z : Var) → dx ≢ pos 0 → dy ≢ pos 0 → IsFree z (line dx dy a b) → AnyFree z (line_atoms dx dy a b)
+slanting_any (pos zero) dy a b z right up h = absurd (right refl)
+slanting_any (pos (suc dx)) (pos zero) a b z right up h = absurd (up refl)
+slanting_any (negsuc dx) (pos zero) a b z right up h = absurd (up refl)
+slanting_any (pos (suc dx)) (pos (suc dy)) a b z right up h = inl h
+slanting_any (pos (suc dx)) (negsuc dy) a b z right up h = inl h
+slanting_any (negsuc dx) (pos (suc dy)) a b z right up h = inl h
+slanting_any (negsuc dx) (negsuc dy) a b z right up h = inl h
+
+ordered_free : (d : ℤ) (x y : Var) (n : ℤ) → IsFree y (ordered d x y n)
+ordered_free (pos d) x y n = inr (inl refl)
+ordered_free (negsuc d) x y n = inl refl
+
+chosen_free : (z : Var) (m n : ℕ) (f g : Tree) → (m ≡ n → IsFree z f) → ((m ≡ n → ⊥) → IsFree z g) → IsFree z (if m == n then f else g)
+chosen_free z m n f g h k = cases (m == n) (λ e. h (grind (arith, nat_tests))) (λ e. k (λ same. differs m n e same))
+  where
+    differs : (a b : ℕ) → (a == b) ≡ false → a ≡ b → ⊥
+    differs a b e same = grind (arith, nat_tests)
+
+    cases : (b : Bool) → (b ≡ true → IsFree z f) → (b ≡ false → IsFree z g) → IsFree z (if b then f else g)
+    cases true h k = h refl
+    cases false h k = k refl
+
+-- a direction along a row goes one to a side
+level_one : (dx dy : ℤ) → IsDirection dx dy → (unsigned_abs dx ≡ 1 → ⊥) → dy ≡ pos 0 → ⊥
+level_one dx dy (inl h) off none = off h.0
+level_one dx dy (inr h) off none = omega (arith, h.0, ap unsigned_abs none)
+
 -- where the ray moves, the end's variable is free in its atoms
-across_free : (far : Bool) (dx dy : ℤ) (a b : Seat) → dx ≢ pos 0 → b.x.0 ≢ a.x.0 → AnyFree b.x (atoms_as far dx dy a b)
-across_free true (pos zero) dy a b moves ne = absurd (moves refl)
-across_free true (pos (suc dx)) dy a b moves ne = any_right b.x (line_atoms (pos (suc dx)) dy a b) (ahead (pos (suc dx)) dy a b Before ∷ []) (inl (inr (inl refl)))
-across_free true (negsuc dx) dy a b moves ne = any_right b.x (line_atoms (negsuc dx) dy a b) (ahead (negsuc dx) dy a b Before ∷ []) (inl (inl refl))
-across_free false dx dy a b moves ne =
+across_free : (far : Bool) (dx dy : ℤ) (a b : Seat) → IsDirection dx dy → dx ≢ pos 0 → b.x.0 ≢ a.x.0 → AnyFree b.x (atoms_as far dx dy a b)
+across_free true dx dy a b direction moves ne =
+    elim (same_or_not dy (pos 0)) [
+      | inl level ↦
+          any_right b.x (line_atoms dx dy a b) (ahead dx dy a b Before ∷ [])
+          (inl (chosen_free b.x (unsigned_abs dx) 1 (ordered dx a.x b.x (past Before)) (ordered dy a.y b.y (past Before))
+          (λ one. ordered_free dx a.x b.x (past Before)) (λ off. absurd (level_one dx dy direction off level))))
+      | inr up ↦ any_left b.x (line_atoms dx dy a b) (ahead dx dy a b Before ∷ []) (slanting_any dx dy a b b.x moves up (slanting_free dx dy a b moves up).0)
+    ]
+across_free false dx dy a b direction moves ne =
     any_left b.x (unless_same b.x a.x (difference b.x a.x Eq dx)) (unless_same b.y a.y (difference b.y a.y Eq dy)) (unless_any b.x a.x (difference b.x a.x Eq dx) b.x ne (inl refl))
 
 along_free : (far : Bool) (dx dy : ℤ) (a b : Seat) → dy ≢ pos 0 → b.y.0 ≢ a.y.0 → AnyFree b.y (atoms_as far dx dy a b)
-along_free true dx (pos zero) a b moves ne = absurd (moves refl)
-along_free true (pos zero) (pos (suc dy)) a b moves ne = any_right b.y (line_atoms (pos zero) (pos (suc dy)) a b) (ahead (pos zero) (pos (suc dy)) a b Before ∷ []) (inl (inr (inl refl)))
-along_free true (pos zero) (negsuc dy) a b moves ne = any_right b.y (line_atoms (pos zero) (negsuc dy) a b) (ahead (pos zero) (negsuc dy) a b Before ∷ []) (inl (inl refl))
-along_free true (pos (suc dx)) (pos (suc dy)) a b moves ne = inl (inr (inr (inl refl)))
-along_free true (pos (suc dx)) (negsuc dy) a b moves ne = inl (inr (inr (inl refl)))
-along_free true (negsuc dx) (pos (suc dy)) a b moves ne = inl (inr (inr (inl refl)))
-along_free true (negsuc dx) (negsuc dy) a b moves ne = inl (inr (inr (inl refl)))
+along_free true dx dy a b moves ne =
+    elim (same_or_not dx (pos 0)) [
+      | inl level ↦
+          any_right b.y (line_atoms dx dy a b) (ahead dx dy a b Before ∷ [])
+          (inl (chosen_free b.y (unsigned_abs dx) 1 (ordered dx a.x b.x (past Before)) (ordered dy a.y b.y (past Before))
+          (λ one. absurd (omega (arith, one, ap unsigned_abs level))) (λ off. ordered_free dy a.y b.y (past Before))))
+      | inr right ↦ any_left b.y (line_atoms dx dy a b) (ahead dx dy a b Before ∷ []) (slanting_any dx dy a b b.y right moves (slanting_free dx dy a b right moves).1)
+    ]
 along_free false dx dy a b moves ne =
     any_right b.y (unless_same b.x a.x (difference b.x a.x Eq dx)) (unless_same b.y a.y (difference b.y a.y Eq dy)) (unless_any b.y a.y (difference b.y a.y Eq dy) b.y ne (inl refl))
 
@@ -560,9 +638,9 @@ image_tree_in n mask i t s r low high on ne =
     swept_in T r.dx elsewhere.x (ex_swept r.dy elsewhere.y (image_body n mask i r t s))
     (swept_in (λ z. T z ⊎ ((z ≡ elsewhere.x) × (r.dx ≢ pos 0))) r.dy elsewhere.y (image_body n mask i r t s) (image_body_in n mask i t s r low high on ne))
 
-image_body_free : {n : ℕ} (mask i t s : ℕ) (r : Ray) {z : Var} → n ≤ 8 → 0 < i → i ≤ n → is_live mask i ≡ true
+image_body_free : {n : ℕ} (mask i t s : ℕ) (r : Ray) {z : Var} → IsDirection r.dx r.dy → n ≤ 8 → 0 < i → i ≤ n → is_live mask i ≡ true
     → IsSeated own (without (is_live mask) t) n z → IsFree z (image_body n mask i r t s)
-image_body_free {n} mask i t s r {z} few low high alive_i w =
+image_body_free {n} mask i t s r {z} direction few low high alive_i w =
     let among : Tree = tree.Among s (vars_to (old_seats r i t) (is_live mask) n) in
     let atoms : List Tree = ray_atoms r (spare r i) (own i) in
     let alive = was_live (is_live mask w.number) w.number t w.on in
@@ -579,7 +657,7 @@ image_body_free {n} mask i t s r {z} few low high alive_i w =
               | inl kept ↦ there i low high alive_i (subst (λ a. IsOf a z) (sym (with_first i t (spare r i) (own i))) (inl (across ∙ sym kept)))
               | inr moved ↦
                   let past : (own i).x.0 ≢ (spare r i).x.0 = λ same. let far : (spare r i).x.0 ≡ 16 = ap (λ (v : Var). v.0) moved.1 in omega (arith, same, far, few, high) in
-                  chained (and_all_any among atoms z (subst (λ v. AnyFree v atoms) (sym across) (across_free r.far r.dx r.dy (spare r i) (own i) moved.0 past)))
+                  chained (and_all_any among atoms z (subst (λ v. AnyFree v atoms) (sym across) (across_free r.far r.dx r.dy (spare r i) (own i) direction moved.0 past)))
             ]
             | inr along ↦ elim (swept_or r.dy (own i).y elsewhere.y) [
               | inl kept ↦ there i low high alive_i (subst (λ a. IsOf a z) (sym (with_first i t (spare r i) (own i))) (inr (along ∙ sym kept)))
@@ -590,18 +668,21 @@ image_body_free {n} mask i t s r {z} few low high alive_i w =
           ]
     ]
 
-image_free : {n : ℕ} (mask i t s : ℕ) (r : Ray) {z : Var} → n ≤ 8 → 0 < i → i ≤ n → is_live mask i ≡ true
+image_free : {n : ℕ} (mask i t s : ℕ) (r : Ray) {z : Var} → IsDirection r.dx r.dy → n ≤ 8 → 0 < i → i ≤ n → is_live mask i ≡ true
     → IsSeated own (without (is_live mask) t) n z → IsFree z (image_tree n mask i r t s)
-image_free {n} mask i t s r {z} few low high on w =
+image_free {n} mask i t s r {z} direction few low high on w =
     let small : z.0 < 16 = own_low few w in
     swept_free r.dx elsewhere.x (ex_swept r.dy elsewhere.y (image_body n mask i r t s)) z (not_var z 16 small)
-    (swept_free r.dy elsewhere.y (image_body n mask i r t s) z (not_var z 17 (omega (arith, small))) (image_body_free mask i t s r few low high on w))
+    (swept_free r.dy elsewhere.y (image_body n mask i r t s) z (not_var z 17 (omega (arith, small))) (image_body_free mask i t s r direction few low high on w))
 
 pub image_tracks : (stock : List Man) (mask : ℕ) (o : Opt) (s : ℕ) → length stock ≤ 8 → IsOptionOf stock mask o
     → free_vars (image_of stock mask o s) ≡ tracks_of stock (without (is_live mask) o.taken)
 image_tracks stock mask o s few w =
     let number : IsNumber stock o.man = stock_number stock o.man w.man w.is.is_man in
     let ne : o.man ≢ o.taken = option_untaken w.is in
+    let r : Ray = ray_at stock o.man o.ray in
+    let direction : IsDirection r.dx r.dy =
+    subst (λ r. IsDirection r.dx r.dy) (ray_at_is stock o.man o.ray w.man w.ray w.is.is_man w.is.ray) (table_ray w.man.side w.man.kind o.ray w.ray w.is.ray).direction in
     tracks_are (without (is_live mask) o.taken) (length stock) (image_of stock mask o s)
     (image_tree_in (length stock) mask o.man o.taken s (ray_at stock o.man o.ray) number.low number.high w.is.live ne)
-    (λ z is. image_free mask o.man o.taken s (ray_at stock o.man o.ray) few number.low number.high w.is.live is)
+    (λ z is. image_free mask o.man o.taken s (ray_at stock o.man o.ray) direction few number.low number.high w.is.live is)

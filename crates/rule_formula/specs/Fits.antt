@@ -1,21 +1,15 @@
 -- The positions of one game, and its masks.
-use Rattle.std.specs.Prelude.{◌≡◌, ◌≢◌, ℕ, zero, suc, ◌+◌, ◌-◌, ◌*◌, ◌^◌, ◌<◌, Bool, true, false, ◌==◌, ◌&&◌, ◌||◌, not, if◌then◌else◌, List, [], ◌∷◌, ◌++◌, length, Option, Some, None}
+use Rattle.std.specs.Prelude.{◌≡◌, ◌≢◌, ℕ, zero, suc, ◌+◌, ◌-◌, ◌^◌, ◌<◌, Bool, true, false, ◌==◌, ◌&&◌, ◌||◌, not, if◌then◌else◌, List, [], ◌∷◌, ◌++◌, length, Option, Some, None}
 use Rattle.std.specs.Int.Bits.{bit_and}
 use Rattle.game_rules.specs.declared.men.Kind.TheVariants.{King}
 use Rattle.game_rules.specs.declared.men.Side.{Side}
 use Rattle.game_rules.specs.declared.men.Man.{Man}
 use Rattle.game_rules.specs.declared.men.Place.TheVariants.{Gone}
-use Rattle.game_rules.specs.declared.men.Square.{Square}
-use Rattle.game_rules.specs.Game.{HasOneKing, IsApart, Position, man_at, square_of}
+use Rattle.game_rules.specs.Game.{HasOneKing, IsApart, Position, man_at}
 use Rattle.rule_formula.specs.declared.opt.Opt.{Opt}
 use Rattle.rule_formula.specs.Options.{is_king}
-use Rattle.rule_formula.specs.Placed.{is_live, stock_man}
-
--- the men of the position have the sides and the kinds of the stock, wherever they are
-pub record HasStock (stock : List Man) (q : Position) : Type 0 where
-  pub count : length q.men ≡ length stock
-  pub men : (k : ℕ) (m n : Man) → stock_man stock k ≡ Some m → man_at q k ≡ Some n
-      → (n.side ≡ m.side) × (n.kind ≡ m.kind)
+use Rattle.rule_formula.specs.Placed.{is_live}
+use Rattle.mask_sets.specs.Stock.{HasStock, mask_of, stock_man}
 
 -- q may come up in a game from p with this side to move: the same men, of whom none is back who was gone,
 -- live men on distinct squares, and both kings live
@@ -25,18 +19,6 @@ pub record Fits (p : Position) (side : Side) (q : Position) : Type 0 where
   pub turn : q.turn ≡ side
   pub apart : IsApart q
   pub kings : (s : Side) → HasOneKing q s
-
-abbrev pub live_bit : Option Square → ℕ
-live_bit None = 0
-live_bit (Some z) = 1
-
--- the mask of men, of whom the first has the lowest bit
-abbrev pub mask_of_men : List Man → ℕ
-mask_of_men [] = 0
-mask_of_men (m ∷ men) = live_bit (square_of m) + 2 * mask_of_men men
-
-abbrev pub mask_of : Position → ℕ
-mask_of p = mask_of_men p.men
 
 -- the mask without a man, or with no man the mask
 abbrev pub mask_without : ℕ → ℕ → ℕ

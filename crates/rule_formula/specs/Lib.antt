@@ -12,6 +12,8 @@ pub mod Trees
 pub mod Ways
 pub use Rattle.game_rules.specs.Game
 pub use Rattle.game_rules.specs.Rays
+pub use Rattle.mask_sets.specs.Stock
+pub use Rattle.mask_sets.specs.Tuple
 pub use Rattle.lin_formula.specs.Tree
 pub use Rattle.lin_formula.specs.TreeOf
 pub use Rattle.lin_formula.specs.Holds

@@ -9,12 +9,14 @@ use Rattle.rule_formula.specs.declared.opt.Bearing.{Bearing}
 use Rattle.rule_formula.specs.declared.opt.Opt.{Opt}
 use Rattle.rule_formula.specs.declared.opt.Pair.{Pair}
 use Rattle.rule_formula.specs.Bearings.{IsBearingOf, bearings_of}
-use Rattle.rule_formula.specs.Fits.{Fits, HasStock, IsGameMask, mask_of, masks_of, target_of}
+use Rattle.rule_formula.specs.Fits.{Fits, IsGameMask, masks_of, target_of}
+use Rattle.mask_sets.specs.Stock.{HasStock, mask_of}
 use Rattle.rule_formula.specs.Laws.{StepsTo}
 use Rattle.rule_formula.specs.Meaning.{AreTwins, BearsBy, IsOptionOf, TakesOption}
 use Rattle.rule_formula.specs.Options.{options_of}
 use Rattle.rule_formula.specs.Pairs.{IsPairOf, pairs_of}
-use Rattle.rule_formula.specs.Placed.{IsLiveIn, is_live, tuple_of}
+use Rattle.rule_formula.specs.Placed.{IsLiveIn, is_live}
+use Rattle.mask_sets.specs.Tuple.{tuple_of}
 use Rattle.rule_formula.specs.Trees.{bear_of, image_of, point_of, pre_of, safe_of, tracks_of, twins_tree}
 
 -- the variables of the live men of a mask

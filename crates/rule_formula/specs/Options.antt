@@ -7,7 +7,8 @@ use Rattle.game_rules.specs.declared.men.Side.TheVariants.{White, Black}
 use Rattle.game_rules.specs.declared.men.Man.{Man}
 use Rattle.rule_formula.specs.declared.opt.Opt.{Opt}
 use Rattle.game_rules.specs.Rays.{rays_of, serves_captures, serves_moves}
-use Rattle.rule_formula.specs.Placed.{is_live, stock_man}
+use Rattle.rule_formula.specs.Placed.{is_live}
+use Rattle.mask_sets.specs.Stock.{stock_man}
 
 abbrev pub is_side : Side → Side → Bool
 is_side White White = true

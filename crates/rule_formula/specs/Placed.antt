@@ -1,18 +1,14 @@
 -- Positions of a stock of men, by the squares of those that are live.
-use Rattle.std.specs.Prelude.{◌≡◌, ℕ, zero, suc, ◌-◌, ◌≤◌, Bool, true, ◌==◌, ◌&&◌, not, if◌then◌else◌, List, [], ◌∷◌, ◌++◌, length, ℤ, Option, Some, None, slice_get}
+use Rattle.std.specs.Prelude.{◌≡◌, ℕ, suc, ◌-◌, ◌≤◌, Bool, true, ◌==◌, ◌&&◌, not, if◌then◌else◌, List, [], ◌∷◌}
 use Rattle.std.specs.Int.{bit_at}
 use Rattle.game_rules.specs.declared.men.Side.{Side}
 use Rattle.game_rules.specs.declared.men.Man.{Man}
 use Rattle.game_rules.specs.declared.men.Place.{Place}
 use Rattle.game_rules.specs.declared.men.Place.TheVariants.{Gone, At}
 use Rattle.game_rules.specs.declared.men.Square.{Square}
-use Rattle.game_rules.specs.Game.{IsApart, Position, man_at, square_of}
+use Rattle.game_rules.specs.Game.{IsApart, Position}
+use Rattle.mask_sets.specs.Tuple.{tuple_of}
 use Rattle.lin_formula.specs.Holds.{Sets}
-
--- the man of this number in a stock
-abbrev pub stock_man : List Man → ℕ → Option Man
-stock_man stock zero = None
-stock_man stock (suc i) = slice_get stock i
 
 -- the men of a mask
 abbrev pub is_live : ℕ → ℕ → Bool
@@ -32,23 +28,6 @@ men_from k (m ∷ ms) live f = record m { place = place_at (live k) (f k) } ∷ 
 
 abbrev pub placed : List Man → (ℕ → Bool) → Side → (ℕ → Square) → Position
 placed stock live turn f = record { men = men_from 1 stock live f; turn = turn }
-
-abbrev pub coordinates_of : Option Square → List ℤ
-coordinates_of None = []
-coordinates_of (Some z) = z.x ∷ z.y ∷ []
-
-abbrev pub man_coordinates : Option Man → List ℤ
-man_coordinates None = []
-man_coordinates (Some m) = coordinates_of (square_of m)
-
--- the coordinates of the live men among the first n
-abbrev pub tuple_to : Position → ℕ → List ℤ
-tuple_to p zero = []
-tuple_to p (suc n) = tuple_to p n ++ man_coordinates (man_at p (suc n))
-
--- the coordinates of the live men
-abbrev pub tuple_of : Position → List ℤ
-tuple_of p = tuple_to p (length p.men)
 
 -- the set holds the position
 abbrev pub IsMember : Sets → ℕ → Position → Type 0

@@ -1,5 +1,5 @@
 -- The formulas of the rules.
-use Rattle.std.specs.Prelude.{◌≡◌, ◌≢◌, Option, Some, None, ℕ, zero, suc, Bool, true, false, ◌==◌, ◌&&◌, not, if◌then◌else◌, List, [], ◌∷◌, ◌++◌, length, ℤ, pos, negsuc}
+use Rattle.std.specs.Prelude.{◌≡◌, ◌≢◌, Option, Some, None, ℕ, zero, suc, Bool, true, false, ◌==◌, ◌&&◌, not, if◌then◌else◌, List, [], ◌∷◌, ◌++◌, length, ℤ, pos, negsuc, neg_ℤ, unsigned_abs}
 use Rattle.std.specs.Option.{option_map}
 use Rattle.track_word.specs.declared.tracks.Var.{Var}
 use Rattle.track_word.specs.declared.atoms.Rel.{Rel}
@@ -12,7 +12,8 @@ use Rattle.rule_formula.specs.declared.atoms.Extent.TheVariants.{Onto, Before}
 use Rattle.rule_formula.specs.declared.seats.Seat.{Seat}
 use Rattle.rule_formula.specs.declared.seats.Seats.{Seats}
 use Rattle.game_rules.specs.declared.men.Ray.{Ray}
-use Rattle.rule_formula.specs.Placed.{is_live, stock_man, without}
+use Rattle.rule_formula.specs.Placed.{is_live, without}
+use Rattle.mask_sets.specs.Stock.{stock_man}
 use Rattle.game_rules.specs.declared.men.Man.{Man}
 use Rattle.game_rules.specs.declared.men.Square.{Square}
 use Rattle.game_rules.specs.Game.{square_of}
@@ -36,6 +37,10 @@ rising a b = tree.Lin ((pos 1, b.x) ∷ (negsuc 0, a.x) ∷ (negsuc 0, b.y) ∷ 
 abbrev pub falling : Seat → Seat → Tree
 falling a b = tree.Lin ((pos 1, b.x) ∷ (negsuc 0, a.x) ∷ (pos 1, b.y) ∷ (negsuc 0, a.y) ∷ []) Eq (pos 0)
 
+-- the line with the steps of a knight
+abbrev pub leaping : ℤ → ℤ → Seat → Seat → Tree
+leaping dx dy a b = tree.Lin ((dy, b.x) ∷ (neg_ℤ dy, a.x) ∷ (neg_ℤ dx, b.y) ∷ (dx, a.y) ∷ []) Eq (pos 0)
+
 -- the line through a and b has an atom of different variables
 pub record IsDrawn (dx dy : ℤ) (a b : Seat) : Type 0 where
   pub across : dx ≡ pos 0 → b.x.0 ≢ a.x.0
@@ -46,11 +51,11 @@ pub record IsDrawn (dx dy : ℤ) (a b : Seat) : Type 0 where
 abbrev pub line : ℤ → ℤ → Seat → Seat → Tree
 line (pos zero) dy a b = difference b.x a.x Eq (pos 0)
 line (pos (suc dx)) (pos zero) a b = difference b.y a.y Eq (pos 0)
-line (pos (suc dx)) (pos (suc dy)) a b = rising a b
-line (pos (suc dx)) (negsuc dy) a b = falling a b
+line (pos (suc dx)) (pos (suc dy)) a b = if dx == dy then rising a b else leaping (pos (suc dx)) (pos (suc dy)) a b
+line (pos (suc dx)) (negsuc dy) a b = if dx == dy then falling a b else leaping (pos (suc dx)) (negsuc dy) a b
 line (negsuc dx) (pos zero) a b = difference b.y a.y Eq (pos 0)
-line (negsuc dx) (pos (suc dy)) a b = falling a b
-line (negsuc dx) (negsuc dy) a b = rising a b
+line (negsuc dx) (pos (suc dy)) a b = if dx == dy then falling a b else leaping (negsuc dx) (pos (suc dy)) a b
+line (negsuc dx) (negsuc dy) a b = if dx == dy then rising a b else leaping (negsuc dx) (negsuc dy) a b
 
 -- an atom of two variables is left out where they are the same
 abbrev pub unless_same : Var → Var → Tree → List Tree
@@ -66,10 +71,10 @@ abbrev pub ordered : ℤ → Var → Var → ℤ → Tree
 ordered (pos d) x y n = difference x y Le n
 ordered (negsuc d) x y n = difference y x Le n
 
--- the squares differ in the variable that the ray counts
+-- the squares differ in the variable that the ray counts: that of a column where it goes one to a side, else that of a row
 pub record IsCounted (dx dy : ℤ) (a b : Seat) : Type 0 where
-  pub across : dx ≢ pos 0 → a.x.0 ≢ b.x.0
-  pub along : dx ≡ pos 0 → a.y.0 ≢ b.y.0
+  pub across : unsigned_abs dx ≡ 1 → a.x.0 ≢ b.x.0
+  pub along : (unsigned_abs dx ≡ 1 → ⊥) → a.y.0 ≢ b.y.0
 
 -- the most by which a square may be past the end of a way
 abbrev pub past : Extent → ℤ
@@ -78,8 +83,8 @@ past Before = negsuc 0
 
 -- b lies ahead of a in the direction (dx, dy), or with Onto level with a
 abbrev pub ahead : ℤ → ℤ → Seat → Seat → Extent → Tree
-ahead (pos zero) dy a b extent = ordered dy a.y b.y (past extent)
-ahead dx dy a b extent = ordered dx a.x b.x (past extent)
+ahead dx dy a b extent =
+    if unsigned_abs dx == 1 then ordered dx a.x b.x (past extent) else ordered dy a.y b.y (past extent)
 
 abbrev pub atoms_as : Bool → ℤ → ℤ → Seat → Seat → List Tree
 atoms_as true dx dy a b = line_atoms dx dy a b ++ ahead dx dy a b Before ∷ []

@@ -1,10 +1,11 @@
 //! The atoms of rays.
 
-ghost use Rattle.std.specs.Prelude.{◌≡◌, ◌≢◌, ◌≤ℤ◌, IfOk, pos, negsuc};
+ghost use Rattle.std.specs.Prelude.{◌≡◌, ◌≢◌, ◌≤◌, ◌≤ℤ◌, IfOk, pos, neg_ℤ, negsuc, unsigned_abs};
+ghost use Rattle.game_rules.specs.Game.{IsDirection};
 ghost use Rattle.track_word.specs.Atom.{IsAtom};
 ghost use Rattle.lin_formula.specs.TreeOf.{tree_of};
 ghost use Rattle.rule_formula.specs.Seats.{IsSeat};
-ghost use Rattle.rule_formula.specs.Trees.{AreApart, IsCounted, IsDrawn, ahead as ahead_tree, falling as falling_tree, rising as rising_tree, difference as difference_tree, line as line_tree, ordered as ordered_tree, past};
+ghost use Rattle.rule_formula.specs.Trees.{AreApart, IsCounted, IsDrawn, ahead as ahead_tree, falling as falling_tree, rising as rising_tree, leaping as leaping_tree, difference as difference_tree, line as line_tree, ordered as ordered_tree, past};
 ghost use Rattle.rule_formula.specs.Ways.{on_way};
 ghost use Rattle.lin_formula.specs.Tree as tree;
 
@@ -89,21 +90,92 @@ fn falling(alloc: Global, a: Seat, b: Seat) -> Result<Formula, AllocError>
     )
 }
 
+/// The variable, as often as the ray goes up.
+fn up_term(ray: Ray, var: Var) -> (i8, Var)
+    ensures { result ≡ (ray.dy, var) }
+{
+    (ray.dy, var)
+}
+
+/// The variable, as often as the ray goes down.
+fn down_term(ray: Ray, var: Var) -> (i8, Var)
+    requires { unsigned_abs ray.dy ≤ 2 }
+    ensures { result ≡ (neg_ℤ ray.dy, var) }
+{
+    (-ray.dy, var)
+}
+
+/// The variable, as often as the ray goes to the right.
+fn right_term(ray: Ray, var: Var) -> (i8, Var)
+    ensures { result ≡ (ray.dx, var) }
+{
+    (ray.dx, var)
+}
+
+/// The variable, as often as the ray goes to the left.
+fn left_term(ray: Ray, var: Var) -> (i8, Var)
+    requires { unsigned_abs ray.dx ≤ 2 }
+    ensures { result ≡ (neg_ℤ ray.dx, var) }
+{
+    (-ray.dx, var)
+}
+
+/// b is on the line through a in the direction of the ray, which goes by the steps of a knight.
+fn leaping(alloc: Global, ray: Ray, a: Seat, b: Seat) -> Result<Formula, AllocError>
+    requires from { IsSeat a }
+    requires to { IsSeat b }
+    requires apart { AreApart a b }
+    requires right { ray.dx ≢ pos 0 }
+    requires up { ray.dy ≢ pos 0 }
+    requires short_right { unsigned_abs ray.dx ≤ 2 }
+    requires short_up { unsigned_abs ray.dy ≤ 2 }
+    ensures { IfOk result (λ f. tree_of f ≡ leaping_tree ray.dx ray.dy a b) }
+{
+    let terms = [
+        up_term(ray, b.x),
+        down_term(ray, a.x),
+        left_term(ray, b.y),
+        right_term(ray, a.y),
+    ];
+    sum(alloc, &terms, Rel::Eq, 0)
+}
+
+/// b is on a line that is no row and no column, through a in the direction of the ray.
+#[tactic(auto, using(crate::proofs::LineTrees::lines))]
+fn slanting(alloc: Global, ray: Ray, a: Seat, b: Seat) -> Result<Formula, AllocError>
+    requires from { IsSeat a }
+    requires to { IsSeat b }
+    requires apart { AreApart a b }
+    requires right { ray.dx ≢ pos 0 }
+    requires up { ray.dy ≢ pos 0 }
+    requires short_right { unsigned_abs ray.dx ≤ 2 }
+    requires short_up { unsigned_abs ray.dy ≤ 2 }
+    ensures { IfOk result (λ f. tree_of f ≡ line_tree ray.dx ray.dy a b) }
+{
+    if ray.dx == ray.dy {
+        rising(alloc, a, b)
+    } else if ray.dx == -ray.dy {
+        falling(alloc, a, b)
+    } else {
+        leaping(alloc, ray, a, b)
+    }
+}
+
 /// b is on the line through a in the direction of the ray.
 pub(crate) fn line(alloc: Global, ray: Ray, a: Seat, b: Seat) -> Result<Formula, AllocError>
     requires from { IsSeat a }
     requires to { IsSeat b }
     requires drawn { IsDrawn ray.dx ray.dy a b }
+    requires short_right { unsigned_abs ray.dx ≤ 2 }
+    requires short_up { unsigned_abs ray.dy ≤ 2 }
     ensures { IfOk result (λ f. tree_of f ≡ line_tree ray.dx ray.dy a b) }
 {
     if ray.dx == 0 {
         difference(alloc, b.x, a.x, Rel::Eq, 0)
     } else if ray.dy == 0 {
         difference(alloc, b.y, a.y, Rel::Eq, 0)
-    } else if (ray.dx > 0) == (ray.dy > 0) {
-        rising(alloc, a, b)
     } else {
-        falling(alloc, a, b)
+        slanting(alloc, ray, a, b)
     }
 }
 
@@ -156,10 +228,10 @@ pub(crate) fn ahead(
     ensures { IfOk result (λ f. tree_of f ≡ ahead_tree ray.dx ray.dy a b extent) }
 {
     let bound = extent.bound();
-    if ray.dx == 0 {
-        ordered(alloc, ray.dy, a.y, b.y, bound)
-    } else {
+    if ray.dx.unsigned_abs() == 1 {
         ordered(alloc, ray.dx, a.x, b.x, bound)
+    } else {
+        ordered(alloc, ray.dy, a.y, b.y, bound)
     }
 }
 
@@ -178,6 +250,7 @@ pub(crate) fn on(alloc: Global, way: Way, z: Seat) -> Result<Formula, AllocError
     requires middle { IsSeat z }
     requires first { AreApart way.from z }
     requires last { AreApart z way.to }
+    requires direction { IsDirection way.ray.dx way.ray.dy }
     ensures { IfOk result (λ f. tree_of f ≡ on_way way z) }
 {
     if way.ray.far {

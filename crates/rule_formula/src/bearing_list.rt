@@ -7,10 +7,10 @@ ghost use Rattle.rule_formula.specs.declared.opt.Bearing.{Bearing};
 ghost use Rattle.rule_formula.specs.Bearings.{IsBearingOf, along_rays, bearings_of, is_king_man, king_number as number_of_king, king_to, man_bearings};
 ghost use Rattle.rule_formula.specs.Fits.{IsGameMask};
 
-use crate::choices::{is_king, is_side, ray_count, serves_captures};
+use crate::choices::{is_king, is_side, serves_captures};
 use crate::opt::Bearing;
 use crate::stock::{is_live, man_of};
-use chess_game::Position;
+use chess_game::{Position, ray_count};
 use game_rules::{Kind, Man, Side};
 use std::alloc::{AllocError, Global};
 

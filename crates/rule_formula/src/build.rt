@@ -1,6 +1,7 @@
 //! The formulas of the rules, from the men's numbers and the ray.
 
 ghost use Rattle.std.specs.Prelude.{◌≡◌, ◌≢◌, ◌≤◌, ◌<◌, IfOk, pos};
+ghost use Rattle.game_rules.specs.Game.{IsDirection};
 ghost use Rattle.lin_formula.specs.TreeOf.{tree_of};
 ghost use Rattle.rule_formula.specs.Trees.{bear_tree, both_tree, ex_swept as swept_tree, image_body, image_tree, own_tree, pre_body, pre_tree, safe_tree, twins_tree};
 
@@ -54,7 +55,7 @@ fn image_inside(
     requires count { count ≤ 8 }
     requires low { 1 ≤ i }
     requires high { i ≤ 8 }
-    requires moves { ray.dx ≡ pos 0 → ray.dy ≢ pos 0 }
+    requires direction { IsDirection ray.dx ray.dy }
     ensures { IfOk result (λ f. tree_of f ≡ image_body count mask i ray t source.0) }
 {
     let from = spare(ray, i);
@@ -94,7 +95,7 @@ pub(crate) fn image(
     requires count { count ≤ 8 }
     requires low { 1 ≤ i }
     requires high { i ≤ 8 }
-    requires moves { ray.dx ≡ pos 0 → ray.dy ≢ pos 0 }
+    requires direction { IsDirection ray.dx ray.dy }
     ensures { IfOk result (λ f. tree_of f ≡ image_tree count mask i ray t source.0) }
 {
     let body = image_inside(alloc, count, mask, i, ray, t, source)?;
@@ -152,7 +153,7 @@ fn pre_inside(
     requires high { i ≤ 8 }
     requires taken { t ≤ 8 }
     requires apart { i ≢ t }
-    requires moves { ray.dx ≡ pos 0 → ray.dy ≢ pos 0 }
+    requires direction { IsDirection ray.dx ray.dy }
     ensures { IfOk result (λ f. tree_of f ≡ pre_body count mask i ray t source.0 target.0) }
 {
     let from = own(i);
@@ -189,7 +190,7 @@ pub(crate) fn pre(
     requires high { i ≤ 8 }
     requires taken { t ≤ 8 }
     requires apart { i ≢ t }
-    requires moves { ray.dx ≡ pos 0 → ray.dy ≢ pos 0 }
+    requires direction { IsDirection ray.dx ray.dy }
     ensures { IfOk result (λ f. tree_of f ≡ pre_tree count mask i ray t source.0 target.0) }
 {
     let body = pre_inside(alloc, count, mask, i, ray, t, source, target)?;
@@ -217,7 +218,7 @@ pub(crate) fn bear(
     requires target_low { 1 ≤ g }
     requires target_high { g ≤ 8 }
     requires apart { k ≢ g }
-    requires moves { ray.dx ≡ pos 0 → ray.dy ≢ pos 0 }
+    requires direction { IsDirection ray.dx ray.dy }
     ensures { IfOk result (λ f. tree_of f ≡ bear_tree count mask k ray g source.0) }
 {
     let from = own(k);
@@ -257,7 +258,7 @@ pub(crate) fn safe(
     requires target_low { 1 ≤ g }
     requires target_high { g ≤ 8 }
     requires apart { k ≢ g }
-    requires moves { ray.dx ≡ pos 0 → ray.dy ≢ pos 0 }
+    requires direction { IsDirection ray.dx ray.dy }
     ensures { IfOk result (λ f. tree_of f ≡ safe_tree count mask k ray g source.0) }
 {
     let among = among_own(alloc, count, mask, source)?;

@@ -1,6 +1,7 @@
 //! Chains of And.
 
 ghost use Rattle.std.specs.Prelude.{◌≡◌, ◌≢◌, ◌≤◌, ◌++◌, ◌∷◌, [], ℕ, IfOk, OnOk, pos, true};
+ghost use Rattle.game_rules.specs.Game.{IsDirection};
 ghost use Rattle.lin_formula.specs.TreeOf.{tree_of};
 ghost use Rattle.rule_formula.specs.Placed.{is_live as live_in};
 ghost use Rattle.rule_formula.specs.Seats.{IsSeat, own as own_seat};
@@ -62,6 +63,7 @@ fn and_line(alloc: Global, f: Formula, ray: Ray, a: Seat, b: Seat) -> Result<For
     requires from { IsSeat a }
     requires to { IsSeat b }
     requires suits { Suits ray a b }
+    requires direction { IsDirection ray.dx ray.dy }
     ensures { IfOk result (λ g. tree_of g ≡ and_all (tree_of f) (line_atoms ray.dx ray.dy a b)) }
 {
     if ray.dx == 0 {
@@ -79,7 +81,7 @@ fn and_far(alloc: Global, f: Formula, ray: Ray, a: Seat, b: Seat) -> Result<Form
     requires from { IsSeat a }
     requires to { IsSeat b }
     requires suits { Suits ray a b }
-    requires moves { ray.dx ≡ pos 0 → ray.dy ≢ pos 0 }
+    requires direction { IsDirection ray.dx ray.dy }
     requires far { ray.far ≡ true }
     ensures { IfOk result (λ g. tree_of g ≡ and_all (tree_of f) (ray_atoms ray a b)) }
 {
@@ -99,7 +101,7 @@ pub(crate) fn and_ray(
     requires from { IsSeat a }
     requires to { IsSeat b }
     requires suits { Suits ray a b }
-    requires moves { ray.dx ≡ pos 0 → ray.dy ≢ pos 0 }
+    requires direction { IsDirection ray.dx ray.dy }
     ensures { IfOk result (λ g. tree_of g ≡ and_all (tree_of f) (ray_atoms ray a b)) }
 {
     if ray.far {
@@ -133,6 +135,7 @@ fn and_away(alloc: Global, f: Formula, way: Way, k: u8) -> Result<Formula, Alloc
     requires from { IsSeat way.from }
     requires first { AreApart way.from (own_seat k) }
     requires last { AreApart (own_seat k) way.to }
+    requires direction { IsDirection way.ray.dx way.ray.dy }
     ensures { IfOk result (λ g. tree_of g ≡ tree.And (tree_of f) (tree.Not (on_way way (own_seat k)))) }
 {
     let stands = on(alloc, way, own(k))?;
@@ -151,6 +154,7 @@ pub(crate) fn and_clear(
     requires from { IsSeat path.way.from }
     requires first { (k : ℕ) → 1 ≤ k → k ≤ 8 → k ≢ path.first → k ≢ path.second → AreApart path.way.from (own_seat k) }
     requires last { (k : ℕ) → 1 ≤ k → k ≤ 8 → k ≢ path.first → k ≢ path.second → AreApart (own_seat k) path.way.to }
+    requires direction { IsDirection path.way.ray.dx path.way.ray.dy }
     ensures { IfOk result (λ g. tree_of g ≡ clear_path (tree_of f) mask path count) }
 {
     let mut chain = f;

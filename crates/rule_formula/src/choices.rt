@@ -1,14 +1,14 @@
 //! The options of a side in a mask.
 
 ghost use Rattle.std.specs.Prelude.{◌≡◌, ◌↔◌, ◌≤◌, ◌++◌, Contains, IfOk, OnOk, length};
-ghost use Rattle.game_rules.specs.Rays.{rays_of, serves_captures as captures, serves_moves as moves};
+ghost use Rattle.game_rules.specs.Rays.{serves_captures as captures, serves_moves as moves};
 ghost use Rattle.rule_formula.specs.declared.opt.Opt.{Opt};
 ghost use Rattle.rule_formula.specs.Meaning.{IsOptionOfSide};
 ghost use Rattle.rule_formula.specs.Options.{captures_of, his_options, is_king as king_of, is_prey as prey_of, is_side as side_of, options_of, ray_options, rays_to};
 
 use crate::opt::Opt;
 use crate::stock::{is_live, man_of};
-use chess_game::Position;
+use chess_game::{Position, ray_count};
 use game_rules::{Kind, Man, Side};
 use std::alloc::{AllocError, Global};
 
@@ -148,17 +148,6 @@ fn list(alloc: Global, stock: &Position, mask: u8, side: Side) -> Result<Opts, A
         push_man(&mut options, stock, mask, side, number, man)?;
     }
     Ok(options)
-}
-
-/// How many rays a man has.
-pub(crate) fn ray_count(kind: Kind, side: Side) -> u8
-    ensures { result ≡ length (rays_of kind side) }
-{
-    match kind {
-        Kind::King | Kind::Queen | Kind::Knight => 8,
-        Kind::Rook | Kind::Bishop => 4,
-        Kind::Pawn => 3,
-    }
 }
 
 /// The ways in which the side's men may go where the men of the mask are live: by man, then by ray, then by the man that is taken.

@@ -2,9 +2,11 @@
 
 ghost use Rattle.std.specs.Prelude.{◌≡◌, ◌≢◌, ◌≤◌, ◌<◌, IfOk, IfSome, Some, length, pos};
 ghost use Rattle.game_rules.specs.declared.men.Man.{Man};
+ghost use Rattle.game_rules.specs.Game.{IsDirection};
 ghost use Rattle.game_rules.specs.Rays.{ray_of};
 ghost use Rattle.lin_formula.specs.TreeOf.{tree_of};
-ghost use Rattle.rule_formula.specs.Placed.{IsLiveIn, is_live as live_in, stock_man};
+ghost use Rattle.rule_formula.specs.Placed.{IsLiveIn, is_live as live_in};
+ghost use Rattle.mask_sets.specs.Stock.{stock_man};
 ghost use Rattle.rule_formula.specs.Trees.{bear_of, image_of, pre_of, safe_of, tracks_of, twins_tree};
 ghost use Rattle.rule_formula.specs.Meaning.{IsBear, IsBearer, IsImage, IsOptionOf, IsPre, IsSafe, IsTwins};
 ghost use Rattle.rule_formula.specs.Seats.{own as own_seat, vars_to};
@@ -24,7 +26,7 @@ fn ray_of_man(stock: &Position, k: u8, number: u8) -> Option<Ray>
     requires low { 1 ≤ k }
     requires high { k ≤ length stock.now.men }
     ensures ray { (m : Man) → stock_man stock.now.men k ≡ Some m → result ≡ ray_of m.kind m.side number }
-    ensures moves { IfSome result (λ r. r.dx ≡ pos 0 → r.dy ≢ pos 0) }
+    ensures direction { IfSome result (λ r. IsDirection r.dx r.dy) }
 {
     let man = man_of(stock, k);
     ray(man.kind, man.side, number)

@@ -1,7 +1,8 @@
 //! The sets of men who may be live in a game.
 
 ghost use Rattle.std.specs.Prelude.{◌≡◌, ◌↔◌, ◌≤◌, ◌++◌, ◌∷◌, [], if◌then◌else◌, ℕ, Contains, IfOk, OnOk, length};
-ghost use Rattle.rule_formula.specs.Fits.{IsGameMask, has_kings as kings_in, is_game_mask as in_game, is_part as part_of, mask_of, masks_of};
+ghost use Rattle.rule_formula.specs.Fits.{IsGameMask, has_kings as kings_in, is_game_mask as in_game, is_part as part_of, masks_of};
+ghost use Rattle.mask_sets.specs.Stock.{mask_of};
 
 use crate::choices::is_king;
 use crate::stock::{is_live, man_of};

@@ -1,7 +1,8 @@
 //! The men of a position, by number.
 
 ghost use Rattle.std.specs.Prelude.{◌≡◌, ◌≤◌, Some, length};
-ghost use Rattle.rule_formula.specs.Placed.{is_live as live_in, stock_man};
+ghost use Rattle.rule_formula.specs.Placed.{is_live as live_in};
+ghost use Rattle.mask_sets.specs.Stock.{stock_man};
 
 use chess_game::Position;
 use game_rules::Man;

@@ -1,5 +1,5 @@
 use Rattle.std.proofs.Common.{arith, ◌≡◌, ◌+◌, suc}
-use Rattle.rule_formula.specs.Fits.{mask_of}
+use Rattle.mask_sets.specs.Stock.{mask_of}
 use Rattle.rule_formula.proofs.mask_list.list.Goals as goal
 
 pub loop-mask-preserved : goal.loop-mask-preserved

@@ -1,4 +1,4 @@
-use Rattle.rule_formula.proofs.FitLemmas.{mask_one}
+use Rattle.mask_sets.proofs.Masks.{mask_one}
 use Rattle.rule_formula.proofs.mask_list.live_mask.Goals as goal
 
 pub returns : goal.returns
