@@ -7,18 +7,18 @@ use Rattle.std.proofs.Math.Pow.{pow_mono}
 use Rattle.game_rules.specs.Game.{Position, other}
 use Rattle.game_rules.specs.Rays.{rays_of, serves_captures}
 use Rattle.game_rules.specs.declared.men.Kind.{Kind}
-use Rattle.game_rules.specs.declared.men.Kind.TheVariants.{King, Queen, Rook, Bishop, Knight, Pawn}
+use Rattle.chess_game.proofs.AnswerBounds.{rays_few}
 use Rattle.game_rules.specs.declared.men.Man.{Man}
 use Rattle.game_rules.specs.declared.men.Side.{Side}
-use Rattle.game_rules.specs.declared.men.Side.TheVariants.{White, Black}
 use Rattle.lin_formula.specs.declared.formula.SetId.{SetId}
 use Rattle.rule_formula.specs.declared.opt.Opt.{Opt}
 use Rattle.rule_formula.specs.Bearings.{along_rays, bearing, bearings_of, bearings_to, king_number, man_bearings}
-use Rattle.rule_formula.specs.Fits.{is_game_mask, mask_of, masks_of, masks_to, target_of}
+use Rattle.rule_formula.specs.Fits.{is_game_mask, masks_of, masks_to, target_of}
+use Rattle.mask_sets.specs.Stock.{mask_of, stock_man}
 use Rattle.rule_formula.specs.Options.{is_side, options_of}
-use Rattle.rule_formula.specs.Placed.{is_live, stock_man}
+use Rattle.rule_formula.specs.Placed.{is_live}
 use Rattle.rule_formula.specs.Trees.{bear_of, image_of}
-use Rattle.rule_formula.proofs.FitLemmas.{mask_small}
+use Rattle.mask_sets.proofs.Masks.{mask_small}
 use Rattle.rule_formula.proofs.ListTheorem.{options_few}
 use Rattle.mate_plan.specs.Formulas.{bear_trees, image_trees, images_from, name_of, pre_to, pre_trees}
 use Rattle.mate_plan.specs.Plan.{choices_into}
@@ -82,15 +82,6 @@ pres_few p side mask (Some source) targets few =
     let count = options_few p.men mask side few in
     omega (arith, all, count)
 
-rays_few : (kind : Kind) (side : Side) → length (rays_of kind side) ≤ 8
-rays_few King side = omega arith
-rays_few Queen side = omega arith
-rays_few Rook side = omega arith
-rays_few Bishop side = omega arith
-rays_few Knight side = omega arith
-rays_few Pawn White = omega arith
-rays_few Pawn Black = omega arith
-
 along_few : (kind : Kind) (k g n : ℕ) → length (along_rays kind k g n) ≤ n
 along_few kind k g zero = omega arith
 along_few kind k g (suc n) = let rest = if_few (serves_captures kind n) (along_rays kind k g n) (bearing k n g) n (along_few kind k g n) in omega (arith, rest)
@@ -99,14 +90,14 @@ some_few : {A : Type 0} (b : Bool) (xs : List A) (n : ℕ) → length xs ≤ n �
 some_few true xs n h = h
 some_few false xs n h = omega arith
 
-man_few : (mask : ℕ) (side : Side) (g k : ℕ) (m : Option Man) → length (man_bearings mask side g k m) ≤ 8
+man_few : (mask : ℕ) (side : Side) (g k : ℕ) (m : Option Man) → length (man_bearings mask side g k m) ≤ 16
 man_few mask side g k None = omega arith
 man_few mask side g k (Some m) =
     let rays = rays_few m.kind m.side in
     let along = along_few m.kind k g (length (rays_of m.kind m.side)) in
-    some_few (is_live mask k && is_side m.side side) (along_rays m.kind k g (length (rays_of m.kind m.side))) 8 (omega (arith, rays, along))
+    some_few (is_live mask k && is_side m.side side) (along_rays m.kind k g (length (rays_of m.kind m.side))) 16 (omega (arith, rays, along))
 
-to_few : (stock : List Man) (mask : ℕ) (side : Side) (g n : ℕ) → length (bearings_to stock mask side g n) ≤ 8 * n
+to_few : (stock : List Man) (mask : ℕ) (side : Side) (g n : ℕ) → length (bearings_to stock mask side g n) ≤ 16 * n
 to_few stock mask side g zero = omega arith
 to_few stock mask side g (suc n) =
     let rest = to_few stock mask side g n in

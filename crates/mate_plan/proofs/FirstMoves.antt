@@ -6,9 +6,10 @@ use Rattle.track_word.specs.Tracks.{Values}
 use Rattle.game_rules.specs.Game.{Position, Sound}
 use Rattle.game_rules.specs.declared.men.Side.{Side}
 use Rattle.lin_formula.specs.SetOf.{Member, SetOf}
-use Rattle.rule_formula.specs.Fits.{mask_of}
+use Rattle.mask_sets.specs.Stock.{mask_of}
 use Rattle.rule_formula.specs.Mean.{mask_tracks}
-use Rattle.rule_formula.specs.Placed.{is_live, placed, tuple_of}
+use Rattle.rule_formula.specs.Placed.{is_live, placed}
+use Rattle.mask_sets.specs.Tuple.{tuple_of}
 use Rattle.rule_formula.specs.Seats.{squares}
 use Rattle.rule_formula.specs.Trees.{tracks_of}
 use Rattle.rule_formula.proofs.FitLemmas.{placed_values, tuple_placed, values_of}

@@ -1,5 +1,5 @@
 -- Each formula of the plan has a step.
-use Rattle.std.proofs.Common.{◌≡◌, ◌≢◌, ℕ, zero, suc, ◌==◌, ◌<◌, if◌then◌else◌, Bool, true, false, List, [], ◌∷◌, ◌++◌, length, Option, Some, None, ℤ, pos, negsuc, refl, sym, subst, arith}
+use Rattle.std.proofs.Common.{◌≡◌, ◌≢◌, inl, inr, unsigned_abs, ap, ℕ, zero, suc, ◌==◌, ◌<◌, if◌then◌else◌, Bool, true, false, List, [], ◌∷◌, ◌++◌, length, Option, Some, None, ℤ, pos, negsuc, refl, subst, arith}
 use Rattle.std.proofs.lemmas.Bool.{eqb-true}
 use Rattle.game_rules.specs.declared.men.Man.{Man}
 use Rattle.game_rules.specs.declared.men.Ray.{Ray}
@@ -11,12 +11,14 @@ use Rattle.lin_formula.specs.Tree.{Tree, steps}
 use Rattle.lin_formula.specs.Tree as tree
 use Rattle.rule_formula.specs.declared.opt.Opt.{Opt}
 use Rattle.rule_formula.specs.Meaning.{IsBearer, IsOptionOf}
-use Rattle.rule_formula.specs.Placed.{is_live, stock_man, without}
+use Rattle.rule_formula.specs.Placed.{is_live, without}
+use Rattle.mask_sets.specs.Stock.{stock_man}
 use Rattle.rule_formula.specs.Seats.{elsewhere, new_seat, new_seats, own, vars_to}
 use Rattle.rule_formula.specs.Trees.{Suits, ahead, and_all, atoms_as, bear_of, clear, clear_as, difference, ex_swept, image_body, image_of, is_other, line_atoms, man_square, on, point_of, point_to, pre_body, pre_of, pre_tree, ray_at, ray_atoms, safe_of, with_square}
 use Rattle.rule_formula.specs.Ways.{before, onto}
 use Rattle.rule_formula.proofs.FormulaLemmas.{own_apart}
-use Rattle.rule_formula.proofs.KindLemmas.{ray_moves}
+use Rattle.game_rules.specs.Game.{IsDirection}
+use Rattle.game_laws.proofs.TableLemmas.{ray_is}
 use Rattle.rule_formula.proofs.MeaningLemmas.{ray_at_is}
 use Rattle.rule_formula.proofs.MoveLemmas.{some_number}
 
@@ -82,12 +84,17 @@ some_atoms false {r} {a} {b} suits moves =
     some_of_two (b.x.0 == a.x.0) (b.y.0 == a.y.0) (difference b.x a.x Eq r.dx) (difference b.y a.y Eq r.dy)
     (λ e k. moves (suits.across (eqb-true b.x.0 a.x.0 e)) (suits.along (eqb-true b.y.0 a.y.0 k)))
 
+-- a direction moves
+direction_moves : (dx dy : ℤ) → IsDirection dx dy → dx ≡ pos 0 → dy ≢ pos 0
+direction_moves dx dy (inl h) across along = omega (arith, h.0, ap unsigned_abs across)
+direction_moves dx dy (inr h) across along = omega (arith, h.0, ap unsigned_abs along)
+
 ray_at_moves : (stock : List Man) (k n : ℕ) (m : Man) (r : Ray)
     → stock_man stock k ≡ Some m → ray_of m.kind m.side n ≡ Some r → (ray_at stock k n).dx ≡ pos 0
     → (ray_at stock k n).dy ≢ pos 0
 ray_at_moves stock k n m r is ray =
     let Moves : Ray → Type 0 = λ q. q.dx ≡ pos 0 → q.dy ≢ pos 0 in
-    subst Moves (ray_at_is stock k n m r is ray) (ray_moves m.side m.kind n (Some r) (sym ray))
+    subst Moves (ray_at_is stock k n m r is ray) (direction_moves r.dx r.dy (ray_is m.side m.kind n r ray).direction)
 
 pub image_step : {stock : List Man} {mask : ℕ} {o : Opt} (s : ℕ) → IsOptionOf stock mask o → HasStep (image_of stock mask o s)
 image_step {stock} {mask} {o} s w =

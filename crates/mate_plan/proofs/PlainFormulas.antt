@@ -1,5 +1,5 @@
 -- The formulas of the rules name their sets once each, outside of any Not, and other numbers for the sets make no other formula.
-use Rattle.std.proofs.Common.{◌≡◌, ℕ, zero, suc, Bool, true, false, List, [], ◌∷◌, ◌++◌, ℤ, pos, negsuc, refl, ap, ◌∙◌}
+use Rattle.std.proofs.Common.{◌≡◌, ℕ, zero, suc, Bool, true, false, List, [], ◌∷◌, ◌++◌, ℤ, pos, negsuc, unsigned_abs, refl, ap, ◌∙◌}
 use Rattle.std.specs.Prelude.{◌==◌, if◌then◌else◌}
 use Rattle.std.proofs.lemmas.List.{append-nil}
 use Rattle.track_word.specs.declared.tracks.Var.{Var}
@@ -9,7 +9,7 @@ use Rattle.lin_formula.specs.Tree.{Tree}
 use Rattle.lin_formula.specs.Tree as tree
 use Rattle.rule_formula.specs.Placed.{is_live, without}
 use Rattle.rule_formula.specs.Seats.{elsewhere, new_seat, new_seats, old_seats, own, spare, vars_to}
-use Rattle.rule_formula.specs.Trees.{ahead, and_all, atoms_as, bear_tree, clear, clear_as, difference, ex_swept, image_body, image_tree, is_other, line, line_atoms, on, on_as, ordered, past, pre_body, pre_tree, ray_atoms, safe_tree, unless_same}
+use Rattle.rule_formula.specs.Trees.{ahead, and_all, atoms_as, bear_tree, clear, clear_as, difference, ex_swept, falling, image_body, image_tree, is_other, leaping, line, line_atoms, on, on_as, ordered, past, pre_body, pre_tree, ray_atoms, rising, safe_tree, unless_same}
 use Rattle.rule_formula.specs.Ways.{before, onto}
 use Rattle.set_plan.specs.Relabel.{relabel}
 use Rattle.set_plan.specs.Unite.{positives}
@@ -50,19 +50,23 @@ ordered_plain : (d : ℤ) (x y : Var) (n : ℤ) → IsPlain (ordered d x y n)
 ordered_plain (pos d) x y n = tt
 ordered_plain (negsuc d) x y n = tt
 
+either_plain : (b : Bool) (f g : Tree) → IsPlain f → IsPlain g → IsPlain (if b then f else g)
+either_plain true f g h k = h
+either_plain false f g h k = k
+
 ahead_plain : (dx dy : ℤ) (a b : _) (extent : _) → IsPlain (ahead dx dy a b extent)
-ahead_plain (pos zero) dy a b extent = ordered_plain dy a.y b.y (past extent)
-ahead_plain (pos (suc dx)) dy a b extent = ordered_plain (pos (suc dx)) a.x b.x (past extent)
-ahead_plain (negsuc dx) dy a b extent = ordered_plain (negsuc dx) a.x b.x (past extent)
+ahead_plain dx dy a b extent =
+    either_plain (unsigned_abs dx == 1) (ordered dx a.x b.x (past extent)) (ordered dy a.y b.y (past extent))
+    (ordered_plain dx a.x b.x (past extent)) (ordered_plain dy a.y b.y (past extent))
 
 line_plain : (dx dy : ℤ) (a b : _) → IsPlain (line dx dy a b)
 line_plain (pos zero) dy a b = tt
 line_plain (pos (suc dx)) (pos zero) a b = tt
-line_plain (pos (suc dx)) (pos (suc dy)) a b = tt
-line_plain (pos (suc dx)) (negsuc dy) a b = tt
 line_plain (negsuc dx) (pos zero) a b = tt
-line_plain (negsuc dx) (pos (suc dy)) a b = tt
-line_plain (negsuc dx) (negsuc dy) a b = tt
+line_plain (pos (suc dx)) (pos (suc dy)) a b = either_plain (dx == dy) (rising a b) (leaping (pos (suc dx)) (pos (suc dy)) a b) tt tt
+line_plain (pos (suc dx)) (negsuc dy) a b = either_plain (dx == dy) (falling a b) (leaping (pos (suc dx)) (negsuc dy) a b) tt tt
+line_plain (negsuc dx) (pos (suc dy)) a b = either_plain (dx == dy) (falling a b) (leaping (negsuc dx) (pos (suc dy)) a b) tt tt
+line_plain (negsuc dx) (negsuc dy) a b = either_plain (dx == dy) (rising a b) (leaping (negsuc dx) (negsuc dy) a b) tt tt
 
 if_plain : (b : Bool) (f : Tree) → IsPlain f → ArePlain (if b then [] else f ∷ [])
 if_plain true f h = tt
@@ -75,10 +79,10 @@ line_atoms_plain : (dx dy : ℤ) (a b : _) → ArePlain (line_atoms dx dy a b)
 line_atoms_plain (pos zero) dy a b = unless_plain b.x a.x (line (pos zero) dy a b) tt
 line_atoms_plain (pos (suc dx)) (pos zero) a b = unless_plain b.y a.y (line (pos (suc dx)) (pos zero) a b) tt
 line_atoms_plain (negsuc dx) (pos zero) a b = unless_plain b.y a.y (line (negsuc dx) (pos zero) a b) tt
-line_atoms_plain (pos (suc dx)) (pos (suc dy)) a b = (tt, tt)
-line_atoms_plain (pos (suc dx)) (negsuc dy) a b = (tt, tt)
-line_atoms_plain (negsuc dx) (pos (suc dy)) a b = (tt, tt)
-line_atoms_plain (negsuc dx) (negsuc dy) a b = (tt, tt)
+line_atoms_plain (pos (suc dx)) (pos (suc dy)) a b = (line_plain (pos (suc dx)) (pos (suc dy)) a b, tt)
+line_atoms_plain (pos (suc dx)) (negsuc dy) a b = (line_plain (pos (suc dx)) (negsuc dy) a b, tt)
+line_atoms_plain (negsuc dx) (pos (suc dy)) a b = (line_plain (negsuc dx) (pos (suc dy)) a b, tt)
+line_atoms_plain (negsuc dx) (negsuc dy) a b = (line_plain (negsuc dx) (negsuc dy) a b, tt)
 
 append_plain : (fs gs : List Tree) → ArePlain fs → ArePlain gs → ArePlain (fs ++ gs)
 append_plain [] gs h k = k

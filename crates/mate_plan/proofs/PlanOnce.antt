@@ -5,7 +5,7 @@ use Rattle.std.specs.List.{flat_map}
 use Rattle.game_rules.specs.Game.{Position, other}
 use Rattle.game_rules.specs.declared.men.Side.{Side}
 use Rattle.lin_formula.specs.SetOf.{SetOf, Nothing}
-use Rattle.rule_formula.specs.Fits.{mask_of}
+use Rattle.mask_sets.specs.Stock.{mask_of}
 use Rattle.rule_formula.specs.declared.opt.Bearing.{Bearing}
 use Rattle.set_plan.specs.Program.{Item, Give, each}
 use Rattle.set_plan.specs.Same.{SameSets, SameItem}

@@ -12,7 +12,8 @@ use Rattle.lin_formula.specs.Tree.{Tree, Value, memberships}
 use Rattle.lin_formula.specs.SetOf.{Nothing}
 use Rattle.lin_formula.specs.declared.formula.SetId.{SetId}
 use Rattle.formula_auto.specs.Compiled.{IsCompilable, IsSetFor}
-use Rattle.rule_formula.specs.Fits.{mask_of, masks_of}
+use Rattle.rule_formula.specs.Fits.{masks_of}
+use Rattle.mask_sets.specs.Stock.{mask_of}
 use Rattle.rule_formula.specs.Mean.{mask_tracks}
 use Rattle.rule_formula.specs.Meaning.{HasLiveMan}
 use Rattle.rule_formula.specs.Seats.{var}

@@ -6,9 +6,10 @@ use Rattle.game_rules.specs.Game.{Position, Sound, other}
 use Rattle.game_rules.specs.declared.men.Side.{Side}
 use Rattle.game_rules.specs.declared.men.Side.TheVariants.{White, Black}
 use Rattle.lin_formula.specs.SetOf.{as_set}
-use Rattle.rule_formula.specs.Fits.{HasStock, IsGameMask, mask_of}
+use Rattle.rule_formula.specs.Fits.{IsGameMask}
+use Rattle.mask_sets.specs.Stock.{HasStock, mask_of}
 use Rattle.rule_formula.specs.Mean.{mask_tracks}
-use Rattle.rule_formula.specs.Placed.{tuple_of}
+use Rattle.mask_sets.specs.Tuple.{tuple_of}
 use Rattle.mate_plan.specs.Plan.{Level}
 use Rattle.mate_plan.specs.PlanOf.{last_ply}
 

@@ -7,8 +7,9 @@ use Rattle.game_rules.specs.Game.{Position}
 use Rattle.lin_formula.specs.SetOf.{SetOf, as_set}
 use Rattle.lin_formula.specs.declared.formula.Formula.{Formula}
 use Rattle.lin_formula.specs.declared.formula.SetId.{SetId}
-use Rattle.rule_formula.specs.Fits.{mask_of, masks_of}
-use Rattle.rule_formula.specs.Placed.{tuple_of}
+use Rattle.rule_formula.specs.Fits.{masks_of}
+use Rattle.mask_sets.specs.Stock.{mask_of}
+use Rattle.mask_sets.specs.Tuple.{tuple_of}
 use Rattle.rule_formula.specs.declared.opt.Bearing.{Bearing}
 use Rattle.set_plan.specs.Making.{AnswersRemainder, items_over}
 use Rattle.set_plan.specs.Outcome.{Answers, as_is}

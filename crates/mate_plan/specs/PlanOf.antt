@@ -5,7 +5,8 @@ use Rattle.game_rules.specs.declared.men.Side.{Side}
 use Rattle.game_rules.specs.declared.men.Side.TheVariants.{White, Black}
 use Rattle.lin_formula.specs.Tree.{Tree, Value}
 use Rattle.rule_formula.specs.Bearings.{bearings_of}
-use Rattle.rule_formula.specs.Fits.{mask_of, masks_of, target_of}
+use Rattle.rule_formula.specs.Fits.{masks_of, target_of}
+use Rattle.mask_sets.specs.Stock.{mask_of}
 use Rattle.rule_formula.specs.Options.{options_of}
 use Rattle.rule_formula.specs.Placed.{is_live}
 use Rattle.rule_formula.specs.Seats.{var}

@@ -2,9 +2,9 @@
 ghost use Rattle.std.specs.Prelude.{◌≡◌, ◌↔◌, IfOk, IfSome, IsTrue};
 ghost use Rattle.game_rules.specs.Game.{Sound};
 ghost use Rattle.lin_formula.specs.SetOf.{Member, as_set};
-ghost use Rattle.rule_formula.specs.Fits.{mask_of};
+ghost use Rattle.mask_sets.specs.Stock.{mask_of};
 ghost use Rattle.rule_formula.specs.Mean.{mask_tracks as tracks_at};
-ghost use Rattle.rule_formula.specs.Placed.{tuple_of};
+ghost use Rattle.mask_sets.specs.Tuple.{tuple_of};
 ghost use Rattle.set_plan.specs.Outcome.{Answers};
 ghost use Rattle.set_plan.specs.Sets.{Grows, IsSetOn};
 ghost use Rattle.mate_plan.specs.Levels.{AreNamesIn};

@@ -2,7 +2,8 @@
 ghost use Rattle.std.specs.Prelude.{◌≡◌, List, IfOk};
 ghost use Rattle.auto_core.specs.Automaton.{Automaton};
 ghost use Rattle.game_rules.specs.Game.{Sound};
-ghost use Rattle.rule_formula.specs.Fits.{IsGameMask, mask_of};
+ghost use Rattle.rule_formula.specs.Fits.{IsGameMask};
+ghost use Rattle.mask_sets.specs.Stock.{mask_of};
 ghost use Rattle.set_plan.specs.Making.{AnswersMade};
 ghost use Rattle.set_plan.specs.Sets.{Grows, set_at};
 ghost use Rattle.mate_plan.specs.Levels.{AreNamesIn, one_name};

@@ -3,7 +3,7 @@ use Rattle.std.specs.Prelude.{IfOk, IfSome}
 use Rattle.lin_formula.specs.SetOf.{SetOf, as_set}
 use Rattle.rule_formula.specs.Fits.{masks_of}
 use Rattle.rule_formula.specs.Mean.{mask_tracks}
-use Rattle.rule_formula.proofs.FitLemmas.{mask_one}
+use Rattle.mask_sets.proofs.Masks.{mask_one}
 use Rattle.set_plan.specs.Outcome.{Answers}
 use Rattle.set_plan.specs.Sets.{IsSetOn}
 use Rattle.mate_plan.specs.Levels.{level_of}

@@ -1,8 +1,9 @@
 use Rattle.std.proofs.Common.{ℕ, ◌∙◌, subst, arith}
 use Rattle.std.proofs.lemmas.Result.{err_from_is_err_and}
 use Rattle.lin_formula.specs.SetOf.{as_set}
-use Rattle.rule_formula.specs.Fits.{mask_of, masks_of}
-use Rattle.rule_formula.specs.Placed.{tuple_of}
+use Rattle.rule_formula.specs.Fits.{masks_of}
+use Rattle.mask_sets.specs.Stock.{mask_of}
+use Rattle.mask_sets.specs.Tuple.{tuple_of}
 use Rattle.set_plan.specs.Outcome.{Ends, IsPlanError}
 use Rattle.mate_plan.specs.Levels.{level_of}
 use Rattle.mate_plan.specs.Plan.{Level, pre_items, union}

@@ -1,7 +1,7 @@
 use Rattle.std.proofs.lemmas.Result.{err_from_is_err_and}
-use Rattle.rule_formula.specs.Fits.{mask_of}
+use Rattle.mask_sets.specs.Stock.{mask_of}
 use Rattle.rule_formula.specs.Mean.{mask_tracks}
-use Rattle.rule_formula.proofs.FitLemmas.{mask_one}
+use Rattle.mask_sets.proofs.Masks.{mask_one}
 use Rattle.set_plan.specs.Sets.{made_of}
 use Rattle.mate_plan.proofs.LevelLemmas.{on_from_kept}
 use Rattle.mate_plan.proofs.StartAnswers.{point_ends, point_error, point_names}
