@@ -4,9 +4,10 @@ use Rattle.std.specs.Prelude.{IsSomeAnd}
 use Rattle.auto_core.specs.Automaton.{Automaton}
 use Rattle.auto_core.specs.Integers.{IsAccepted}
 use Rattle.game_rules.specs.Game.{Position, Sound}
-use Rattle.rule_formula.specs.Fits.{Fits, mask_of}
+use Rattle.rule_formula.specs.Fits.{Fits}
+use Rattle.mask_sets.specs.Stock.{mask_of}
 use Rattle.rule_formula.specs.Mean.{RulesMean}
-use Rattle.rule_formula.specs.Placed.{tuple_of}
+use Rattle.mask_sets.specs.Tuple.{tuple_of}
 use Rattle.rule_formula.specs.Trees.{point_of}
 use Rattle.rule_formula.proofs.StockLemmas.{stock_unique}
 use Rattle.winning_sets.specs.Kept.{Kept}

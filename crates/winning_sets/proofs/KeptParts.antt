@@ -218,7 +218,7 @@ other_not : (s : Side) → s ≡ other s → ⊥
 other_not White e = cc
 other_not Black e = cc
 
-won_turn : (winner : Side) (n : ℕ) (q : Position) → Win winner n q → q.turn ≡ winner
+pub won_turn : (winner : Side) (n : ℕ) (q : Position) → Win winner n q → q.turn ≡ winner
 won_turn winner zero q h = absurd h
 won_turn winner (suc n) q h = h.0
 

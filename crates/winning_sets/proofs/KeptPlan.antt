@@ -11,10 +11,11 @@ use Rattle.lin_formula.specs.Tree.{Tree, free_vars}
 use Rattle.lin_formula.specs.Tree as tree
 use Rattle.lin_formula.specs.SetOf.{SetOf, Nothing, Where, Member}
 use Rattle.rule_formula.specs.Bearings.{bearings_of}
-use Rattle.rule_formula.specs.Fits.{Fits, IsGameMask, mask_of, masks_of, target_of}
+use Rattle.rule_formula.specs.Fits.{Fits, IsGameMask, masks_of, target_of}
+use Rattle.mask_sets.specs.Stock.{mask_of}
 use Rattle.rule_formula.specs.Mean.{HoldsFitting, RulesMean, mask_tracks}
 use Rattle.rule_formula.specs.Options.{options_of}
-use Rattle.rule_formula.specs.Placed.{tuple_of}
+use Rattle.mask_sets.specs.Tuple.{tuple_of}
 use Rattle.rule_formula.specs.Seats.{var}
 use Rattle.rule_formula.specs.Trees.{point_of}
 use Rattle.set_plan.specs.Program.{Item, Give, Takes}
@@ -228,7 +229,7 @@ module _ (p : Position) (sound : Sound p) (few : length p.men ≤ 8) (mean : Rul
       pub stands : Stands p (side_at j) level (Kept winner p moves j)
       pub fitting : (m : ℕ) → HoldsFitting p (side_at j) m (level m)
 
-    kept-last : IsKept end no_sets
+    pub kept-last : IsKept end no_sets
     kept-last = record {
       stands = λ q fits. (λ h. absurd h, λ h. absurd (kept_end winner p moves h));
       fitting = λ m tuple h. absurd h;
@@ -278,7 +279,7 @@ module _ (p : Position) (sound : Sound p) (few : length p.men ≤ 8) (mean : Rul
     KeptFrom j [] = Unit {0}
     KeptFrom j (level ∷ later) = IsKept j level × KeptFrom (suc j) later
 
-    kept-next : {j : ℕ} (left : ℕ) {reach reach1 kept1 : Level} (level : Level) (xs : Entries) → j + suc left ≡ end → IsReached j reach → IsReached (suc j) reach1
+    pub kept-next : {j : ℕ} (left : ℕ) {reach reach1 kept1 : Level} (level : Level) (xs : Entries) → j + suc left ≡ end → IsReached j reach → IsReached (suc j) reach1
         → IsKept (suc j) kept1 → ((m : ℕ) → IsDecided (kept1 m)) → Takes (kept_level rules p.turn j (suc left) reach reach1 kept1) xs (Some level)
         → IsKept j level
     kept-next {j} left {reach} {reach1} {kept1} level xs e reached reached1 kept decided t =
@@ -342,7 +343,7 @@ module _ (p : Position) (sound : Sound p) (few : length p.men ≤ 8) (mean : Rul
         subst (λ (n : ℕ). IsKept n level) sum there
 
   -- a level that stands for a set whose positions fit has exactly their tuples
-  level-of : (side : Side) (S : Position → Type 0) (level : Level)
+  pub level-of : (side : Side) (S : Position → Type 0) (level : Level)
       → ((q : Position) → S q → Fits p side q) → Stands p side level S → ((m : ℕ) → HoldsFitting p side m (level m))
       → IsLevelOf S level
   level-of side S level fits stands fitting = record {

@@ -10,11 +10,12 @@ use Rattle.lin_formula.specs.SetOf.{SetOf, Nothing, Member}
 use Rattle.rule_formula.specs.declared.opt.Bearing.{Bearing}
 use Rattle.rule_formula.specs.declared.opt.Opt.{Opt}
 use Rattle.rule_formula.specs.Bearings.{bearings_of}
-use Rattle.rule_formula.specs.Fits.{Fits, IsGameMask, mask_of, masks_of, target_of}
+use Rattle.rule_formula.specs.Fits.{Fits, IsGameMask, masks_of, target_of}
+use Rattle.mask_sets.specs.Stock.{mask_of}
 use Rattle.rule_formula.specs.Mean.{BearsOnKing, BearingsMean, HoldsFitting, IsImageOf, RulesMean, mask_tracks}
 use Rattle.rule_formula.specs.Meaning.{TakesOption}
 use Rattle.rule_formula.specs.Options.{options_of}
-use Rattle.rule_formula.specs.Placed.{tuple_of}
+use Rattle.mask_sets.specs.Tuple.{tuple_of}
 use Rattle.set_plan.specs.Program.{Entry, Give, Takes, each}
 use Rattle.set_plan.specs.Unite.{Made, two}
 use Rattle.mate_plan.specs.Plan.{Level, Program, Rules, bear_item, bear_items, choices_into, difference, for_masks, image_item, image_items, level_with, lost_level, lost_set, lost_set_if, name, narrow, narrow_by, no_sets, pre_item, pre_items, reach_set, rest_set, safe_item, union, win_level, win_set, with_mask}

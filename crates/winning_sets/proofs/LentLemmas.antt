@@ -11,7 +11,8 @@ use Rattle.game_rules.specs.Game.{Position}
 use Rattle.game_rules.specs.declared.men.Man.{Man}
 use Rattle.lin_formula.specs.SetOf.{Member, Nothing, SetOf, Table, as_set}
 use Rattle.lin_formula.specs.declared.formula.SetId.{SetId}
-use Rattle.rule_formula.specs.Fits.{IsGameMask, is_game_mask, mask_of, masks_of, masks_to}
+use Rattle.rule_formula.specs.Fits.{IsGameMask, is_game_mask, masks_of, masks_to}
+use Rattle.mask_sets.specs.Stock.{mask_of}
 use Rattle.rule_formula.specs.Mean.{GameMeans}
 use Rattle.rule_formula.specs.Placed.{is_live}
 use Rattle.rule_formula.specs.Trees.{tracks_of}

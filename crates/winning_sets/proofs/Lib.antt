@@ -18,6 +18,7 @@ pub mod Tuples
 pub mod States
 pub mod Reached
 pub mod WonLemmas
+pub mod KeptGame
 pub mod ClaimedLemmas
 pub mod ClaimPlaces
 pub mod ValidLemmas

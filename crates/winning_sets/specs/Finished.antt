@@ -3,7 +3,8 @@ use Rattle.std.specs.Prelude.{◌≡◌, ℕ, suc, ◌<◌, ◌≤◌, List, len
 use Rattle.auto_core.specs.Automaton.{Automaton}
 use Rattle.game_rules.specs.Game.{Position, Sound}
 use Rattle.lin_formula.specs.declared.formula.SetId.{SetId}
-use Rattle.rule_formula.specs.Fits.{mask_of, masks_of}
+use Rattle.rule_formula.specs.Fits.{masks_of}
+use Rattle.mask_sets.specs.Stock.{mask_of}
 use Rattle.set_plan.specs.Outcome.{Ends}
 use Rattle.mate_plan.specs.Levels.{AreNames, level_of}
 use Rattle.mate_plan.specs.Plan.{forward}

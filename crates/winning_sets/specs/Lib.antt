@@ -1,4 +1,6 @@
 pub use Rattle.game_rules.specs.Game
+pub use Rattle.mask_sets.specs.Stock
+pub use Rattle.mask_sets.specs.Tuple
 pub use Rattle.rule_formula.specs.Placed
 pub use Rattle.rule_formula.specs.Options
 pub use Rattle.rule_formula.specs.Trees
@@ -24,4 +26,5 @@ pub mod Finished
 pub mod PlanMeans
 pub mod Claimed
 pub mod OfGame
+pub mod KeptByLoser
 pub mod Keeping

@@ -6,8 +6,8 @@ use Rattle.auto_core.specs.Integers.{DecidesIntegers}
 use Rattle.game_rules.specs.Game.{Position, Sound, Value, other}
 use Rattle.game_rules.specs.declared.men.Side.{Side}
 use Rattle.lin_formula.specs.SetOf.{Member, SetOf, Table}
-use Rattle.rule_formula.specs.Fits.{mask_of}
-use Rattle.rule_formula.specs.Placed.{tuple_of}
+use Rattle.mask_sets.specs.Stock.{mask_of}
+use Rattle.mask_sets.specs.Tuple.{tuple_of}
 use Rattle.set_plan.specs.Program.{Entry, Takes}
 use Rattle.winning_sets.specs.Kept.{Kept, moves_left}
 use Rattle.mate_plan.specs.PlanOf.{last_ply, plan_of, rules_of}

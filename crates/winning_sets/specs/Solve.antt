@@ -7,8 +7,10 @@ use Rattle.auto_core.specs.Reduced.{IsReduced}
 use Rattle.game_rules.specs.Game.{Position, Sound}
 use Rattle.game_rules.specs.declared.men.Man.{Man}
 use Rattle.game_rules.specs.declared.men.Side.{Side}
-use Rattle.rule_formula.specs.Fits.{HasStock, IsGameMask, mask_of, masks_of}
-use Rattle.rule_formula.specs.Placed.{is_live, tuple_of}
+use Rattle.rule_formula.specs.Fits.{IsGameMask, masks_of}
+use Rattle.mask_sets.specs.Stock.{HasStock, mask_of}
+use Rattle.rule_formula.specs.Placed.{is_live}
+use Rattle.mask_sets.specs.Tuple.{tuple_of}
 use Rattle.rule_formula.specs.Trees.{tracks_of}
 use Rattle.mask_sets.specs.Sets.{set_of}
 use Rattle.set_plan.specs.Outcome.{Ends, Stops}

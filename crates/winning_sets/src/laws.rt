@@ -1,5 +1,6 @@
 //! What the sets of a plan mean: laws of the definitions, each the contract of a function that does nothing.
 
+ghost use Rattle.winning_sets.specs.KeptByLoser.{KeptAreOfGame, KeptIsWon};
 ghost use Rattle.winning_sets.specs.PlanMeans.{FirstIsValue, ForwardIsReach, KeepsIsKept, MovesAreCounted, NoneIsKeptLast, PlanIsKept, TablesAreDecided};
 
 /// What a plan goes through forward is what is reached, ply by ply and mask by mask.
@@ -35,4 +36,14 @@ pub fn keeps_is_kept()
 /// Of an automaton that decides a set of integers it is known which tuples it has.
 pub fn tables_are_decided()
     ensures { TablesAreDecided }
+{}
+
+/// What is kept at the plies of the loser is sound, with the loser to move.
+pub fn kept_are_of_game()
+    ensures { KeptAreOfGame }
+{}
+
+/// Where the winner mates in time, what is kept at the plies of the loser is won.
+pub fn kept_is_won()
+    ensures { KeptIsWon }
 {}

@@ -1,7 +1,8 @@
 //! Solved positions.
 ghost use Rattle.std.specs.Prelude.{◌≡◌, ◌↔◌, ◌+◌, ◌≤◌, ℕ, [], slice_index_or, IfSome, IsTrue, length, option_copied};
 ghost use Rattle.game_rules.specs.Game.{Value};
-ghost use Rattle.rule_formula.specs.Fits.{HasStock, masks_of};
+ghost use Rattle.rule_formula.specs.Fits.{masks_of};
+ghost use Rattle.mask_sets.specs.Stock.{HasStock};
 ghost use Rattle.winning_sets.specs.Claimed.{IsValid, IsWonClaim, solution_of};
 ghost use Rattle.winning_sets.specs.Solve.{HasCoordinates, IsKeptIn, IsMostStates, IsSolution, end_of, kept_at, planned, reach_at, states_of};
 
@@ -204,6 +205,14 @@ impl Solved {
         ensures valid { IsValid self.now }
     {
         sets_of_ply(self.kept.as_slice(), ply)
+    }
+
+    /// The reached sets of a ply in the order of the masks. There is none where the plan has no step, past the last ply, and with a claim.
+    pub fn reached_sets(&self, ply: u8) -> &[Auto]
+        ensures sets { result.now ≡ slice_index_or self.now.reach ply [] }
+        ensures valid { IsValid self.now }
+    {
+        sets_of_ply(self.reach.as_slice(), ply)
     }
 
     /// How many states the set of a ply and a mask has, and none where there is no set.

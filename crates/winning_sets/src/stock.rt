@@ -1,6 +1,6 @@
 //! Positions of one game.
 ghost use Rattle.std.specs.Prelude.{◌≡◌, ◌↔◌, IsTrue};
-ghost use Rattle.rule_formula.specs.Fits.{HasStock};
+ghost use Rattle.mask_sets.specs.Stock.{HasStock};
 
 use chess_game::{Man, Position};
 

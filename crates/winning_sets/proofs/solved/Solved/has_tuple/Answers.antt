@@ -2,8 +2,8 @@ use Rattle.std.proofs.Common.{◌≡◌, ◌↔◌, Option, Some, length, ap, su
 use Rattle.std.specs.Prelude.{IsSomeAnd, IsTrue}
 use Rattle.auto_core.specs.Automaton.{Automaton}
 use Rattle.auto_core.specs.Integers.{IsAccepted}
-use Rattle.rule_formula.specs.Fits.{mask_of}
-use Rattle.rule_formula.specs.Placed.{tuple_of}
+use Rattle.mask_sets.specs.Stock.{mask_of}
+use Rattle.mask_sets.specs.Tuple.{tuple_of}
 use Rattle.winning_sets.specs.Solve.{kept_at}
 use Rattle.winning_sets.proofs.Places.{kept_at-table}
 use Rattle.winning_sets.proofs.Tuples.{tuple_count}

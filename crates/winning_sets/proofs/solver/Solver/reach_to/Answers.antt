@@ -1,7 +1,7 @@
 use Rattle.std.proofs.Common.{◌≡◌, ℕ, ◌+◌, ◌-◌, length, subst, arith}
 use Rattle.std.proofs.lemmas.Result.{err_from_is_err_and}
 use Rattle.game_rules.specs.Game.{Position}
-use Rattle.rule_formula.specs.Fits.{mask_of}
+use Rattle.mask_sets.specs.Stock.{mask_of}
 use Rattle.set_plan.specs.Outcome.{IsPlanError}
 use Rattle.mate_plan.specs.Plan.{forward}
 use Rattle.mate_plan.specs.PlanOf.{rules_of}

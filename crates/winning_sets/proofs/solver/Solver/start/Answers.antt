@@ -1,7 +1,7 @@
 use Rattle.std.proofs.Common.{◌≡◌, ◌++◌, ◌∷◌, [], length, take, List, ℕ, ap, refl, subst, ◌∙◌}
 use Rattle.std.proofs.lemmas.List.{length-map}
 use Rattle.std.proofs.lemmas.Result.{err_from_is_err_and}
-use Rattle.rule_formula.specs.Fits.{mask_of}
+use Rattle.mask_sets.specs.Stock.{mask_of}
 use Rattle.set_plan.specs.Outcome.{IsPlanError}
 use Rattle.mate_plan.specs.Plan.{forward}
 use Rattle.mate_plan.specs.PlanOf.{rules_of}
