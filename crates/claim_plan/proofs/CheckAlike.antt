@@ -6,8 +6,8 @@ use Rattle.game_rules.specs.Game.{Position, other}
 use Rattle.game_rules.specs.declared.men.Side.{Side}
 use Rattle.game_rules.specs.declared.men.Side.TheVariants.{White, Black}
 use Rattle.lin_formula.specs.SetOf.{SetOf}
-use Rattle.rule_formula.specs.Fits.{mask_of}
-use Rattle.rule_formula.specs.Placed.{tuple_of}
+use Rattle.mask_sets.specs.Stock.{mask_of}
+use Rattle.mask_sets.specs.Tuple.{tuple_of}
 use Rattle.set_plan.specs.Program.{IsYes, Item, Question, Ask, Give, Empty, Has, Stable, Within, bind}
 use Rattle.set_plan.specs.Same.{SameSets}
 use Rattle.set_plan.specs.Unite.{are_empty, is_within, make, remainder, without}

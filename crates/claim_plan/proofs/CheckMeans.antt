@@ -3,7 +3,8 @@ use Rattle.std.proofs.Common.{◌≡◌, ◌↔◌, ℕ, suc, ◌+◌, List, [],
 use Rattle.std.specs.Prelude.{Contains}
 use Rattle.std.specs.List.{flat_map}
 use Rattle.game_rules.specs.Game.{other}
-use Rattle.rule_formula.specs.Fits.{IsGameMask, mask_of, masks_of}
+use Rattle.rule_formula.specs.Fits.{IsGameMask, masks_of}
+use Rattle.mask_sets.specs.Stock.{mask_of}
 use Rattle.rule_formula.specs.Mean.{RulesMean}
 use Rattle.rule_formula.specs.Trees.{point_of}
 use Rattle.winning_sets.proofs.KeptSets.{game_mask, in_masks}

@@ -6,8 +6,9 @@ use Rattle.auto_core.specs.Automaton.{Automaton}
 use Rattle.auto_core.specs.Integers.{IsAccepted}
 use Rattle.game_rules.specs.Game.{Lost, Position, other}
 use Rattle.lin_formula.specs.SetOf.{Member, as_set}
-use Rattle.rule_formula.specs.Fits.{mask_of}
-use Rattle.rule_formula.specs.Placed.{is_live, placed, tuple_of}
+use Rattle.mask_sets.specs.Stock.{mask_of}
+use Rattle.rule_formula.specs.Placed.{is_live, placed}
+use Rattle.mask_sets.specs.Tuple.{tuple_of}
 use Rattle.rule_formula.specs.Seats.{squares}
 use Rattle.rule_formula.proofs.FitLemmas.{tuple_placed}
 use Rattle.rule_formula.proofs.GameTheorem.{placed_mask, placed_stock}

@@ -6,9 +6,10 @@ use Rattle.game_rules.specs.declared.men.Side.TheVariants.{White, Black}
 use Rattle.lin_formula.specs.Tree.{Tree}
 use Rattle.lin_formula.specs.Tree as tree
 use Rattle.lin_formula.specs.SetOf.{Member, SetOf, Nothing, Where}
-use Rattle.rule_formula.specs.Fits.{Fits, mask_of}
+use Rattle.rule_formula.specs.Fits.{Fits}
+use Rattle.mask_sets.specs.Stock.{mask_of}
 use Rattle.rule_formula.specs.Mean.{RulesMean}
-use Rattle.rule_formula.specs.Placed.{tuple_of}
+use Rattle.mask_sets.specs.Tuple.{tuple_of}
 use Rattle.rule_formula.specs.Seats.{var}
 use Rattle.rule_formula.specs.Trees.{point_of}
 use Rattle.set_plan.specs.Program.{Ask, Give, Has, Item, Takes, bind}

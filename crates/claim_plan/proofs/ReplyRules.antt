@@ -6,10 +6,11 @@ use Rattle.game_rules.specs.declared.men.Side.{Side}
 use Rattle.game_laws.proofs.DecideLemmas.{in_check}
 use Rattle.game_laws.proofs.SoundLemmas.{other_other}
 use Rattle.lin_formula.specs.SetOf.{Member, SetOf}
-use Rattle.rule_formula.specs.Fits.{Fits, IsGameMask, mask_of, masks_of}
+use Rattle.rule_formula.specs.Fits.{Fits, IsGameMask, masks_of}
+use Rattle.mask_sets.specs.Stock.{mask_of}
 use Rattle.rule_formula.specs.Laws.{StepsTo}
 use Rattle.rule_formula.specs.Mean.{HoldsFitting, RulesMean, mask_tracks}
-use Rattle.rule_formula.specs.Placed.{tuple_of}
+use Rattle.mask_sets.specs.Tuple.{tuple_of}
 use Rattle.set_plan.specs.Program.{Takes}
 use Rattle.set_plan.specs.Unite.{is_within}
 use Rattle.set_plan.proofs.Composition.{Takes-split, none_some}

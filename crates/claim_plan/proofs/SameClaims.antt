@@ -3,8 +3,8 @@ use Rattle.std.proofs.Common.{◌≡◌, ◌↔◌, ℕ, List, Option, Some, Non
 use Rattle.auto_core.specs.Automaton.{Automaton}
 use Rattle.game_rules.specs.Game.{Position}
 use Rattle.game_rules.specs.declared.men.Side.{Side}
-use Rattle.rule_formula.specs.Fits.{mask_of}
-use Rattle.rule_formula.specs.Placed.{tuple_of}
+use Rattle.mask_sets.specs.Stock.{mask_of}
+use Rattle.mask_sets.specs.Tuple.{tuple_of}
 use Rattle.set_plan.specs.Outcome.{Ends, Stops}
 use Rattle.set_plan.specs.declared.stop.StepName.{StepName}
 use Rattle.set_plan.proofs.Alike.{Ends-alike, Stops-alike}

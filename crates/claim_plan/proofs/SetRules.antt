@@ -16,10 +16,12 @@ use Rattle.lin_formula.specs.Tree.{Tree}
 use Rattle.lin_formula.specs.SetOf.{Member, SetOf, as_set}
 use Rattle.rule_formula.specs.declared.opt.Bearing.{Bearing}
 use Rattle.rule_formula.specs.Bearings.{bearings_of}
-use Rattle.rule_formula.specs.Fits.{Fits, IsGameMask, mask_of}
+use Rattle.rule_formula.specs.Fits.{Fits, IsGameMask}
+use Rattle.mask_sets.specs.Stock.{mask_of}
 use Rattle.rule_formula.specs.Mean.{RulesMean, mask_tracks}
 use Rattle.rule_formula.specs.Meaning.{AreTwins}
-use Rattle.rule_formula.specs.Placed.{is_live, tuple_of}
+use Rattle.rule_formula.specs.Placed.{is_live}
+use Rattle.mask_sets.specs.Tuple.{tuple_of}
 use Rattle.rule_formula.specs.Trees.{twins_tree}
 use Rattle.rule_formula.proofs.GameTheorem.{live_in_mask}
 use Rattle.set_plan.specs.Program.{Ask, Give, Stable}

@@ -5,8 +5,8 @@ use Rattle.game_rules.specs.Game.{other}
 use Rattle.game_rules.specs.declared.men.Side.{Side}
 use Rattle.game_rules.specs.declared.men.Side.TheVariants.{White, Black}
 use Rattle.lin_formula.specs.SetOf.{SetOf}
-use Rattle.rule_formula.specs.Fits.{mask_of}
-use Rattle.rule_formula.specs.Placed.{tuple_of}
+use Rattle.mask_sets.specs.Stock.{mask_of}
+use Rattle.mask_sets.specs.Tuple.{tuple_of}
 use Rattle.set_plan.specs.Program.{Question, Give, Ask, Stable, Has, bind, each, ◌>>=◌}
 use Rattle.mate_plan.specs.Plan.{Level, Program, Rules, reach_level}
 use Rattle.mate_plan.specs.PlanOf.{rules_of}

@@ -4,7 +4,8 @@ use Rattle.std.specs.List.{flat_map}
 use Rattle.auto_core.specs.Automaton.{Automaton}
 use Rattle.auto_core.specs.Integers.{DecidesIntegers}
 use Rattle.game_rules.specs.Game.{HasMove, InCheck, IsApart, Moves, Position}
-use Rattle.rule_formula.specs.Fits.{mask_of, masks_of}
+use Rattle.rule_formula.specs.Fits.{masks_of}
+use Rattle.mask_sets.specs.Stock.{mask_of}
 use Rattle.mate_plan.specs.Claim.{Claim, IsClaimed, claimed_at, losers_plies}
 use Rattle.mate_plan.specs.Won.{IsBegun, LeadsInto}
 use Rattle.claim_plan.specs.CheckPlan.{Finding, rule_at}

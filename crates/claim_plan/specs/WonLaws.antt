@@ -2,11 +2,10 @@
 use Rattle.std.specs.Prelude.{◌≡◌, ℕ, Some}
 use Rattle.auto_core.specs.Automaton.{Automaton}
 use Rattle.auto_core.specs.Integers.{DecidesIntegers}
-use Rattle.game_rules.specs.Game.{Lost, Position, Sound, Value}
-use Rattle.game_rules.specs.declared.men.Side.{Side}
-use Rattle.mate_plan.specs.Claim.{Claim, IsClaim, IsClaimed, IsLosersPly, claimed_at}
+use Rattle.game_rules.specs.Game.{Lost, Position, Value}
+use Rattle.mate_plan.specs.Claim.{Claim, IsClaim, IsClaimed, claimed_at}
 use Rattle.mate_plan.specs.PlanOf.{last_ply}
-use Rattle.mate_plan.specs.Won.{IsWonBy, Won}
+use Rattle.mate_plan.specs.Won.{Won}
 use Rattle.winning_sets.specs.Kept.{Kept, moves_left}
 use Rattle.winning_sets.specs.OfGame.{AreOfGame}
 use Rattle.winning_sets.specs.Solve.{HasTuplesOf}
@@ -34,22 +33,6 @@ ClaimedIsLost =
 -- in a won claim the winner mates in time
 abbrev pub WonIsValue : Type 0
 WonIsValue = (c : Claim) → IsClaim c → Won c → Value c.winner c.moves c.position
-
--- the position is kept, and the ply is one of the loser
-pub record KeptByLoser (winner : Side) (p : Position) (moves ply : ℕ) (q : Position) : Type 0 where
-  pub losers : IsLosersPly winner p moves ply
-  pub kept : Kept winner p moves ply q
-
--- what is kept there is sound, with the loser to move
-abbrev pub KeptAreOfGame : Type 0
-KeptAreOfGame =
-    (winner : Side) (p : Position) (moves : ℕ) → Sound p → AreOfGame winner p moves (KeptByLoser winner p moves)
-
--- where the winner mates in time, what is kept at the plies of the loser is won
-abbrev pub KeptIsWon : Type 0
-KeptIsWon =
-    (winner : Side) (p : Position) (moves : ℕ) → Sound p → Value winner moves p
-    → IsWonBy winner p (KeptByLoser winner p moves)
 
 -- the automaton decides a set of integers, and has as its tuples those of what is kept at the ply with the mask's men
 pub record IsKeptSet (c : Claim) (ply mask : ℕ) (a : Automaton) : Type 0 where
