@@ -1,14 +1,15 @@
 -- What has a file is a claim. Other crates cite these lemmas.
-use Rattle.std.proofs.Common.{◌≡◌, ◌≢◌, ℕ, Bool, true, false, ◌&&◌, ◌==◌, List, [], ◌∷◌, map, Option, Some, None, inl, inr, refl, sym, ap, ◌∙◌, subst, arith}
+use Rattle.std.proofs.Common.{length, ◌≡◌, ◌≢◌, ℕ, Bool, true, false, ◌&&◌, ◌==◌, List, [], ◌∷◌, map, Option, Some, None, inl, inr, refl, sym, ap, ◌∙◌, subst}
 use Rattle.std.specs.Prelude.{Contains, if◌then◌else◌}
 use Rattle.std.proofs.lemmas.Bool.{eqb-true, eq-eqb, and_from, and_parts}
 use Rattle.std.proofs.lemmas.List.Elements.{All-contains}
 use Rattle.auto_core.specs.Automaton.{Automaton}
-use Rattle.game_rules.specs.declared.men.Side.{Side}
 use Rattle.rule_formula.specs.Fits.{IsGameMask}
 use Rattle.rule_formula.specs.Mean.{mask_tracks}
 use Rattle.set_plan.proofs.Takings.{contains_cases, contains_head, contains_none, contains_rest}
 use Rattle.mate_plan.specs.Claim.{Claim, ClaimedSet, IsClaim, IsLosersPly, claimed_in}
+use Rattle.strategy_file.specs.declared.version.Version.{Version}
+use Rattle.strategy_file.proofs.Greatest.{few_men}
 use Rattle.strategy_file.specs.Fitting.{HasFile, IsFormed}
 use Rattle.strategy_file.specs.Laws.{FilesAreClaims}
 use Rattle.strategy_file.specs.StrategyFile.{places_of}
@@ -75,20 +76,17 @@ at_place c places f =
     let both = (places_of-are c.winner c.position c.moves f.claimed.ply f.claimed.mask).0 there in
     (subst (IsLosersPly c.winner c.position c.moves) f.ply_is both.0, subst (IsGameMask c.position) f.mask_is both.1)
 
-module _ (c : Claim) (h : HasFile c) where
-  places : map place_of c.sets ≡ places_of c.winner c.position c.moves
-  places = h.places ∙ ap (λ (w : Side). places_of w c.position c.moves) (sym h.white)
-
+module _ (version : Version) (c : Claim) (h : HasFile version c) where
   formed : (s : ClaimedSet) → Contains c.sets s → IsFormed c.position s
   formed s has = All-contains (IsFormed c.position) c.sets s h.sets has
 
   pub file_is_claim : IsClaim c
   file_is_claim = record {
     sound = h.sound;
-    few = let most = h.most in omega (arith, most);
+    few = few_men version (length c.position.men) h.fits.most;
     found = λ ply mask losers game.
-        is_some_in c.sets ply mask (subst (λ (ps : List (ℕ × ℕ)). Contains {X = ℕ × ℕ} ps (ply, mask)) (sym places) ((places_of-are c.winner c.position c.moves ply mask).1 (losers, game)));
-    only = λ ply mask a is. at_place c places (found_in c.sets ply mask a is);
+        is_some_in c.sets ply mask (subst (λ (ps : List (ℕ × ℕ)). Contains {X = ℕ × ℕ} ps (ply, mask)) (sym h.places) ((places_of-are c.winner c.position c.moves ply mask).1 (losers, game)));
+    only = λ ply mask a is. at_place c h.places (found_in c.sets ply mask a is);
     tracks = λ ply mask a is.
         let f = found_in c.sets ply mask a is in
         let own = (formed f.claimed f.has).tracks in
@@ -96,4 +94,4 @@ module _ (c : Claim) (h : HasFile c) where
   }
 
 pub files_are_claims : FilesAreClaims
-files_are_claims = λ c h. file_is_claim c h
+files_are_claims = λ version c h. file_is_claim version c h

@@ -26,10 +26,9 @@ use Rattle.strategy_file.specs.KeptFile.{IsKeptClaim, IsKeptSetOf}
 use Rattle.strategy_file.specs.Laws.{FileIsKept, KeptFileIsClaim, OneKeptFile}
 use Rattle.strategy_file.specs.SolvedFile.{IsClaimOf, IsOfKeptSet}
 use Rattle.strategy_file.specs.StrategyFile.{charts_of}
-use Rattle.strategy_file.specs.Written.{set_bytes, written}
+use Rattle.strategy_file.proofs.AlikeFiles.{AreAlike, AreAlikeClaims, alike_by_words, bytes_alike, length_alike, lengths_alike, sets_alike}
 use Rattle.strategy_file.proofs.FileClaims.{IsFound, file_is_claim, found_in, place_of}
 use Rattle.strategy_file.proofs.SameReads.{read_is_same}
-use Rattle.strategy_file.proofs.SolvedFiles.{alike_set_bytes, alike_written}
 use Rattle.strategy_file.proofs.WrittenLemmas.{written_is_read}
 
 -- ---- what is kept has one file
@@ -60,18 +59,22 @@ module _ (winner : Side) (p : Position) (moves : ℕ) where
         (λ h. right.1 (over (left.0 h)), λ h. left.1 (back (right.0 h)));
   }
 
-  same_bytes : (x y : ClaimedSet) → place_of x ≡ place_of y → IsKeptSetOf winner p moves x → IsKeptSetOf winner p moves y → set_bytes x ≡ set_bytes y
-  same_bytes x y place hx hy = alike_set_bytes x y place (same_tracks place hx hy) hx.in_order hy.in_order (same_words place hx hy)
+  same_set : (x y : ClaimedSet) → place_of x ≡ place_of y → IsKeptSetOf winner p moves x → IsKeptSetOf winner p moves y → AreAlike x y
+  same_set x y place hx hy = alike_by_words place (same_tracks place hx hy) hx.in_order hy.in_order (same_words place hx hy)
 
-  one_written : {c d : Claim} → IsKeptClaim winner p moves c → IsKeptClaim winner p moves d → written c ≡ written d
-  one_written {c} {d} hc hd =
-      alike_written (IsKeptSetOf winner p moves) same_bytes c d (hc.position_is ∙ sym hd.position_is) (hc.moves_are ∙ sym hd.moves_are) (hc.places ∙ sym hd.places) hc.sets hd.sets
+  same_claim : {c d : Claim} → IsKeptClaim winner p moves c → IsKeptClaim winner p moves d → AreAlikeClaims c d
+  same_claim {c} {d} hc hd = record {
+    position = hc.position_is ∙ sym hd.position_is;
+    winner = hc.winner_is ∙ sym hd.winner_is;
+    moves = hc.moves_are ∙ sym hd.moves_are;
+    sets = sets_alike (IsKeptSetOf winner p moves) same_set c.sets d.sets (hc.places ∙ sym hd.places) hc.sets hd.sets;
+  }
 
 pub one_kept_file : OneKeptFile
-one_kept_file = λ winner p moves. record {
-  one_file = λ a b ha hb. ha.bytes_are ∙ one_written winner p moves ha.kept hb.kept ∙ sym hb.bytes_are;
-  one_size = λ a b ha hb. ha.size_is ∙ ap length (one_written winner p moves ha.kept hb.kept) ∙ sym hb.size_is;
-  same_size = λ bytes size h large. large.size_is ∙ ap length (one_written winner p moves large.kept h.kept ∙ sym h.bytes_are);
+one_kept_file = λ version winner p moves. record {
+  one_file = λ a b ha hb. bytes_alike version (same_claim winner p moves ha.kept hb.kept) ha.bytes_are hb.bytes_are;
+  one_size = λ a b ha hb. lengths_alike version (same_claim winner p moves ha.kept hb.kept) ha.size_is hb.size_is;
+  same_size = λ bytes size h large. length_alike version bytes (same_claim winner p moves h.kept large.kept) h.bytes_are large.size_is;
 }
 
 -- ---- it is that of a solved position
@@ -106,7 +109,7 @@ module _ (s : Solution) (valid : IsSolution s) where
   }
 
 pub file_is_kept : FileIsKept
-file_is_kept = λ s valid. record {
+file_is_kept = λ version s valid. record {
   file = λ bytes h. record { claim = h.claim; kept = kept_claim_of s valid h.of; has_file = h.has_file; bytes_are = h.bytes_are };
   size = λ size h. record { claim = h.claim; kept = kept_claim_of s valid h.of; size_is = h.size_is; large = h.large };
 }
@@ -124,15 +127,15 @@ module _ (c : Claim) (sets : All (IsKeptSetOf c.winner c.position c.moves) c.set
       record { sign = subst DecidesIntegers f.set_is h.integers; kept = subst (Has ply mask) f.set_is at_mask }
 
 pub kept_file_is_claim : KeptFileIsClaim
-kept_file_is_claim = λ winner p moves bytes sound value h.
+kept_file_is_claim = λ version winner p moves bytes sound value short h.
     let c : Claim = h.claim in
     let sets : All (IsKeptSetOf c.winner c.position c.moves) c.sets = rw (h.kept.winner_is, h.kept.position_is, h.kept.moves_are) h.kept.sets in
     let here : Value c.winner c.moves c.position = rw (h.kept.winner_is, h.kept.position_is, h.kept.moves_are) value in
-    let is : IsClaim c = file_is_claim c h.has_file in
+    let is : IsClaim c = file_is_claim version c h.has_file in
     let alike = same_claims_are_checked_alike c (claim_with (charts_of c)) (read_is_same c) in
     record {
       charts = charts_of c;
-      read = rw h.bytes_are (written_is_read c h.has_file);
+      read = written_is_read version c bytes h.has_file h.bytes_are short;
       position_is = h.kept.position_is;
       winner_is = h.kept.winner_is;
       moves_are = h.kept.moves_are;

@@ -11,7 +11,8 @@ use Rattle.std.specs.Int.{w32, to_be_bytes}
 use Rattle.std.proofs.lemmas.List.{length-append}
 use Rattle.auto_core.specs.Automaton.{Automaton, first_state, next_state, width}
 use Rattle.mate_plan.specs.Claim.{Claim, ClaimedSet}
-use Rattle.strategy_file.specs.Written.{written, start_bytes, man_bytes, row_bytes, state_bytes, table_bytes, set_bytes}
+use Rattle.strategy_file.specs.declared.version.Version.TheVariants as versions
+use Rattle.strategy_file.specs.Written.{written_dense, start_bytes, man_bytes, row_bytes, state_bytes, table_bytes, set_bytes}
 
 -- as many bytes for each number of a range
 range_length : (f : ℕ → List ℕ) (m : ℕ) → ((k : ℕ) → length (f k) ≡ m) → (a n : ℕ) → length (flat_map f (range_with_len a n)) ≡ n * m
@@ -56,10 +57,10 @@ set_length_bound tracks letters states few is below =
     let a : states * (1 + 4 * letters) ≤ states * (1 + 4 * 2 ^ 20) = mul-le-mul_left states (omega (arith, wide)) in
     omega (arith, wide, a, below)
 
-pub written_length : (c : Claim) (men sets : ℕ) → men ≡ length (flat_map man_bytes c.position.men) → sets ≡ length (flat_map set_bytes c.sets) → 8 + men + sets ≡ length (written c)
-unfolding written start_bytes
+pub written_length : (c : Claim) (men sets : ℕ) → men ≡ length (flat_map man_bytes c.position.men) → sets ≡ length (flat_map set_bytes c.sets) → 8 + men + sets ≡ length (written_dense c)
+unfolding written_dense start_bytes
 written_length c men sets m s =
-    let whole = length-append (start_bytes c.position c.moves) (flat_map set_bytes c.sets) in
+    let whole = length-append (start_bytes versions.Dense c.winner c.position c.moves) (flat_map set_bytes c.sets) in
     omega (arith, whole, m, s)
 
 -- one man more

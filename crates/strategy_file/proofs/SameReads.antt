@@ -10,10 +10,10 @@ use Rattle.strategy_file.specs.StrategyFile.{chart_of}
 use Rattle.strategy_file.specs.Tables.{automaton_of}
 
 -- an automaton with its tables alone
-listed : Automaton → Automaton
+unfoldable pub listed : Automaton → Automaton
 listed a = automaton_of a.tracks a.first a.next a.accept
 
-same_words : (a : Automaton) (word : List ℕ) → Accepts a word ↔ Accepts (listed a) word
+pub same_words : (a : Automaton) (word : List ℕ) → Accepts a word ↔ Accepts (listed a) word
 unfolding listed
 same_words a [] = (λ h. h, λ h. h)
 same_words a (sign ∷ letters) = (λ h. h, λ h. h)
@@ -22,7 +22,7 @@ same_set : (a : Automaton) → IsSameSet a (listed a)
 unfolding listed
 same_set a = record { tracks = refl; words = record { same = λ word is. same_words a word } }
 
-either : (b : Bool) {x y : Automaton} (o u : Option Automaton) → IsSameSet x y → AreSameSets o u → AreSameSets (if b then Some x else o) (if b then Some y else u)
+pub either : (b : Bool) {x y : Automaton} (o u : Option Automaton) → IsSameSet x y → AreSameSets o u → AreSameSets (if b then Some x else o) (if b then Some y else u)
 either true o u here later = here
 either false o u here later = later
 

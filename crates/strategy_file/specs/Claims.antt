@@ -4,13 +4,14 @@ use Rattle.mate_plan.specs.Claim.{Claim, ClaimedSet}
 use Rattle.strategy_file.specs.declared.claim.Claim.{Claim as ClaimHere}
 use Rattle.strategy_file.specs.declared.claim.ClaimedSet.{ClaimedSet as SetHere}
 use Rattle.strategy_file.specs.declared.refusal.FileError.{FileError}
+use Rattle.strategy_file.specs.ClaimedAutos.{automaton_in}
 use Rattle.strategy_file.specs.Layout.{Refusal}
 use Rattle.strategy_file.specs.Reading.{Tells}
 use Rattle.strategy_file.specs.StrategyFile.{Chart, Charts, chart_of, charts_of}
 use Rattle.strategy_file.specs.Tables.{automaton_of}
 
 abbrev pub set_of : SetHere → ClaimedSet
-set_of s = record { ply = s.ply; mask = s.mask; set = s.set }
+set_of s = record { ply = s.ply; mask = s.mask; set = automaton_in s.set }
 
 abbrev pub claim_of : ClaimHere → Claim
 claim_of c = record { position = c.position; winner = c.winner; moves = c.moves; sets = map set_of c.sets.items }

@@ -4,11 +4,15 @@ use Rattle.std.specs.List.{All}
 use Rattle.limits.specs.declared.numbers.TheConstants.{MOST_MOVES, MOST_STATES}
 use Rattle.auto_core.specs.Automaton.{IsAutomaton}
 use Rattle.game_rules.specs.Game.{Position, Sound}
-use Rattle.game_rules.specs.declared.men.Side.TheVariants.{White}
+use Rattle.game_rules.specs.declared.men.Side.{Side}
 use Rattle.chess_game.specs.Near.{IsNarrowPosition}
 use Rattle.rule_formula.specs.Mean.{mask_tracks}
 use Rattle.mate_plan.specs.Claim.{Claim, ClaimedSet}
+use Rattle.strategy_file.specs.declared.version.Version.{Version}
+use Rattle.strategy_file.specs.declared.version.Version.TheVariants as versions
+use Rattle.strategy_file.specs.Versions.{most_turn, most_men, most_kind}
 use Rattle.strategy_file.specs.StrategyFile.{places_of}
+use Rattle.strategy_file.specs.Written.{turn_byte, kind_byte}
 
 -- an automaton over the tracks of the mask's men, with no more states than a file may have for a set
 pub record IsFormed (p : Position) (s : ClaimedSet) : Type 0 where
@@ -16,14 +20,24 @@ pub record IsFormed (p : Position) (s : ClaimedSet) : Type 0 where
   pub valid : IsAutomaton s.set
   pub few : length s.set.accept ≤ MOST_STATES
 
--- The claim has a file of version 1: White is to mate within at most 20 moves, from a sound position of two to five
--- men whose coordinates are numbers of 64 bits; and there is a set for each ply of Black and each mask, in order.
-pub record HasFile (c : Claim) : Type 0 where
-  pub white : c.winner ≡ White
+-- a file of the version can tell the winner, and has room for the men and bytes for their kinds
+pub record FitsVersion (version : Version) (winner : Side) (p : Position) : Type 0 where
+  pub turn : turn_byte winner p.turn ≤ most_turn version
+  pub most : length p.men ≤ most_men version
+  pub kinds : All (λ m. kind_byte m.kind ≤ most_kind version) p.men
+
+-- The claim has a file of a version: the winner is to mate within at most 20 moves, from a sound position of at least
+-- two men that the version fits and whose coordinates are numbers of 64 bits; and there is a set for each ply of the
+-- loser and each mask, in order.
+pub record HasFile (version : Version) (c : Claim) : Type 0 where
+  pub fits : FitsVersion version c.winner c.position
   pub sound : Sound c.position
   pub moves : c.moves ≤ MOST_MOVES
   pub least : 2 ≤ length c.position.men
-  pub most : length c.position.men ≤ 5
   pub narrow : IsNarrowPosition c.position
-  pub places : map (λ s. (s.ply, s.mask)) c.sets ≡ places_of White c.position c.moves
+  pub places : map (λ s. (s.ply, s.mask)) c.sets ≡ places_of c.winner c.position c.moves
   pub sets : All (IsFormed c.position) c.sets
+
+-- the claim has a file of the newest version, as each claim has that has a file
+abbrev pub HasFileOf : Claim → Type 0
+HasFileOf c = HasFile versions.Shared c

@@ -1,8 +1,8 @@
 -- The claim of a solved position in memory as data.
 use Rattle.std.specs.Prelude.{map}
 use Rattle.mate_plan.specs.Claim.{Claim, ClaimedSet}
-use Rattle.strategy_file.specs.declared.kept.KeptClaim.{KeptClaim}
-use Rattle.strategy_file.specs.declared.kept.KeptSet.{KeptSet}
+use Rattle.strategy_file.specs.declared.kept_claim.KeptClaim.{KeptClaim}
+use Rattle.strategy_file.specs.declared.kept_claim.KeptSet.{KeptSet}
 
 abbrev pub as_set : KeptSet → ClaimedSet
 as_set s = record { ply = s.ply; mask = s.mask; set = s.set }

@@ -1,5 +1,5 @@
 -- The file of what is kept, said of a position, a side and a number of moves.
-use Rattle.std.specs.Prelude.{◌≡◌, ℕ, ◌<◌, List, length, map, Ok}
+use Rattle.std.specs.Prelude.{◌≡◌, ℕ, ◌<◌, List, map, Ok}
 use Rattle.std.specs.List.{All}
 use Rattle.auto_core.specs.Integers.{DecidesIntegers}
 use Rattle.auto_reduce.specs.Tables.{IsInOrder}
@@ -13,7 +13,9 @@ use Rattle.winning_sets.specs.Solve.{HasTuplesOf}
 use Rattle.strategy_file.specs.Claims.{claim_with}
 use Rattle.strategy_file.specs.Fitting.{HasFile}
 use Rattle.strategy_file.specs.StrategyFile.{Charts, File, places_of}
-use Rattle.strategy_file.specs.Written.{most_bytes, written}
+use Rattle.strategy_file.specs.Written.{most_bytes}
+use Rattle.strategy_file.specs.Files.{IsBytesOf, IsLengthOf}
+use Rattle.strategy_file.specs.declared.version.Version.{Version}
 
 -- The set decides a set of integers, and has as its tuples the coordinates of what is kept at its ply with the live men
 -- of its mask. It has no state too many, and its states are numbered in the order in which a breadth-first walk in
@@ -33,17 +35,17 @@ pub record IsKeptClaim (winner : Side) (p : Position) (moves : ℕ) (c : Claim) 
   pub sets : All (IsKeptSetOf winner p moves) c.sets
 
 -- the bytes are the file of that claim
-pub record IsKeptFile (winner : Side) (p : Position) (moves : ℕ) (bytes : List ℕ) : Type 0 where
+pub record IsKeptFile (version : Version) (winner : Side) (p : Position) (moves : ℕ) (bytes : List ℕ) : Type 0 where
   pub claim : Claim
   pub kept : IsKeptClaim winner p moves claim
-  pub has_file : HasFile claim
-  pub bytes_are : bytes ≡ written claim
+  pub has_file : HasFile version claim
+  pub bytes_are : IsBytesOf version claim bytes
 
 -- that file would have this many bytes, which are too many
-pub record IsKeptTooLarge (winner : Side) (p : Position) (moves : ℕ) (size : ℕ) : Type 0 where
+pub record IsKeptTooLarge (version : Version) (winner : Side) (p : Position) (moves : ℕ) (size : ℕ) : Type 0 where
   pub claim : Claim
   pub kept : IsKeptClaim winner p moves claim
-  pub size_is : size ≡ length (written claim)
+  pub size_is : IsLengthOf version claim size
   pub large : most_bytes < size
 
 -- the bytes are read as tables whose claim, of this position, side and number of moves, is won

@@ -7,7 +7,9 @@ use Rattle.mate_plan.specs.Claim.{Claim, ClaimedSet}
 use Rattle.winning_sets.specs.Solve.{Solution, kept_at}
 use Rattle.strategy_file.specs.StrategyFile.{places_of}
 use Rattle.strategy_file.specs.Fitting.{HasFile}
-use Rattle.strategy_file.specs.Written.{most_bytes, written}
+use Rattle.strategy_file.specs.Written.{most_bytes}
+use Rattle.strategy_file.specs.Files.{IsBytesOf, IsLengthOf}
+use Rattle.strategy_file.specs.declared.version.Version.{Version}
 use Rattle.strategy_file.specs.declared.writing.WriteFileError.{WriteFileError}
 use Rattle.strategy_file.specs.declared.writing.WriteFileError.TheVariants.{TooLarge, Memory}
 
@@ -29,21 +31,21 @@ pub record IsClaimOf (s : Solution) (c : Claim) : Type 0 where
   pub places : map (λ d. (d.ply, d.mask)) c.sets ≡ places_of s.winner s.position s.moves
   pub sets : All (IsOfKeptSet s) c.sets
 
--- the bytes are the file of the solved position's claim
-pub record IsFileOf (s : Solution) (bytes : List ℕ) : Type 0 where
+-- the bytes are the file, of a version, of the solved position's claim
+pub record IsFileOf (version : Version) (s : Solution) (bytes : List ℕ) : Type 0 where
   pub claim : Claim
   pub of : IsClaimOf s claim
-  pub has_file : HasFile claim
-  pub bytes_are : bytes ≡ written claim
+  pub has_file : HasFile version claim
+  pub bytes_are : IsBytesOf version claim bytes
 
 -- that file would have this many bytes, which are too many
-pub record IsTooLarge (s : Solution) (size : ℕ) : Type 0 where
+pub record IsTooLarge (version : Version) (s : Solution) (size : ℕ) : Type 0 where
   pub claim : Claim
   pub of : IsClaimOf s claim
-  pub size_is : size ≡ length (written claim)
+  pub size_is : IsLengthOf version claim size
   pub large : most_bytes < size
 
 -- why no file of the solved position is written
-abbrev pub IsFileRefusal : Solution → WriteFileError → Type 0
-IsFileRefusal s (TooLarge size) = IsTooLarge s size
-IsFileRefusal s Memory = Unit {0}
+abbrev pub IsFileRefusal : Version → Solution → WriteFileError → Type 0
+IsFileRefusal version s (TooLarge size) = IsTooLarge version s size
+IsFileRefusal version s Memory = Unit {0}

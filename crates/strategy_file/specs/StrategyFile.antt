@@ -1,14 +1,14 @@
--- Strategy files of version 1, field by field.
+-- Strategy files, field by field.
 use Rattle.std.specs.Prelude.{◌≡◌, ◌⊎◌, ℕ, List, length, map, Result, Err}
 use Rattle.std.specs.Int.{w8}
 use Rattle.std.specs.List.{flat_map}
 use Rattle.track_word.specs.declared.tracks.Var.{Var}
 use Rattle.game_rules.specs.Game.{Position, Sound}
 use Rattle.game_rules.specs.declared.men.Side.{Side}
-use Rattle.game_rules.specs.declared.men.Side.TheVariants.{White}
 use Rattle.rule_formula.specs.Fits.{masks_of}
 use Rattle.rule_formula.specs.Mean.{mask_tracks}
 use Rattle.mate_plan.specs.Claim.{Claim, ClaimedSet, losers_plies}
+use Rattle.strategy_file.specs.declared.version.Version.{Version}
 use Rattle.strategy_file.specs.declared.refusal.ByteWhy.TheVariants as why
 use Rattle.strategy_file.specs.Layout.{Refusal, Byte, Layout, Give, ◌>>=◌, one, between, each, Reads, Ends}
 use Rattle.strategy_file.specs.Men.{Start, start_layout}
@@ -36,11 +36,11 @@ charts_of c = record { position = c.position; winner = c.winner; moves = c.moves
 abbrev pub chart_with : Position → ℕ × ℕ → Table → Chart
 chart_with p place table = record { ply = place.0; mask = place.1; tracks = mask_tracks p place.1; table = table }
 
-unfoldable pub chart_layout : Position → ℕ × ℕ → Layout Chart
-chart_layout p place = do
+unfoldable pub chart_layout : Version → Position → ℕ × ℕ → Layout Chart
+chart_layout version p place = do
   ply ← one (between w8 place.0 place.0 why.Ply)
   mask ← one (between w8 place.1 place.1 why.Men)
-  table ← table_layout (length (mask_tracks p place.1))
+  table ← table_layout version (length (mask_tracks p place.1))
   Give (chart_with p place table)
 
 -- each of the plies with each of the masks
@@ -52,27 +52,26 @@ abbrev pub places_of : Side → Position → ℕ → List (ℕ × ℕ)
 places_of winner p moves = places_with (losers_plies winner p.turn moves) (masks_of p)
 
 -- the tables of all these places
-abbrev pub sets_layout : Position → ℕ → Layout (List Chart)
-sets_layout p moves = each (places_of White p moves) (chart_layout p)
+abbrev pub sets_layout : Start → Layout (List Chart)
+sets_layout start = each (places_of start.winner start.position start.moves) (chart_layout start.version start.position)
 
 abbrev pub charts_with : Start → List Chart → Charts
-charts_with start sets = record { position = start.position; winner = White; moves = start.moves; sets = sets }
+charts_with start sets = record { position = start.position; winner = start.winner; moves = start.moves; sets = sets }
 
 unfoldable pub charts_layout : Start → Layout Charts
 charts_layout start = do
-  sets ← sets_layout start.position start.moves
+  sets ← sets_layout start
   Give (charts_with start sets)
 
 -- the sets of the claim follow, and nothing behind them, or this is the first reason why they do not
-abbrev pub SetsFollow : Position → ℕ → ℕ → List ℕ → Result Charts Refusal → Type 0
-SetsFollow p moves at bytes outcome =
-    Reads (charts_layout (record { moves = moves; position = p })) Ends at bytes outcome
+abbrev pub SetsFollow : Start → ℕ → List ℕ → Result Charts Refusal → Type 0
+SetsFollow start at bytes outcome = Reads (charts_layout start) Ends at bytes outcome
 
 -- after the men the position has to be sound
 abbrev pub GoesOn : Start → ℕ → List ℕ → Result Charts Refusal → Type 0
 GoesOn start at bytes outcome =
     ((Sound start.position → ⊥) × (outcome ≡ Err (Byte at why.Unsound)))
-    ⊎ (Sound start.position × Reads (charts_layout start) Ends at bytes outcome)
+    ⊎ (Sound start.position × SetsFollow start at bytes outcome)
 
 -- the bytes are the file of a claim with these tables, or this is the first reason why they are no file
 abbrev pub File : List ℕ → Result Charts Refusal → Type 0

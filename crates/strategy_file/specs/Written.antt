@@ -7,15 +7,25 @@ use Rattle.game_rules.specs.Game.{Position}
 use Rattle.game_rules.specs.declared.men.Side.{Side}
 use Rattle.game_rules.specs.declared.men.Side.TheVariants.{White, Black}
 use Rattle.game_rules.specs.declared.men.Kind.{Kind}
-use Rattle.game_rules.specs.declared.men.Kind.TheVariants.{King, Queen, Rook, Bishop, Knight, Pawn}
+use Rattle.game_rules.specs.declared.men.Kind.TheVariants.{King, Queen, Rook, Bishop, Knight, Pawn, Chancellor, Archbishop, Amazon, Nightrider}
 use Rattle.game_rules.specs.declared.men.Place.{Place}
 use Rattle.game_rules.specs.declared.men.Place.TheVariants.{Gone, At}
 use Rattle.game_rules.specs.declared.men.Man.{Man}
+use Rattle.strategy_file.specs.declared.version.Version.{Version}
+use Rattle.strategy_file.specs.declared.version.Version.TheVariants as versions
+use Rattle.strategy_file.specs.Versions.{version_byte}
 use Rattle.mate_plan.specs.Claim.{Claim, ClaimedSet}
 
 abbrev pub side_byte : Side → ℕ
 side_byte White = 0
 side_byte Black = 1
+
+-- of the winner and the side to move
+abbrev pub turn_byte : Side → Side → ℕ
+turn_byte White White = 0
+turn_byte White Black = 1
+turn_byte Black White = 2
+turn_byte Black Black = 3
 
 abbrev pub kind_byte : Kind → ℕ
 kind_byte King = 0
@@ -24,6 +34,10 @@ kind_byte Rook = 2
 kind_byte Bishop = 3
 kind_byte Knight = 4
 kind_byte Pawn = 5
+kind_byte Chancellor = 6
+kind_byte Archbishop = 7
+kind_byte Amazon = 8
+kind_byte Nightrider = 9
 
 abbrev pub flag_byte : Bool → ℕ
 flag_byte false = 0
@@ -43,8 +57,10 @@ unfoldable pub man_bytes : Man → List ℕ
 man_bytes m = (side_byte m.side ∷ kind_byte m.kind ∷ []) ++ place_bytes m.place
 
 -- all that stands before the sets
-unfoldable pub start_bytes : Position → ℕ → List ℕ
-start_bytes p moves = (codes "ICSF" ++ 1 ∷ moves ∷ side_byte p.turn ∷ length p.men ∷ []) ++ flat_map man_bytes p.men
+unfoldable pub start_bytes : Version → Side → Position → ℕ → List ℕ
+start_bytes version winner p moves =
+    (codes "ICSF" ++ version_byte version ∷ moves ∷ turn_byte winner p.turn ∷ length p.men ∷ [])
+    ++ flat_map man_bytes p.men
 
 -- a state for each letter, ascending
 unfoldable pub row_bytes : ℕ → (ℕ → ℕ) → List ℕ
@@ -62,9 +78,9 @@ table_bytes a =
 unfoldable pub set_bytes : ClaimedSet → List ℕ
 set_bytes c = (c.ply ∷ c.mask ∷ []) ++ table_bytes c.set
 
--- the file of a claim
-unfoldable pub written : Claim → List ℕ
-written c = start_bytes c.position c.moves ++ flat_map set_bytes c.sets
+-- the file of version 1 of a claim
+unfoldable pub written_dense : Claim → List ℕ
+written_dense c = start_bytes versions.Dense c.winner c.position c.moves ++ flat_map set_bytes c.sets
 
 -- the greatest length of a file
 abbrev pub most_bytes : ℕ

@@ -57,6 +57,21 @@ impl DenseAuto {
         self.accept.len() as u32
     }
 
+    /// `into_auto`, where the tables are kept.
+    pub fn to_auto(&self, alloc: Global) -> Result<Auto, AllocError>
+        ensures tracks { IfOk result (λ a. a.tracks ≡ self.now.tracks) }
+        ensures first { IfOk result (λ a. a.first ≡ self.now.first) }
+        ensures next { IfOk result (λ a. a.next ≡ self.now.next) }
+        ensures accept { IfOk result (λ a. a.accept ≡ self.now.accept) }
+        ensures valid { IfOk result (λ a. IsAutomaton a) }
+    {
+        let tracks = self.tracks.as_slice().to_vec(alloc)?;
+        let first = self.first.as_slice().to_vec(alloc)?;
+        let next = self.next.as_slice().to_vec(alloc)?;
+        let accept = self.accept.as_slice().to_vec(alloc)?;
+        Auto::from_rows(alloc, tracks, first, next, accept)
+    }
+
     /// The automaton with the same tables, whose rows share what they have in common.
     pub fn into_auto(self, alloc: Global) -> Result<Auto, AllocError>
         ensures tracks { IfOk result (λ a. a.tracks ≡ self.tracks) }

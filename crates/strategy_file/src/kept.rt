@@ -1,34 +1,21 @@
-//! The claim of a solved position.
+//! The claim of a solved position, and the claim that was read with its sets reduced.
 
 ghost use Rattle.std.specs.Prelude.{◌≡◌, All, IfOk, IsSome, OnOk, map};
 ghost use Rattle.winning_sets.specs.Solve.{IsSolution, kept_at};
+ghost use Rattle.strategy_file.specs.Claims.{claim_of, set_of};
+ghost use Rattle.strategy_file.specs.Fitting.{HasFileOf};
 ghost use Rattle.strategy_file.specs.KeptClaims.{as_claim, as_set};
+ghost use Rattle.strategy_file.specs.ReducedClaims.{IsReducedClaim, IsReducedSet};
 ghost use Rattle.strategy_file.specs.SolvedFile.{IsClaimOf, IsOfKeptSet};
 ghost use Rattle.strategy_file.specs.StrategyFile.{places_of};
 
+use crate::claim::{Claim, ClaimedSet};
+use crate::kept_claim::{KeptClaim, KeptSet};
 use crate::places::places;
 use auto_core::Auto;
 use auto_reduce::reduce;
-use chess_game::{Position, Side};
 use std::alloc::{AllocError, Global};
 use winning_sets::{Origin, Solved};
-
-/// The set that is kept at a ply and a mask. Its rows share what they have in common: as a table it could be larger than any file.
-#[derive(Drop)]
-pub(crate) struct KeptSet {
-    pub(crate) ply: u8,
-    pub(crate) mask: u8,
-    pub(crate) set: Auto,
-}
-
-/// The claim of a solved position.
-#[derive(Drop)]
-pub(crate) struct KeptClaim {
-    pub(crate) position: Position,
-    pub(crate) winner: Side,
-    pub(crate) moves: u8,
-    pub(crate) sets: Vec<KeptSet>,
-}
 
 /// The claim of the sets that are kept at the plies of the loser.
 pub(crate) fn kept_claim(alloc: Global, solved: &Solved) -> Result<KeptClaim, AllocError>
@@ -70,6 +57,37 @@ fn kept_sets(
         sets.push(set)?;
     }
     Ok(sets)
+}
+
+/// The claim with its sets reduced.
+pub(crate) fn reduced_claim(alloc: Global, claim: &Claim) -> Result<KeptClaim, AllocError>
+    requires { HasFileOf (claim_of claim.now) }
+    ensures { IfOk result (λ c. IsReducedClaim (claim_of claim.now) (as_claim c)) }
+{
+    let position = claim.position;
+    let mut sets = Vec::new(alloc);
+    for claimed in claim.sets.as_slice() {
+        sets.push(reduced_set(alloc, claimed)?)?;
+    }
+    Ok(KeptClaim {
+        position,
+        winner: claim.winner,
+        moves: claim.moves,
+        sets,
+    })
+}
+
+/// A claimed set, reduced.
+fn reduced_set(alloc: Global, claimed: &ClaimedSet) -> Result<KeptSet, AllocError>
+    ensures { IfOk result (λ s. IsReducedSet (set_of claimed.now) (as_set s)) }
+{
+    let set = claimed.set.to_auto(alloc)?;
+    let set = reduce(alloc, &set)?;
+    Ok(KeptSet {
+        ply: claimed.ply,
+        mask: claimed.mask,
+        set,
+    })
 }
 
 /// The set that is kept at a ply and a mask. It is reduced again, since how the states of a solved position's sets

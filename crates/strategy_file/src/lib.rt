@@ -6,20 +6,31 @@
 
 mod charts;
 mod claim;
+mod claimed;
 mod dense;
 mod fields;
 mod kept;
+mod kept_claim;
 pub mod laws;
 mod men;
+mod nodes;
+mod numbers;
 mod places;
 mod reading;
 mod refusal;
 mod rows;
+mod shared;
+mod start;
 mod tables;
+mod version;
 mod writing;
+mod writing_shared;
 
 pub use claim::{Claim, ClaimedSet};
+pub use claimed::ClaimedAuto;
 pub use dense::DenseAuto;
 pub use reading::read_file;
 pub use refusal::{ByteWhy, FileError};
-pub use writing::{WriteFileError, write_file};
+pub use shared::SharedAuto;
+pub use version::Version;
+pub use writing::{WriteFileError, write_claim, write_file, write_file_1};

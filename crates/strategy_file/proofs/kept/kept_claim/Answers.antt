@@ -1,8 +1,11 @@
-use Rattle.std.proofs.Common.{◌≡◌, ◌∙◌}
+use Rattle.std.proofs.Common.{◌≡◌, ◌∙◌, subst}
 use Rattle.std.proofs.lemmas.List.Elements.{All-map}
 use Rattle.strategy_file.specs.KeptClaims.{as_set}
 use Rattle.strategy_file.specs.SolvedFile.{IsOfKeptSet}
 use Rattle.strategy_file.specs.StrategyFile.{places_of}
+use Rattle.winning_sets.specs.Claimed.{IsValidBy}
+use Rattle.winning_sets.specs.Solve.{IsSolution}
+use Rattle.strategy_file.proofs.KeptClaims.{kept_few}
 use Rattle.strategy_file.proofs.ReadLemmas.{places_twice}
 use Rattle.strategy_file.proofs.kept.kept_claim.Goals as goal
 
@@ -17,3 +20,11 @@ returns-clause-claim c =
       places = places_twice as_set c.in_ok-sets.sets.items ∙ c.in_ok-sets.ensures.places ∙ all;
       sets = All-map (IsOfKeptSet c.args.solved.now) as_set c.in_ok-sets.sets.items c.in_ok-sets.ensures.sets;
     }
+
+pub invariant_of-result : goal.invariant_of-result
+invariant_of-result c =
+    let s = c.args.solved.now in
+    let valid : IsSolution s = subst (λ o. IsValidBy o s) c.requires.plan c.masks.ensures.valid in
+    let all : c.as_slice.result.now ≡ places_of s.winner s.position s.moves =
+    c.as_slice.ensures.value ∙ (rw (c.masks.ensures.masks, c.winner.ensures, c.moves.ensures, c.turn.ensures, c.position-position.ensures) at c.in_ok-places.ensures) in
+    record { few = kept_few s.winner s.position s.moves c.in_ok-sets.sets.items (c.in_ok-sets.ensures.places ∙ all) valid.few valid.moves }
