@@ -2,8 +2,8 @@
 use Rattle.std.proofs.Common.{◌≡◌, ◌≢◌, ℕ, zero, suc, Result, refl, subst}
 use Rattle.game_rules.specs.declared.men.Side.{Side}
 use Rattle.game_rules.specs.declared.men.Side.TheVariants.{White, Black}
-use Rattle.rule_formula.specs.Fits.{mask_of}
-use Rattle.rule_formula.specs.Placed.{tuple_of}
+use Rattle.mask_sets.specs.Stock.{mask_of}
+use Rattle.mask_sets.specs.Tuple.{tuple_of}
 use Rattle.set_plan.specs.declared.stop.PlanError.{PlanError}
 use Rattle.mate_plan.specs.Claim.{Claim, claimed_level}
 use Rattle.mate_plan.specs.Plan.{Level, Program}

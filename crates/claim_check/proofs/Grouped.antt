@@ -5,6 +5,7 @@ use Rattle.std.proofs.lemmas.List.Concat.{flat_map-cons}
 use Rattle.std.proofs.lemmas.List.{append-nil, length_push}
 use Rattle.auto_core.specs.Automaton.{Automaton}
 use Rattle.mate_plan.specs.Claim.{ClaimedSet, every_second}
+use Rattle.strategy_file.specs.ClaimedAutos.{automaton_in}
 use Rattle.strategy_file.specs.Claims.{set_of}
 use Rattle.strategy_file.specs.StrategyFile.{places_with}
 use Rattle.strategy_file.specs.declared.claim.ClaimedSet.{ClaimedSet as SetHere}
@@ -16,7 +17,7 @@ abbrev place_of : SetHere → ℕ × ℕ
 place_of s = (s.ply, s.mask)
 
 abbrev table_of : SetHere → Automaton
-table_of s = s.set
+table_of s = automaton_in s.set
 
 -- one more ply at the end
 from_push : (ply : ℕ) (masks : List ℕ) (plies : List (List Automaton)) (sets : List Automaton)

@@ -1,13 +1,12 @@
 -- The reduced sets of a claim that has a file.
 use Rattle.std.proofs.Common.{◌≡◌, ℕ, ◌≤◌, List, [], ◌∷◌, map, refl, sym, ap, ◌∙◌, subst}
 use Rattle.rule_formula.specs.Fits.{masks_of}
-use Rattle.game_rules.specs.declared.men.Side.{Side}
-use Rattle.game_rules.specs.declared.men.Side.TheVariants.{White}
 use Rattle.mate_plan.specs.Claim.{Claim, every_second, losers_plies}
 use Rattle.claim_plan.specs.SameClaims.{IsSameClaim}
 use Rattle.claim_plan.proofs.SameClaims.{same_claims_are_checked_alike}
 use Rattle.strategy_file.specs.Claims.{claim_of, set_of}
-use Rattle.strategy_file.specs.Fitting.{HasFile, IsFormed}
+use Rattle.strategy_file.specs.Fitting.{HasFileOf, IsFormed}
+use Rattle.strategy_file.specs.declared.version.Version.TheVariants.{Shared}
 use Rattle.strategy_file.specs.StrategyFile.{places_with}
 use Rattle.strategy_file.specs.declared.claim.Claim.{Claim as ClaimHere}
 use Rattle.strategy_file.specs.declared.claim.ClaimedSet.{ClaimedSet as SetHere}
@@ -18,7 +17,7 @@ use Rattle.claim_check.specs.Ready.{IsReady, claim_in}
 use Rattle.claim_check.specs.Reduced.{AreReduced}
 use Rattle.claim_check.proofs.ReducedSets.{reduced_are, reduced_few, reduced_same}
 
-module _ (c : Claim) (s : ClaimedSets) (file : HasFile c) (position : s.position ≡ c.position) (winner : s.winner ≡ c.winner) (moves : s.moves ≡ c.moves)
+module _ (c : Claim) (s : ClaimedSets) (file : HasFileOf c) (position : s.position ≡ c.position) (winner : s.winner ≡ c.winner) (moves : s.moves ≡ c.moves)
     (masks : s.masks.items ≡ masks_of s.position) (are : AreReduced c.sets (sets_from 0 (masks_of s.position) s.plies.items)) where
   pub same_claim : IsSameClaim c (claim_in s)
   same_claim = record {
@@ -34,7 +33,7 @@ module _ (c : Claim) (s : ClaimedSets) (file : HasFile c) (position : s.position
       record {
         masks = masks;
         moves = subst few (sym moves) file.moves;
-        claim = (same_claims_are_checked_alike c (claim_in s) same_claim).claims.0 (files_are_claims c file);
+        claim = (same_claims_are_checked_alike c (claim_in s) same_claim).claims.0 (files_are_claims Shared c file);
         reduced = reduced_are c.sets (sets_from 0 (masks_of s.position) s.plies.items) are;
         few = reduced_few c.sets (sets_from 0 (masks_of s.position) s.plies.items) are (IsFormed c.position) (λ d formed. formed.few) file.sets;
       }
@@ -44,12 +43,10 @@ same_places : (sets : List SetHere) → map {B = ℕ × ℕ} (λ s. (s.ply, s.ma
 same_places [] = refl
 same_places (s ∷ sets) = ap (λ l. (s.ply, s.mask) ∷ l) (same_places sets)
 
-pub places_here : (c : ClaimHere) → HasFile (claim_of c) → (first count : ℕ) (masks : List ℕ)
+pub places_here : (c : ClaimHere) → HasFileOf (claim_of c) → (first count : ℕ) (masks : List ℕ)
     → masks ≡ masks_of c.position → every_second first count ≡ losers_plies c.winner c.position.turn c.moves
     → map {B = ℕ × ℕ} (λ s. (s.ply, s.mask)) c.sets.items ≡ places_with (every_second first count) masks
 places_here c file first count masks are plies =
-    let white : c.winner ≡ White = file.white in
     sym (same_places c.sets.items) ∙ file.places
-    ∙ ap (λ (w : Side). places_with (losers_plies w c.position.turn c.moves) (masks_of c.position)) (sym white)
     ∙ ap (λ l. places_with l (masks_of c.position)) (sym plies)
     ∙ ap (places_with (every_second first count)) (sym are)

@@ -6,7 +6,6 @@ use Rattle.mate_plan.specs.Claim.{Claim, IsClaim, losers_plies}
 use Rattle.winning_sets.proofs.MeaningLaws.{mean}
 use Rattle.claim_plan.specs.CheckPlan.{check_sets, for_each}
 use Rattle.claim_plan.specs.Checked.{KeepsRule, set_rules}
-use Rattle.claim_plan.specs.declared.names.Rule.TheVariants as rule
 use Rattle.claim_plan.proofs.CheckMeans.{signed, sets-checks}
 use Rattle.claim_plan.proofs.Findings.{for_each-checks, none_failing}
 use Rattle.claim_check.specs.Ready.{AreSigned}

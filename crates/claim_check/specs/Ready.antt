@@ -6,8 +6,9 @@ use Rattle.auto_core.specs.Integers.{DecidesIntegers}
 use Rattle.auto_core.specs.Reduced.{IsReduced}
 use Rattle.lin_formula.specs.SetOf.{Member}
 use Rattle.lin_formula.specs.declared.formula.SetId.{SetId}
-use Rattle.rule_formula.specs.Fits.{IsGameMask, mask_of, masks_of}
-use Rattle.rule_formula.specs.Placed.{tuple_of}
+use Rattle.rule_formula.specs.Fits.{IsGameMask, masks_of}
+use Rattle.mask_sets.specs.Stock.{mask_of}
+use Rattle.mask_sets.specs.Tuple.{tuple_of}
 use Rattle.mate_plan.specs.Claim.{Claim, IsClaim, claimed_at, claimed_level}
 use Rattle.mate_plan.specs.Levels.{level_in}
 use Rattle.winning_sets.specs.Claimed.{claim_of, solution_of}

@@ -3,7 +3,7 @@ ghost use Rattle.std.specs.Prelude.{◌≡◌, ◌≤◌, IfErr, IfOk, None, OnO
 ghost use Rattle.set_plan.specs.Outcome.{Ends};
 ghost use Rattle.claim_plan.specs.CheckPlan.{check_plan as plan_of};
 ghost use Rattle.strategy_file.specs.Claims.{claim_of};
-ghost use Rattle.strategy_file.specs.Fitting.{HasFile};
+ghost use Rattle.strategy_file.specs.Fitting.{HasFileOf};
 ghost use Rattle.claim_check.specs.Check.{IsCheckError, IsChecked};
 ghost use Rattle.claim_check.specs.Finds.{FindsBy};
 ghost use Rattle.claim_check.specs.Ready.{IsReady, claim_in};
@@ -44,7 +44,7 @@ fn check_plan(bench: &Bench, work: &mut Work, claimed: &ClaimedSets) -> Found
 /// Checks a claim, whoever made it. The answer is the solved position of its sets, or the first rule that the claim does
 /// not keep; a step of its plan may need so many states.
 pub fn check(alloc: Global, claim: Claim, budget: Budget) -> Result<Solved, CheckError>
-    requires claim { HasFile (claim_of claim) }
+    requires claim { HasFileOf (claim_of claim) }
     ensures claimed { IfOk result (λ s. IsChecked (claim_of claim) s) }
     ensures won { OnOk result (Ends (plan_of (claim_of claim)) budget None) }
     ensures error { IfErr result (IsCheckError (claim_of claim) budget) }

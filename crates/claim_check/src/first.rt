@@ -1,7 +1,7 @@
 //! The rule of the start: the winner has a move from the position into what is claimed, or the position is claimed
 //! itself.
 ghost use Rattle.std.specs.Prelude.{◌≡◌, ◌↔◌, ℕ, IsTrue};
-ghost use Rattle.rule_formula.specs.Fits.{mask_of};
+ghost use Rattle.mask_sets.specs.Stock.{mask_of};
 ghost use Rattle.set_plan.specs.Outcome.{Ends};
 ghost use Rattle.claim_plan.specs.CheckPlan as plan;
 ghost use Rattle.claim_check.specs.Finds.{FindsBy};

@@ -2,8 +2,9 @@
 ghost use Rattle.std.specs.Prelude.{◌≡◌, ◌++◌, ◌∷◌, [], IfOk, OnOk, map};
 ghost use Rattle.std.specs.List.{AllZip};
 ghost use Rattle.claim_plan.specs.SameClaims.{IsSameClaim};
+ghost use Rattle.strategy_file.specs.ClaimedAutos.{automaton_in};
 ghost use Rattle.strategy_file.specs.Claims.{claim_of, set_of};
-ghost use Rattle.strategy_file.specs.Fitting.{HasFile};
+ghost use Rattle.strategy_file.specs.Fitting.{HasFileOf};
 ghost use Rattle.strategy_file.specs.StrategyFile.{places_with};
 ghost use Rattle.winning_sets.specs.Claimed.{sets_from};
 ghost use Rattle.claim_check.specs.Plies.{AreFew, plies_in};
@@ -20,7 +21,7 @@ use winning_sets::{ClaimedSets, PlySets};
 
 /// A set, reduced. The table that was read is let go.
 fn reduced_set(alloc: Global, claimed: ClaimedSet) -> Result<Auto, AllocError>
-    ensures { IfOk result (λ a. IsReducedOf claimed.set a) }
+    ensures { IfOk result (λ a. IsReducedOf (automaton_in claimed.set) a) }
 {
     let set = claimed.set.into_auto(alloc)?;
     let reduced = reduce(alloc, &set)?;
@@ -29,7 +30,7 @@ fn reduced_set(alloc: Global, claimed: ClaimedSet) -> Result<Auto, AllocError>
 
 /// The sets of a ply, reduced.
 fn reduced_ply(alloc: Global, sets: Vec<ClaimedSet>) -> Result<PlySets, AllocError>
-    ensures { IfOk result (λ reduced. AllZip IsReducedOf (map (λ s. s.set) sets.items) reduced) }
+    ensures { IfOk result (λ reduced. AllZip IsReducedOf (map (λ s. automaton_in s.set) sets.items) reduced) }
 {
     let mut reduced = Vec::new(alloc);
     for set in sets {
@@ -73,7 +74,7 @@ fn reduced_plies(
 
 /// The sets of a claim, reduced.
 pub(crate) fn reduced_claim(alloc: Global, claim: Claim) -> Result<ClaimedSets, AllocError>
-    requires file { HasFile (claim_of claim) }
+    requires file { HasFileOf (claim_of claim) }
     ensures same { IfOk result (λ sets. IsSameClaim (claim_of claim) (claim_in sets)) }
     ensures ready { IfOk result IsReady }
 {

@@ -1,8 +1,8 @@
 use Rattle.std.proofs.Common.{ℕ, Bool, sym, subst}
 use Rattle.std.proofs.lemmas.Result.{err_from_is_err_and}
 use Rattle.game_rules.specs.Game.{Position, Sound}
-use Rattle.rule_formula.specs.Fits.{mask_of}
-use Rattle.rule_formula.specs.Placed.{tuple_of}
+use Rattle.mask_sets.specs.Stock.{mask_of}
+use Rattle.mask_sets.specs.Tuple.{tuple_of}
 use Rattle.mate_plan.specs.Levels.{AreNamesIn, level_in}
 use Rattle.mate_plan.specs.Plan.{Program}
 use Rattle.mate_plan.specs.PlanOf.{rules_of}

@@ -1,7 +1,7 @@
 use Rattle.std.proofs.Common.{true, false}
 use Rattle.lin_formula.specs.SetOf.{Member}
-use Rattle.rule_formula.specs.Fits.{mask_of}
-use Rattle.rule_formula.specs.Placed.{tuple_of}
+use Rattle.mask_sets.specs.Stock.{mask_of}
+use Rattle.mask_sets.specs.Tuple.{tuple_of}
 use Rattle.set_plan.specs.Program.{Ask, Give, Has}
 use Rattle.mate_plan.specs.Claim.{claimed_level}
 use Rattle.claim_plan.specs.CheckPlan.{rule_at}

@@ -1,5 +1,5 @@
 use Rattle.std.proofs.Common.{ap, ◌∙◌}
-use Rattle.rule_formula.proofs.FitLemmas.{mask_one}
+use Rattle.mask_sets.proofs.Masks.{mask_one}
 use Rattle.claim_plan.specs.CheckPlan.{rule_at}
 use Rattle.claim_plan.specs.declared.names.Rule.TheVariants as rule
 use Rattle.claim_check.proofs.first.first_rule.Goals as goal

@@ -2,9 +2,9 @@ use Rattle.std.proofs.Common.{◌≡◌, Some, None, Option, length, ap, subst, 
 use Rattle.auto_core.specs.Automaton.{Automaton}
 use Rattle.auto_core.specs.Integers.{IsAccepted}
 use Rattle.lin_formula.specs.SetOf.{Member, as_set}
-use Rattle.rule_formula.specs.Fits.{mask_of}
-use Rattle.rule_formula.specs.Placed.{tuple_of}
-use Rattle.rule_formula.proofs.FitLemmas.{mask_one}
+use Rattle.mask_sets.specs.Stock.{mask_of}
+use Rattle.mask_sets.specs.Tuple.{tuple_of}
+use Rattle.mask_sets.proofs.Masks.{mask_one}
 use Rattle.mate_plan.specs.Claim.{claimed_at}
 use Rattle.mate_plan.proofs.FirstMoves.{own_count}
 use Rattle.claim_check.specs.Ready.{claim_in}

@@ -2,6 +2,7 @@ use Rattle.std.proofs.Common.{◌≡◌, ℕ, ◌+◌, ◌++◌, ◌∷◌, [], 
 use Rattle.std.specs.List.{AllZip}
 use Rattle.auto_core.specs.Automaton.{Automaton}
 use Rattle.strategy_file.specs.declared.claim.ClaimedSet.{ClaimedSet as SetHere}
+use Rattle.strategy_file.specs.ClaimedAutos.{automaton_in}
 use Rattle.claim_check.specs.Reduced.{IsReducedOf}
 use Rattle.claim_check.proofs.Grouped.{AreBare, Grouped, bare_more, bare_none, grouped_all, grouped_enough, grouped_more, grouped_none}
 use Rattle.claim_check.proofs.reduced.reduced_plies.Goals as goal
@@ -31,7 +32,7 @@ split_off-requires c =
 pub loop-done-preserved : goal.loop-done-preserved
 loop-done-preserved c =
     let masks = c.args.masks.now in
-    let here = map (λ (s : SetHere). s.set) (take (length masks) c.loop-done.left.items) in
+    let here = map (λ (s : SetHere). automaton_in s.set) (take (length masks) c.loop-done.left.items) in
     let taken : AllZip IsReducedOf here c.in_ok-reduced_ply.field-0 = rw c.in_ok-later.ensures.items at c.in_ok-reduced_ply.ensures in
     let Plies : List (List Automaton) → Type 0 = λ l. Grouped c.args.sets.items masks c.args.losers.first c.args.losers.count (c.loop-done._done + 1) c.in_ok-later.later.items l in
     let Left : List SetHere → Type 0 = λ l. Grouped c.args.sets.items masks c.args.losers.first c.args.losers.count (c.loop-done._done + 1) l

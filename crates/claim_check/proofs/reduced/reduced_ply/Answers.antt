@@ -7,6 +7,7 @@ use Rattle.std.proofs.lemmas.List.{map-append, map-id}
 use Rattle.std.proofs.lemmas.List.Elements.{AllZip-push}
 use Rattle.auto_core.specs.Automaton.{Automaton}
 use Rattle.strategy_file.specs.declared.claim.ClaimedSet.{ClaimedSet as SetHere}
+use Rattle.strategy_file.specs.ClaimedAutos.{automaton_in}
 use Rattle.claim_check.specs.Reduced.{IsReducedOf}
 use Rattle.claim_check.proofs.reduced.reduced_ply.Goals as goal
 
@@ -17,16 +18,16 @@ loop-set-init c =
 
 pub loop-set-preserved : goal.loop-set-preserved
 loop-set-preserved c =
-    let table = λ (s : SetHere). s.set in
+    let table = λ (s : SetHere). automaton_in s.set in
     let so_far = c.loop-set.yielded in
-    let more = AllZip-push IsReducedOf (map table so_far) c.loop-set.reduced.items c.in-Some.set.set c.in_ok-reduced_set.field-0 c.loop-set.invariant c.in_ok-reduced_set.ensures in
+    let more = AllZip-push IsReducedOf (map table so_far) c.loop-set.reduced.items (table c.in-Some.set) c.in_ok-reduced_set.field-0 c.loop-set.invariant c.in_ok-reduced_set.ensures in
     let Taken : List Automaton → Type 0 = λ l. AllZip IsReducedOf l (c.loop-set.reduced.items ++ c.in_ok-reduced_set.field-0 ∷ []) in
     let Made : List Automaton → Type 0 = λ l. AllZip IsReducedOf (map table (so_far ++ c.in-Some.set ∷ [])) l in
     subst Made (sym c.in_ok-push.ensures.items) (subst Taken (sym (map-append table so_far (c.in-Some.set ∷ []))) more)
 
 pub returns : goal.returns
 returns c =
-    let table = λ (s : SetHere). s.set in
+    let table = λ (s : SetHere). automaton_in s.set in
     let gives = c.into_iter-set-iterator.ensures.into_iter_gives in
     let count : into_iter_len c.into_iter-set-iterator.result ≡ length c.args.sets.items = omega (arith, gives.1, c.args.sets.ok.0) in
     let end = YieldsList-end (YieldsList-from_vec {s = c.into_iter-set-iterator.result} c.args.sets.items gives.0 count) c.loop-set.yielded

@@ -7,8 +7,7 @@ use Rattle.mate_plan.specs.Levels.{AreNamesIn, level_in}
 use Rattle.mate_plan.specs.Plan.{Level, Program}
 use Rattle.mate_plan.specs.PlanOf.{rules_of}
 use Rattle.mate_plan.specs.Questions.{are_answered}
-use Rattle.claim_plan.specs.CheckPlan.{check_left, holds_by, rule_at}
-use Rattle.claim_plan.specs.declared.names.Rule.TheVariants as rule
+use Rattle.claim_plan.specs.CheckPlan.{check_left, holds_by}
 use Rattle.claim_plan.specs.declared.names.RuleAt.{RuleAt}
 use Rattle.claim_check.specs.Finds.{Finds}
 use Rattle.claim_check.specs.Ready.{claim_in}

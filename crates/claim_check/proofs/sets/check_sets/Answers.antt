@@ -1,4 +1,3 @@
-use Rattle.claim_check.specs.Ready.{claim_in}
 use Rattle.claim_check.proofs.LosersPlies.{plies_there}
 use Rattle.claim_check.proofs.sets.check_sets.Goals as goal
 
