@@ -15,7 +15,7 @@ use Rattle.game_rules.specs.Rays.{IsAt, serves_moves}
 use Rattle.game_laws.proofs.CheckLemmas.{any_is}
 use Rattle.chess_game.specs.Way.{IsInside}
 use Rattle.chess_game.specs.declared.way.Frame.{Frame}
-use Rattle.rule_formula.specs.Fits.{mask_of}
+use Rattle.mask_sets.specs.Stock.{mask_of}
 use Rattle.mask_sets.specs.Sets.{IsIn, Table, set_at}
 use Rattle.game_session.specs.Aims.{AreNext, HoldsMen, IsHitAlong, IsLeast, IsMover}
 use Rattle.game_session.specs.Along.{IsClear, IsClearForever, IsClearFrom, IsClearTo, LeadsAlong, LeadsAnywhere}

@@ -25,9 +25,9 @@ use Rattle.game_laws.proofs.SoundLemmas.{at_same, fate, fate_kind, fate_side}
 use Rattle.chess_game.specs.Way.{IsFreeFrom, IsHit, IsHitFrom, IsInside}
 use Rattle.chess_game.specs.declared.moves.Move.{Move}
 use Rattle.chess_game.specs.declared.way.Frame.{Frame}
-use Rattle.rule_formula.specs.Fits.{HasStock, mask_of}
-use Rattle.rule_formula.specs.Placed.{tuple_of}
-use Rattle.rule_formula.proofs.PlacedLemmas.{all_men, stock_man-men}
+use Rattle.mask_sets.specs.Stock.{HasStock, mask_of}
+use Rattle.mask_sets.specs.Tuple.{tuple_of}
+use Rattle.mask_sets.proofs.Men.{all_men, stock_man-men}
 use Rattle.game_session.specs.Choice.{AreHisSteps, FirstOf, LeadsTo, IsAlongRay, IsBefore, IsCapture, IsQuiet, Leads, target}
 use Rattle.game_session.specs.Aims.{AreNext, IsAlong, IsFreeBetween, IsHitAlong, IsLeast, IsLeastFound, IsMet, IsMover, tuple_along}
 use Rattle.mask_sets.specs.Places.{coordinates_before}
@@ -289,6 +289,17 @@ step_stock {p} {q} has after = record {
       let same = has.men k m w.0 is_m w.1 in
       let fated = fate after k w.0 n w.1 is_n in
       (sym (fate_side fated) ∙ same.0, sym (fate_kind fated) ∙ same.1);
+}
+
+-- the stock of a position of the stock is the stock
+pub stock_trans : {stock : List Man} {p q : Position} → HasStock stock p → HasStock p.men q → HasStock stock q
+stock_trans {p} {q} one two = record {
+  count = two.count ∙ one.count;
+  men = λ k m n is_m is_n.
+      let w = at_same q p k n (sym two.count) is_n in
+      let a = one.men k m w.0 is_m w.1 in
+      let b = two.men k w.0 n (stock_man-men p k ∙ w.1) is_n in
+      (b.0 ∙ a.0, b.1 ∙ a.1);
 }
 
 -- the way of a man along a ray

@@ -13,8 +13,8 @@ use Rattle.game_laws.proofs.CheckLemmas.{one_square}
 use Rattle.game_laws.proofs.DecideLemmas.{position_after}
 use Rattle.chess_game.specs.Way.{IsFreeFrom, IsInside}
 use Rattle.chess_game.specs.declared.way.Frame.{Frame}
-use Rattle.rule_formula.specs.Fits.{mask_of}
-use Rattle.rule_formula.specs.Placed.{tuple_of}
+use Rattle.mask_sets.specs.Stock.{mask_of}
+use Rattle.mask_sets.specs.Tuple.{tuple_of}
 use Rattle.game_session.specs.Along.{LeadsAlong}
 use Rattle.game_session.specs.Choice.{IsQuiet, Leads, target}
 use Rattle.game_session.specs.Aims.{AreNext, IsHitAlong, IsMover, tuple_along}

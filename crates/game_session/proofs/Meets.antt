@@ -17,7 +17,7 @@ use Rattle.game_laws.proofs.TableLemmas.{ray_is}
 use Rattle.chess_game.specs.Unsoundness.{StandsAt}
 use Rattle.chess_game.specs.Way.{IsHit, IsHitFrom}
 use Rattle.chess_game.specs.declared.way.Frame.{Frame}
-use Rattle.rule_formula.proofs.PlacedLemmas.{all_men}
+use Rattle.mask_sets.proofs.Men.{all_men}
 use Rattle.game_session.specs.Aims.{HoldsMen, IsMet, IsMover}
 use Rattle.game_session.specs.Along.{IsClear, IsClearForever, IsClearFrom, IsClearTo}
 use Rattle.game_session.specs.Choice.{AreHisSteps, AreSteps}
@@ -74,7 +74,7 @@ module _ {p : Position} {i n : ℕ} {r : Ray} (mover : IsMover p i n r) where
           | inl is ↦
               by.0 is
               ∙ (ap (distance mover.square) (sym hit_to)
-              ∙ steps_distance mover.square hit.to r.dx r.dy ((ray_is mover.man.side mover.man.kind n r mover.is_ray).direction is)
+              ∙ steps_distance mover.square hit.to r.dx r.dy (ray_is mover.man.side mover.man.kind n r mover.is_ray).direction
               hit.distance hit.leads.leads)
           | inr is ↦ by.1 is ∙ sym (hit.leads.one is)
         ]

@@ -2,9 +2,8 @@
 use Rattle.std.proofs.Common.{◌≡◌, ◌≢◌, inl, inr, ℕ, zero, suc, ◌+◌, ◌<◌, List, [], ◌∷◌, length, Option, Some, None, refl, sym, ap, subst, ◌∙◌, arith}
 use Rattle.std.specs.Prelude.{slice_get, IsSomeAnd}
 use Rattle.std.proofs.lemmas.Bool.{cases_lt}
-use Rattle.std.proofs.lemmas.Option.{same_Some}
+use Rattle.std.proofs.lemmas.Option.{same_Some, slice_get_cases}
 use Rattle.game_rules.specs.declared.men.Kind.{Kind}
-use Rattle.game_rules.specs.declared.men.Kind.TheVariants.{King, Queen, Rook, Bishop, Knight, Pawn}
 use Rattle.game_rules.specs.declared.men.Man.{Man}
 use Rattle.game_rules.specs.declared.men.Place.{Place}
 use Rattle.game_rules.specs.declared.men.Place.TheVariants.{At, Gone}
@@ -16,6 +15,7 @@ use Rattle.game_laws.specs.OnRay.{IsOnOneRay}
 use Rattle.game_laws.proofs.CheckLemmas.{some_and}
 use Rattle.game_laws.proofs.RayLemmas.{step_one}
 use Rattle.chess_game.specs.declared.way.Frame.{Frame}
+use Rattle.chess_game.proofs.AnswerBounds.{rays_few}
 use Rattle.game_session.specs.Choice.{FirstOf, IsAlongRay, IsBefore, IsOf, Leads, Pick}
 use Rattle.game_session.specs.Aims.{IsLiveOf, IsMover}
 use Rattle.game_session.specs.declared.choice.Choice.{Choice}
@@ -36,13 +36,10 @@ past_none (x ∷ rs) k zero r none some = absurd (cc)
 past_none (x ∷ rs) zero (suc n) r none some = omega arith
 past_none (x ∷ rs) (suc k) (suc n) r none some = let less = past_none rs k n r none some in omega (arith, less)
 
-eight : (k : Kind) (s : Side) → slice_get (rays_of k s) 8 ≡ None
-eight King s = refl
-eight Queen s = refl
-eight Rook s = refl
-eight Bishop s = refl
-eight Knight s = refl
-eight Pawn s = refl
+-- a kind has no ray past the most
+no_more_rays : (k : Kind) (s : Side) → slice_get (rays_of k s) 16 ≡ None
+no_more_rays k s =
+    elim (slice_get_cases (rays_of k s) 16).1 [ inl w ↦ let few = rays_few k s in absurd (omega (arith, w.1, few)) | inr w ↦ w.1 ]
 
 -- a live man's mover
 pub mover_at : (p : Position) (i n : ℕ) (m : Man) (r : Ray) → man_at p i ≡ Some m → IsSomeAnd (man_at p i) (IsLiveOf p.turn)
@@ -82,8 +79,8 @@ module _ (Set : Position → Type 0) (f : Frame) (p : Position) where
         let his : ray_of m.kind m.side d.ray ≡ Some h.on.ray = subst (λ k. ray_of k.kind k.side d.ray ≡ Some h.on.ray) same h.on.is_ray in
         none d q e (past_none (rays_of m.kind m.side) d.ray number h.on.ray past his) h
 
-  pub ray_eight : (man : ℕ) (m : Man) → man_at p man ≡ Some m → NoneBelowRay Set f p man 8 → FirstOf (IsOf man) Set f p None
-  ray_eight man m is none = ray_none man 8 none m is (eight m.kind m.side)
+  pub all_rays : (man : ℕ) (m : Man) → man_at p man ≡ Some m → NoneBelowRay Set f p man 16 → FirstOf (IsOf man) Set f p None
+  all_rays man m is none = ray_none man 16 none m is (no_more_rays m.kind m.side)
 
   module _ (number : ℕ) (none : NoneBelowMan Set f p number) where
     pub man_more : FirstOf (IsOf number) Set f p None → NoneBelowMan Set f p (number + 1)

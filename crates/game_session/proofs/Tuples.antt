@@ -17,10 +17,10 @@ use Rattle.auto_search.specs.Way.{value_after}
 use Rattle.game_session.specs.Aims.{tuple_along}
 use Rattle.mask_sets.specs.Places.{coordinates_before}
 use Rattle.game_laws.proofs.SoundLemmas.{at_same}
-use Rattle.rule_formula.specs.Fits.{mask_of}
-use Rattle.rule_formula.specs.Placed.{man_coordinates, coordinates_of, tuple_of, tuple_to}
-use Rattle.rule_formula.proofs.FitLemmas.{mask_one, mask_tells}
-use Rattle.rule_formula.proofs.PlacedLemmas.{all_men}
+use Rattle.mask_sets.specs.Stock.{mask_of}
+use Rattle.mask_sets.specs.Tuple.{man_coordinates, coordinates_of, tuple_of, tuple_to}
+use Rattle.mask_sets.proofs.Masks.{mask_one, mask_tells}
+use Rattle.mask_sets.proofs.Men.{all_men}
 
 -- two numbers in the middle of a list
 put_at : (xs : List ℤ) (i : ℕ) (a b c d : ℤ) → i ≡ suc (length xs) → set (set (xs ++ a ∷ b ∷ []) (length xs) c) i d ≡ xs ++ c ∷ d ∷ []

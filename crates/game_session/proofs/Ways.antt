@@ -5,7 +5,7 @@ use Rattle.std.proofs.lemmas.Int.{ints}
 use Rattle.std.proofs.lemmas.Bool.{cases_lt}
 use Rattle.std.proofs.lemmas.Option.{same_Some}
 use Rattle.game_rules.specs.declared.men.Kind.{Kind}
-use Rattle.game_rules.specs.declared.men.Kind.TheVariants.{King, Queen, Rook, Bishop, Knight, Pawn}
+use Rattle.game_rules.specs.declared.men.Kind.TheVariants.{King, Queen, Rook, Bishop, Knight, Pawn, Chancellor, Archbishop, Amazon, Nightrider}
 use Rattle.game_rules.specs.declared.men.Man.{Man}
 use Rattle.game_rules.specs.declared.men.Ray.{Ray}
 use Rattle.game_rules.specs.declared.men.Square.{Square}
@@ -21,13 +21,13 @@ use Rattle.game_laws.proofs.SoundLemmas.{any_at, live_at, side_or_other}
 use Rattle.game_laws.proofs.TableLemmas.{ray_is}
 use Rattle.chess_game.specs.Way.{IsHitFrom, IsInside}
 use Rattle.chess_game.specs.declared.way.Frame.{Frame}
-use Rattle.rule_formula.proofs.PlacedLemmas.{all_men}
+use Rattle.mask_sets.proofs.Men.{all_men}
 
 -- a square between others on a far ray is fewer steps along it
 module _ (m : Man) (n : ℕ) (r : Ray) (is_ray : ray_of m.kind m.side n ≡ Some r) (a z : Square) (t : ℕ) (leads : IsAt r t a z) (far : r.far ≡ true) where
   between_at : {b : Square} → IsBetween a z b → (k : ℕ) × (k < t) × IsAt r k a b
   between_at h =
-      let direction = (ray_is m.side m.kind n r is_ray).direction far in
+      let direction = (ray_is m.side m.kind n r is_ray).direction in
       let some : 0 < h.whole = omega (arith, h.begun, h.fewer) in
       let count : h.whole ≡ t = sym (steps_distance a z h.dx h.dy h.direction h.whole h.to_b) ∙ steps_distance a z r.dx r.dy direction t leads.leads in
       let x : h.dx ≡ r.dx = sym (steps_toward_x a z h.dx h.dy h.direction h.whole h.to_b some) ∙ steps_toward_x a z r.dx r.dy direction t leads.leads leads.begun in
@@ -45,7 +45,7 @@ module _ (m : Man) (n : ℕ) (r : Ray) (is_ray : ray_of m.kind m.side n ≡ Some
   at_between k b less at = record {
     dx = r.dx;
     dy = r.dy;
-    direction = (ray_is m.side m.kind n r is_ray).direction far;
+    direction = (ray_is m.side m.kind n r is_ray).direction;
     whole = t;
     part = k;
     begun = at.begun;
@@ -105,6 +105,10 @@ module _ (p : Position) (m : Man) (n : ℕ) (r : Ray) (is_ray : ray_of m.kind m.
   free_goes Rook is serves = free_bears (subst (λ k. IsTrue (serves_captures k n)) (sym is) refl)
   free_goes Bishop is serves = free_bears (subst (λ k. IsTrue (serves_captures k n)) (sym is) refl)
   free_goes Knight is serves = free_bears (subst (λ k. IsTrue (serves_captures k n)) (sym is) refl)
+  free_goes Chancellor is serves = free_bears (subst (λ k. IsTrue (serves_captures k n)) (sym is) refl)
+  free_goes Archbishop is serves = free_bears (subst (λ k. IsTrue (serves_captures k n)) (sym is) refl)
+  free_goes Amazon is serves = free_bears (subst (λ k. IsTrue (serves_captures k n)) (sym is) refl)
+  free_goes Nightrider is serves = free_bears (subst (λ k. IsTrue (serves_captures k n)) (sym is) refl)
   free_goes Pawn is serves = inr (pawn_first n refl is serves, empty_target)
 
   -- the step, and where it leads

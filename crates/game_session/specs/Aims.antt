@@ -17,8 +17,8 @@ use Rattle.game_rules.specs.declared.men.Square.{Square}
 use Rattle.game_session.specs.declared.aim.Aim.{Aim}
 use Rattle.mask_sets.specs.Places.{coordinates_before}
 use Rattle.mask_sets.specs.Sets.{IsAskable, IsIn, Table}
-use Rattle.rule_formula.specs.Fits.{HasStock}
-use Rattle.rule_formula.specs.Placed.{tuple_of}
+use Rattle.mask_sets.specs.Stock.{HasStock}
+use Rattle.mask_sets.specs.Tuple.{tuple_of}
 
 -- any position of the men of p can be asked for, and the sets hold no position to which a step from p leads that leaves
 -- the mover's king attacked

@@ -2,7 +2,7 @@
 ghost use Rattle.std.specs.Prelude.{◌≡◌, ◌≤◌, ◌^◌, ◌+ℤ◌, ◌-ℤ◌, ◌*ℤ◌, pos, unsigned_abs, true, false, FitsSigned};
 ghost use Rattle.std.specs.Int.{w64};
 ghost use Rattle.auto_search.specs.Way.{IsSlope};
-ghost use Rattle.game_laws.specs.Answer.{distance as squares_apart};
+ghost use Rattle.game_laws.specs.Answer.{distance as squares_apart, steps_of as steps_to_sides};
 ghost use Rattle.chess_game.specs.Way.{IsFree};
 ghost use Rattle.game_session.specs.Choice.{AreHisSteps, LeadsTo, target};
 ghost use Rattle.game_session.specs.Aims.{IsMover};
@@ -62,6 +62,22 @@ fn apart(from: i64, to: i64) -> u128
     (to as i128 - from as i128).unsigned_abs()
 }
 
+/// How many equal steps of a direction lead so far to a side, and so far up or down.
+fn equal_steps(across: u128, along: u128) -> u128
+    requires across { across ≤ 2 ^ 64 }
+    requires along { along ≤ 2 ^ 64 }
+    ensures steps { result ≡ steps_to_sides across along }
+    ensures few { result ≤ 2 ^ 64 }
+{
+    if across == 0 {
+        return along;
+    }
+    if along == 0 {
+        return across;
+    }
+    across.min(along)
+}
+
 /// How many steps of a ray lead from one square to another on it.
 fn steps_between(ray: Ray, x: i64, y: i64, to_x: i64, to_y: i64) -> u128
     ensures far { ray.far ≡ true → result ≡ squares_apart (record { x = x; y = y }) (record { x = to_x; y = to_y }) }
@@ -69,7 +85,7 @@ fn steps_between(ray: Ray, x: i64, y: i64, to_x: i64, to_y: i64) -> u128
     ensures few { result ≤ 2 ^ 64 }
 {
     if ray.far {
-        apart(x, to_x).max(apart(y, to_y))
+        equal_steps(apart(x, to_x), apart(y, to_y))
     } else {
         1
     }

@@ -14,6 +14,6 @@ mod ray_way;
 
 pub use aim::{Aim, ManRay};
 pub use choice::Choice;
-pub use movers::has_ray;
+pub use movers::{has_ray, his_ray};
 pub use pick::first_move;
-pub use ray_moves::{RayMoves, moves_along};
+pub use ray_moves::{RayMoves, count_along, moves_along};

@@ -1,7 +1,8 @@
 //! Who may move, and along which rays.
 ghost use Rattle.std.specs.Prelude.{◌≡◌, ◌↔◌, ◌≤◌, IsTrue, length, true, false};
-ghost use Rattle.game_session.specs.Aims.{HasRay, IsLiveOf};
+ghost use Rattle.game_session.specs.Aims.{HasRay, IsLiveOf, IsMover};
 
+use crate::aim::ManRay;
 use chess_game::{Man, Place, Position, Side, ray as ray_of_kind};
 
 /// Whether the man is live and of the side.
@@ -23,4 +24,18 @@ pub fn has_ray(p: &Position, man: u8, number: u8) -> bool
         return false;
     }
     ray_of_kind(him.kind, him.side, number).is_some()
+}
+
+/// The man's ray of this number, with both numbers.
+pub fn his_ray(p: &Position, man: u8, number: u8) -> ManRay
+    requires { HasRay p.now man number }
+    ensures man { result.man ≡ man }
+    ensures number { result.number ≡ number }
+    ensures mover { IsMover p.now man number result.ray }
+{
+    let him = p.man(man);
+    match ray_of_kind(him.kind, him.side, number) {
+        Some(ray) => ManRay { man, number, ray },
+        None => unreachable!(),
+    }
 }

@@ -10,7 +10,7 @@ use crate::choice::Choice;
 use crate::movers::is_live_of;
 use crate::ray_pick::along_ray;
 use auto_search::Search;
-use chess_game::{Frame, Position, ray};
+use chess_game::{Frame, MOST_RAYS, Position, ray};
 use mask_sets::MaskSets;
 
 /// Of the moves of a live man of the side to move, the first that leads into the sets.
@@ -22,7 +22,7 @@ fn of_man(search: &mut Search, aim: &Aim, man: u8) -> Option<Choice>
     ensures kept { search.new ≡ search.old }
 {
     let him = aim.position.man(man);
-    for number in 0..8 {
+    for number in 0..MOST_RAYS {
         let Some(way) = ray(him.kind, him.side, number) else {
             return None;
         };

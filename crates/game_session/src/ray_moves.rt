@@ -4,7 +4,7 @@ ghost use Rattle.auto_core.specs.Integers.{DecidesIntegers};
 ghost use Rattle.auto_search.specs.Fews.{HasFew};
 ghost use Rattle.game_rules.specs.Game.{man_at};
 ghost use Rattle.game_rules.specs.Rays.{serves_moves as serving};
-ghost use Rattle.rule_formula.specs.Placed.{tuple_of};
+ghost use Rattle.mask_sets.specs.Tuple.{tuple_of};
 ghost use Rattle.chess_game.specs.Way.{IsHit};
 ghost use Rattle.mask_sets.specs.Sets.{HaveAtMost, IsIn};
 ghost use Rattle.game_session.specs.Aims.{HoldsMen, IsAim, IsHitAlong, IsMet, IsMover};
@@ -167,8 +167,9 @@ fn count_captures(aim: &Aim, his: ManRay, hits: Option<u8>) -> Few
     }
 }
 
-/// How many of the man's moves along the ray lead into the sets.
-fn count_along(search: &mut Search, aim: &Aim, his: ManRay) -> Few
+/// How many of the man's moves along the ray lead into the sets, captures included, without a look for the nearest of them. It takes no memory: the
+/// search has room for each of the sets.
+pub fn count_along(search: &mut Search, aim: &Aim, his: ManRay) -> Few
     requires mover { IsMover aim.now.position.now his.man his.number his.ray }
     requires aim { IsAim aim.now }
     requires few { HaveAtMost search.old aim.now.sets.now }

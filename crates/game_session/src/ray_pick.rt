@@ -3,7 +3,7 @@ ghost use Rattle.std.specs.Prelude.{◌≡◌, ◌≤◌, ◌^◌, ℕ, length, 
 ghost use Rattle.auto_core.specs.Integers.{DecidesIntegers};
 ghost use Rattle.game_rules.specs.Game.{man_at};
 ghost use Rattle.game_rules.specs.Rays.{serves_moves as serving};
-ghost use Rattle.rule_formula.specs.Placed.{tuple_of};
+ghost use Rattle.mask_sets.specs.Tuple.{tuple_of};
 ghost use Rattle.chess_game.specs.Way.{IsHit};
 ghost use Rattle.mask_sets.specs.Sets.{HaveAtMost};
 ghost use Rattle.game_session.specs.Aims.{AreNext, IsAim, IsFreeBetween, IsHitAlong, IsLeastFound, IsMet, IsMover};

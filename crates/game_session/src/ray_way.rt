@@ -2,7 +2,7 @@
 ghost use Rattle.std.specs.Prelude.{◌≡◌};
 ghost use Rattle.auto_search.specs.Way.{IsWay};
 ghost use Rattle.game_session.specs.Aims.{IsAlong, IsMover};
-ghost use Rattle.rule_formula.specs.Placed.{tuple_of};
+ghost use Rattle.mask_sets.specs.Tuple.{tuple_of};
 
 use crate::aim::ManRay;
 use auto_search::Way;

@@ -1,7 +1,7 @@
 use Rattle.std.proofs.Common.{◌≡◌, None, sym, ◌∙◌, arith}
 use Rattle.game_rules.specs.Rays.{ray_of}
 use Rattle.mask_sets.specs.Sets.{IsIn}
-use Rattle.game_session.proofs.Picks.{mover_at, ray_eight, ray_first, ray_more, ray_none}
+use Rattle.game_session.proofs.Picks.{mover_at, all_rays, ray_first, ray_more, ray_none}
 use Rattle.game_session.proofs.pick.of_man.Goals as goal
 
 pub returns-in_default-clause-first : goal.returns-in_default-clause-first
@@ -28,5 +28,5 @@ loop-number-preserved c = (
 
 pub returns-clause-first : goal.returns-clause-first
 returns-clause-first c =
-    ray_eight (IsIn c.args.aim.now.sets.now) c.args.aim.now.frame c.args.aim.now.position.now c.args.man c.man-him.result c.man-him.ensures
+    all_rays (IsIn c.args.aim.now.sets.now) c.args.aim.now.frame c.args.aim.now.position.now c.args.man c.man-him.result c.man-him.ensures
     (λ d q e low h. let past = c.loop-number-test.false in c.loop-number.invariant.1 d q e (omega (arith, low, past)) h)

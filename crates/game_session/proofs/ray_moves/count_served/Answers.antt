@@ -1,8 +1,8 @@
 use Rattle.std.proofs.Common.{◌≡◌, Some, None, ap, sym, ◌∙◌}
 use Rattle.std.specs.Prelude.{IsTrue, option_copied}
 use Rattle.game_rules.specs.Rays.{serves_moves}
-use Rattle.rule_formula.specs.Fits.{mask_of}
-use Rattle.rule_formula.proofs.FitLemmas.{mask_one}
+use Rattle.mask_sets.specs.Stock.{mask_of}
+use Rattle.mask_sets.proofs.Masks.{mask_one}
 use Rattle.mask_sets.specs.Sets.{IsSetFor, set_at}
 use Rattle.game_session.proofs.Counted.{all_counted_of, counted_of, unset_of}
 use Rattle.game_session.proofs.Firsts.{own_stock}

@@ -1,8 +1,8 @@
 use Rattle.std.proofs.Common.{◌≡◌, Some, None, ap, sym, ◌∙◌}
 use Rattle.std.specs.Prelude.{IsTrue, option_copied}
 use Rattle.game_rules.specs.Rays.{serves_moves}
-use Rattle.rule_formula.specs.Fits.{mask_of}
-use Rattle.rule_formula.proofs.FitLemmas.{mask_one}
+use Rattle.mask_sets.specs.Stock.{mask_of}
+use Rattle.mask_sets.proofs.Masks.{mask_one}
 use Rattle.mask_sets.specs.Sets.{set_at}
 use Rattle.game_session.proofs.Firsts.{own_stock, quiet_first_hit, quiet_none_hit, quiet_none_there}
 use Rattle.game_session.proofs.ray_pick.quiet.Goals.{In-Some}
