@@ -4,18 +4,17 @@ use Rattle.std.specs.Prelude.{IsSomeAnd, slice_get}
 use Rattle.std.proofs.lemmas.Option.{same_Some}
 use Rattle.auto_core.specs.Automaton.{Automaton}
 use Rattle.auto_core.specs.Integers.{IsAccepted}
-use Rattle.game_rules.specs.declared.men.Man.{Man}
 use Rattle.game_rules.specs.declared.men.Side.{Side}
 use Rattle.game_rules.specs.declared.men.Side.TheVariants.{White, Black}
 use Rattle.game_rules.specs.declared.men.Square.{Square}
 use Rattle.game_rules.specs.Game.{Position, InCheck, Legal, Lost, Moves, Sound, Step, Value, other}
 use Rattle.game_laws.proofs.MoveLemmas.{same_after}
-use Rattle.game_laws.proofs.SoundLemmas.{at_same, other_differs, other_other}
+use Rattle.game_laws.proofs.SoundLemmas.{other_differs, other_other}
 use Rattle.chess_game.specs.declared.moves.Move.{Move}
 use Rattle.chess_game.specs.declared.way.Frame.{Frame}
-use Rattle.rule_formula.specs.Fits.{HasStock, mask_of, masks_of}
-use Rattle.rule_formula.specs.Placed.{tuple_of}
-use Rattle.rule_formula.proofs.PlacedLemmas.{stock_man-men}
+use Rattle.rule_formula.specs.Fits.{masks_of}
+use Rattle.mask_sets.specs.Stock.{HasStock, mask_of}
+use Rattle.mask_sets.specs.Tuple.{tuple_of}
 use Rattle.mask_sets.specs.Sets.{HaveAtMost, IsIn, Table, set_at}
 use Rattle.mate_plan.specs.Plan.{turn_at}
 use Rattle.mate_plan.specs.PlanOf.{last_ply}
@@ -31,7 +30,7 @@ use Rattle.winning_sets.proofs.ValidLemmas.{valid_formed, valid_moves, valid_sou
 use Rattle.game_session.specs.Aims.{AreNext}
 use Rattle.game_session.specs.Choice.{Pick, target}
 use Rattle.game_session.specs.declared.choice.Choice.{Choice}
-use Rattle.game_session.proofs.Firsts.{own_stock, step_stock}
+use Rattle.game_session.proofs.Firsts.{own_stock, step_stock, stock_trans}
 use Rattle.white_player.specs.Game.{Game, Goes, HasRoom, IsGame, IsLostAfter, IsPicked, LostIn, Plays, Stands, WinPick, WinnerGoes, made, made_in, moved_to, one_if_same, start_of}
 use Rattle.white_player.proofs.Held.{HasHeld, Losing, has_held, held_won, losing_lost}
 
@@ -51,17 +50,6 @@ table_is s ply next masks sets t is_next masks_are sets_are is =
 reach_stock : (p : Position) (ply : ℕ) (q : Position) → Reach p ply q → HasStock p.men q
 reach_stock p zero q is = subst (HasStock p.men) (sym is) (own_stock p)
 reach_stock p (suc ply) q (before, reached, (i, z, legal)) = step_stock (reach_stock p ply before reached) legal.step.after
-
--- the stock of a position of the stock is the stock
-stock_trans : {stock : List Man} {p q : Position} → HasStock stock p → HasStock p.men q → HasStock stock q
-stock_trans {p} {q} one two = record {
-  count = two.count ∙ one.count;
-  men = λ k m n is_m is_n.
-      let w = at_same q p k n (sym two.count) is_n in
-      let a = one.men k m w.0 is_m w.1 in
-      let b = two.men k w.0 n (stock_man-men p k ∙ w.1) is_n in
-      (b.0 ∙ a.0, b.1 ∙ a.1);
-}
 
 -- the sets of the ply after that of a reached position with the winner to move, as they are lent
 module _ (s : Solution) (valid : IsValid s) (ply : ℕ) (p : Position) (reached : Reach s.position ply p) (turn : p.turn ≡ s.winner) where

@@ -7,14 +7,14 @@ use Rattle.auto_core.specs.Integers.{IsAccepted}
 use Rattle.game_rules.specs.declared.men.Side.{Side}
 use Rattle.game_rules.specs.declared.men.Side.TheVariants.{White, Black}
 use Rattle.game_rules.specs.Game.{Position, Lost, Value, other}
-use Rattle.rule_formula.specs.Fits.{HasStock, mask_of}
-use Rattle.rule_formula.specs.Placed.{tuple_of}
+use Rattle.mask_sets.specs.Stock.{HasStock, mask_of}
+use Rattle.mask_sets.specs.Tuple.{tuple_of}
 use Rattle.mate_plan.specs.Claim.{IsClaimed, IsLosersPly}
 use Rattle.mate_plan.specs.Plan.{turn_at}
 use Rattle.mate_plan.specs.PlanOf.{last_ply}
 use Rattle.mate_plan.specs.Won.{IsWonBy}
-use Rattle.claim_plan.specs.WonLaws.{KeptByLoser}
-use Rattle.claim_plan.proofs.KeptClaims.{kept_are_of_game, kept_is_won}
+use Rattle.winning_sets.specs.KeptByLoser.{KeptByLoser}
+use Rattle.winning_sets.proofs.KeptGame.{kept_are_of_game, kept_is_won}
 use Rattle.winning_sets.specs.Claimed.{IsHeldBy, IsValid, IsValidBy, IsWonClaim, claim_of}
 use Rattle.winning_sets.specs.Kept.{moves_left}
 use Rattle.winning_sets.specs.OfGame.{AreOfGame}

@@ -1,13 +1,13 @@
 //! All first moves of the winner along a ray.
 ghost use Rattle.std.specs.Prelude.{◌≡◌, ◌≤◌, IfNone, IfSome};
-ghost use Rattle.game_session.specs.Aims.{HasRay, IsMover};
+ghost use Rattle.game_session.specs.Aims.{HasRay};
 ghost use Rattle.winning_sets.specs.declared.origin.Origin.TheVariants.{Plan};
 ghost use Rattle.white_player.specs.Firsts.{IsFirstLine, NoFirsts};
 ghost use Rattle.white_player.specs.Game.{HasRoom};
 
 use auto_search::{Few, Search};
-use chess_game::{Frame, Position, ray as ray_of_kind};
-use game_session::{Aim, ManRay, moves_along};
+use chess_game::Frame;
+use game_session::{Aim, his_ray, moves_along};
 use mask_sets::MaskSets;
 use winning_sets::Solved;
 
@@ -20,20 +20,6 @@ pub struct FirstLine {
     pub dy: i8,
     pub least: Option<u128>,
     pub few: Few,
-}
-
-/// The man's ray of this number.
-fn his_ray(p: &Position, man: u8, number: u8) -> ManRay
-    requires { HasRay p.now man number }
-    ensures man { result.man ≡ man }
-    ensures number { result.number ≡ number }
-    ensures mover { IsMover p.now man number result.ray }
-{
-    let him = p.man(man);
-    match ray_of_kind(him.kind, him.side, number) {
-        Some(ray) => ManRay { man, number, ray },
-        None => unreachable!(),
-    }
 }
 
 /// The winner's first moves along a ray that keep the promised count, captures included. It takes no memory: the search has room for each of the
