@@ -1,5 +1,5 @@
 -- There is a first move into a set, or there is none, where it is decided which positions after a move are in the set. It belongs in game_session.
-use Rattle.std.proofs.Common.{◌≡◌, ◌⊎◌, inl, inr, ℕ, zero, suc, ◌+◌, ◌<◌, ◌≤◌, ◌≤ℤ◌, max, ℤ, pos, ◌+ℤ◌, ◌-ℤ◌, ◌*ℤ◌, unsigned_abs, Bool, true, false, List, [], ◌∷◌, length, Option, Some, None, refl, sym, ap, subst, ◌∙◌, arith}
+use Rattle.std.proofs.Common.{◌≡◌, ◌⊎◌, inl, inr, ℕ, zero, suc, ◌+◌, ◌<◌, ◌≤◌, ◌≤ℤ◌, ℤ, pos, ◌+ℤ◌, ◌-ℤ◌, ◌*ℤ◌, unsigned_abs, Bool, true, false, List, [], ◌∷◌, length, Option, Some, None, refl, sym, ap, subst, ◌∙◌, arith}
 use Rattle.std.specs.Prelude.{slice_get}
 use Rattle.std.proofs.lemmas.Int.{by_lt_z, ints}
 use Rattle.std.proofs.lemmas.Option.{same_Some}
@@ -15,10 +15,10 @@ use Rattle.game_laws.proofs.CheckLemmas.{one_square, some_and}
 use Rattle.game_laws.proofs.DecideLemmas.{Decided, both, can_go, less, map_decided, number_same}
 use Rattle.game_laws.proofs.LineLemmas.{far_steps}
 use Rattle.game_laws.proofs.MoveLemmas.{same_after}
-use Rattle.game_laws.proofs.RayLemmas.{step_one, true_or_not}
+use Rattle.game_laws.proofs.RayLemmas.{step_one}
 use Rattle.chess_game.specs.Way.{IsInside}
 use Rattle.chess_game.specs.declared.way.Frame.{Frame}
-use Rattle.chess_game.proofs.AnswerBounds.{ray_stepwise, rays_few}
+use Rattle.chess_game.proofs.AnswerBounds.{ray_stepwise, rays_few, steps_below}
 use Rattle.game_session.specs.Choice.{IsBefore, Leads, Pick, target}
 use Rattle.game_session.specs.declared.choice.Choice.{Choice}
 use Rattle.game_session.proofs.Firsts.{man_high}
@@ -45,26 +45,24 @@ stretch f a =
 between : (low at high m : ℤ) → low ≤ℤ (at +ℤ m) → (at +ℤ m) ≤ℤ high → unsigned_abs m ≤ unsigned_abs (low -ℤ at) + unsigned_abs (high -ℤ at)
 between low at high m h k = omega (arith, ints, h, k)
 
-sum_of : (m n t a b c d : ℕ) → max m n ≡ t → m ≤ a + b → n ≤ c + d → t < a + b + c + d + 2
+sum_of : (m n t a b c d : ℕ) → t ≤ m + n → m ≤ a + b → n ≤ c + d → t < a + b + c + d + 2
 sum_of m n t a b c d h x y = omega (arith, h, x, y)
 
-stays_near : {f : Frame} {a : Square} {r : Ray} {t : ℕ} {z : Square} → (r.far ≡ true → IsDirection r.dx r.dy) → IsAt r t a z → IsInside f z → t < stretch f a
-stays_near {f} {a} {r} {t} stepwise at framed = elim (true_or_not r.far) [
-  | inl far ↦
-      let steps = far_steps r.dx r.dy (stepwise far) t in
-      let x = between f.x_low a.x f.x_high (pos t *ℤ r.dx) (subst (λ (w : Square). f.x_low ≤ℤ w.x) at.leads framed.left) (subst (λ (w : Square). w.x ≤ℤ f.x_high) at.leads framed.right) in
-      let y = between f.y_low a.y f.y_high (pos t *ℤ r.dy) (subst (λ (w : Square). f.y_low ≤ℤ w.y) at.leads framed.below) (subst (λ (w : Square). w.y ≤ℤ f.y_high) at.leads framed.above) in
-      sum_of (unsigned_abs (pos t *ℤ r.dx)) (unsigned_abs (pos t *ℤ r.dy)) t (unsigned_abs (f.x_low -ℤ a.x)) (unsigned_abs (f.x_high -ℤ a.x))
-      (unsigned_abs (f.y_low -ℤ a.y)) (unsigned_abs (f.y_high -ℤ a.y)) steps x y
-  | inr near ↦ let one = at.one near in omega (arith, one)
-]
+stays_near : {f : Frame} {a : Square} {r : Ray} {t : ℕ} {z : Square} → IsDirection r.dx r.dy → IsAt r t a z → IsInside f z → t < stretch f a
+stays_near {f} {a} {r} {t} direction at framed =
+    let m : ℕ = unsigned_abs (pos t *ℤ r.dx) in
+    let n : ℕ = unsigned_abs (pos t *ℤ r.dy) in
+    let steps : t ≤ m + n = subst (λ k. k ≤ m + n) (far_steps r.dx r.dy direction t) (steps_below m n (m + n) (omega arith) (omega arith)) in
+    let x = between f.x_low a.x f.x_high (pos t *ℤ r.dx) (subst (λ (w : Square). f.x_low ≤ℤ w.x) at.leads framed.left) (subst (λ (w : Square). w.x ≤ℤ f.x_high) at.leads framed.right) in
+    let y = between f.y_low a.y f.y_high (pos t *ℤ r.dy) (subst (λ (w : Square). f.y_low ≤ℤ w.y) at.leads framed.below) (subst (λ (w : Square). w.y ≤ℤ f.y_high) at.leads framed.above) in
+    sum_of m n t (unsigned_abs (f.x_low -ℤ a.x)) (unsigned_abs (f.x_high -ℤ a.x)) (unsigned_abs (f.y_low -ℤ a.y)) (unsigned_abs (f.y_high -ℤ a.y)) steps x y
 
 get_low : (rs : List Ray) (n : ℕ) (r : Ray) → slice_get rs n ≡ Some r → n < length rs
 get_low [] n r is = absurd (cc)
 get_low (x ∷ rs) zero r is = omega arith
 get_low (x ∷ rs) (suc n) r is = let low = get_low rs n r is in omega (arith, low)
 
-ray_low : (k : Kind) (s : Side) (n : ℕ) (r : Ray) → ray_of k s n ≡ Some r → n < 8
+ray_low : (k : Kind) (s : Side) (n : ℕ) (r : Ray) → ray_of k s n ≡ Some r → n < 16
 ray_low k s n r is = let low = get_low (rays_of k s) n r is in let few = rays_few k s in omega (arith, low, few)
 
 module _ (Set : Position → Type 0) (f : Frame) (p : Position) (decided : (i : ℕ) (z : Square) (q : Position) → Legal p i z q → Decided (Set q)) where
@@ -192,7 +190,7 @@ module _ (Set : Position → Type 0) (f : Frame) (p : Position) (decided : (i : 
   on_ray_or_not : (i n : ℕ) → Decided (OnRay i n)
   on_ray_or_not i n = elim (nearest i n) [ inl h ↦ inl (h.number, h.has) | inr none ↦ inr (λ h. none h.0 h.1) ]
 
-  ray_bound : (i n : ℕ) → OnRay i n → n < 8
+  ray_bound : (i n : ℕ) → OnRay i n → n < 16
   ray_bound i n (t, led) =
       let low = ray_low led.leads.man.kind led.leads.man.side led.choice.ray led.leads.on.ray led.leads.on.is_ray in
       let is = led.ray in omega (arith, low, is)
@@ -206,10 +204,10 @@ module _ (Set : Position → Type 0) (f : Frame) (p : Position) (decided : (i : 
       let is = led.man in omega (arith, high, is)
 
   first_ray : (i : ℕ) → IsFirstWith (OnRay i) ⊎ ((n : ℕ) → OnRay i n → ⊥)
-  first_ray i = first_with (OnRay i) (on_ray_or_not i) 8 (ray_bound i)
+  first_ray i = first_with (OnRay i) (on_ray_or_not i) 16 (ray_bound i)
 
   first_man : IsFirstWith OfMan ⊎ ((i : ℕ) → OfMan i → ⊥)
-  first_man = first_with OfMan (λ i. some_with (OnRay i) (on_ray_or_not i) 8 (ray_bound i)) (suc (length p.men)) man_bound
+  first_man = first_with OfMan (λ i. some_with (OnRay i) (on_ray_or_not i) 16 (ray_bound i)) (suc (length p.men)) man_bound
 
   none_led : ((i : ℕ) → OfMan i → ⊥) → Pick Set f p None
   none_led none i z q legal framed is_in =

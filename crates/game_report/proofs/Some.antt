@@ -14,8 +14,8 @@ use Rattle.game_laws.proofs.SoundLemmas.{other_other, side_or_other}
 use Rattle.chess_text.specs.declared.replies.Typed.{Typed}
 use Rattle.chess_text.specs.declared.replies.Typed.TheVariants as typed
 use Rattle.mask_sets.specs.Sets.{IsIn, set_at}
-use Rattle.rule_formula.specs.Fits.{mask_of}
-use Rattle.rule_formula.specs.Placed.{tuple_of}
+use Rattle.mask_sets.specs.Stock.{mask_of}
+use Rattle.mask_sets.specs.Tuple.{tuple_of}
 use Rattle.set_plan.proofs.Tables.{table_decided}
 use Rattle.winning_sets.specs.Claimed.{IsHeld}
 use Rattle.winning_sets.proofs.Empties.{tracks_ascend}

@@ -130,7 +130,7 @@ no_number_in : {line : List ℕ} (h : HasDigit HasTwoFields line) → (IsNumber 
 no_number_in h none =
     let t = h.shape in
     let fault : HasNoNumber h.rest =
-    record { first = t.first; second = t.second; is_first = t.is_first; is_second = t.is_second; joined = t.joined; no_number = none } in
+    record { first = t.first; second = t.second; is_first = t.is_first; is_second = t.is_second; joined = t.joined; other = none } in
     (None, (why.Number, record { man = h.man; first = h.first; last = h.last; rest = h.rest; front = h.front; shape = fault }))
 
 numbers_in : {line : List ℕ} (h : HasDigit HasTwoFields line) → Decided (IsNumber h.shape.first) → Decided (IsNumber h.shape.second) → Found line
