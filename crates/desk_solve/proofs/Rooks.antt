@@ -4,7 +4,7 @@ use Rattle.std.specs.Ordering.{int_eq}
 use Rattle.std.specs.Prelude.{◌==◌, ℤ, pos, negsuc, ◌-ℤ◌, max, unsigned_abs}
 use Rattle.std.proofs.lemmas.Bool.Decides.{Decides-eqb, Decides-int_eq, not_from_Decides}
 use Rattle.std.proofs.lemmas.Option.{same_Some}
-use Rattle.game_rules.specs.Game.{Position, Attacked, Bears, HasOneKing, HasReach, InCheck, IsApart, IsLiveAnd, Sound, StandsOn, man_at}
+use Rattle.game_rules.specs.Game.{Position, Attacked, Bears, HasOneKing, InCheck, IsApart, IsLiveAnd, IsStraight, Sound, StandsOn, man_at}
 use Rattle.game_rules.specs.declared.men.Kind.TheVariants.{King, Rook}
 use Rattle.game_rules.specs.declared.men.Man.{Man}
 use Rattle.game_rules.specs.declared.men.Side.{Side}
@@ -44,7 +44,7 @@ two a b z rows is so = absurd (rows (ap (λ (s : Square). s.y) (is ∙ sym so)))
 off_row : {a : Square} → IsOff a → a.y ≢ pos 0
 off_row off same = off.row (ap (λ y. pos 0 -ℤ y) same)
 
-off_line : {a : Square} → IsOff a → HasReach White Rook (pos 0 -ℤ a.x) (pos 0 -ℤ a.y) → ⊥
+off_line : {a : Square} → IsOff a → IsStraight (pos 0 -ℤ a.x) (pos 0 -ℤ a.y) → ⊥
 off_line off (inl reach) = off.column reach.0
 off_line off (inr reach) = off.row reach.1
 
@@ -121,7 +121,7 @@ module _ (king first second : Square) (clear : AreClear king first second) where
   -- no man of White bears on Black's king
   no_reach : (k : ℕ) (m : Man) → man_at p k ≡ Some m → m.side ≡ White → Bears p m corner → ⊥
   no_reach zero m is side bears = absurd (cc)
-  no_reach (suc zero) m is side bears = clear.far ((as_man _ m (λ n. Bears p n corner) is bears).0)
+  no_reach (suc zero) m is side bears = clear.far (as_man _ m (λ n. Bears p n corner) is bears)
   no_reach (suc (suc zero)) m is side bears = off_line clear.first_off ((as_man _ m (λ n. Bears p n corner) is bears).0)
   no_reach (suc (suc (suc zero))) m is side bears = off_line clear.second_off ((as_man _ m (λ n. Bears p n corner) is bears).0)
   no_reach (suc (suc (suc (suc zero)))) m is side bears = white_is_black (sym (as_man _ m (λ n. n.side ≡ White) is side))

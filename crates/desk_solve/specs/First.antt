@@ -3,6 +3,7 @@ use Rattle.std.specs.Prelude.{◌≡◌, ◌⊎◌, ℕ, zero, suc, ◌≤◌, L
 use Rattle.std.specs.Fmt.{decimal, signed_decimal}
 use Rattle.auto_search.specs.declared.few.Few.{Few}
 use Rattle.auto_search.specs.declared.few.Few.TheVariants.{One}
+use Rattle.chess_game.specs.declared.rays.TheConstants.{MOST_RAYS}
 use Rattle.desk_base.specs.Files.{Files}
 use Rattle.game_rules.specs.Game.{Position, other}
 use Rattle.game_rules.specs.declared.men.Side.{Side}
@@ -52,9 +53,9 @@ unfoldable pub Listed : (ℕ → List ℕ → Type 0) → ℕ → List ℕ → T
 Listed Of zero text = text ≡ []
 Listed Of (suc k) text = (front : List ℕ) × (last : List ℕ) × Listed Of k front × Of k last × (text ≡ front ++ last)
 
--- a man's text, by ray: a kind has eight rays at most
+-- a man's text, by ray, of as many as a kind has at most
 abbrev pub ManText : Side → ℕ → Position → (man : ℕ) → List ℕ → Type 0
-ManText winner n p man = Listed (RayText winner n p man) 8
+ManText winner n p man = Listed (RayText winner n p man) MOST_RAYS
 
 -- the text of all men
 abbrev pub MenText : Side → ℕ → Position → List ℕ → Type 0

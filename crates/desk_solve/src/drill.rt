@@ -49,8 +49,7 @@ fn count_mates(alloc: Global, seed: u64, count: u8) -> Result<u8, SolveError>
 
 /// Whether the winner mates in one move.
 fn is_mate_in_one(alloc: Global, problem: &Problem) -> Result<bool, SolveError>
-    requires sound { Sound problem.now.position }
-    requires few { length problem.now.position.men ≤ 8 }
+    requires { Sound problem.now.position }
     ensures won { IfOk result (λ won. IsTrue won ↔ Value problem.now.winner 1 problem.now.position) }
     ensures fits { OnOk result (FitsBudget problem.now DEFAULT_STATES 1) }
     ensures step { IfOver result (ExceedsAt problem.now DEFAULT_STATES 1) }

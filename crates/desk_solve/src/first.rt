@@ -8,7 +8,7 @@ ghost use Rattle.desk_report.specs.Ports.{EndsOnSink};
 ghost use Rattle.desk_verdict.specs.Verdict.{IsTask, OfTask};
 
 use auto_search::{Few, Search};
-use chess_game::Frame;
+use chess_game::{Frame, MOST_RAYS};
 use chess_text::line_buffer::LineBuffer;
 use desk_base::Sink;
 use desk_report::{Status, print, push_large};
@@ -18,9 +18,6 @@ use game_session::has_ray;
 use std::alloc::{AllocError, Global};
 use white_player::{FirstLine, first_moves};
 use winning_sets::{SolveError, Solved};
-
-/// The most rays that a kind has.
-const RAYS: u8 = 8;
 
 /// Writes for each man and ray the winner's first moves along it by which he mates within so many moves of his own, and a last line. All of it is
 /// known before the first byte is written.
@@ -91,7 +88,7 @@ fn push_man(
     ensures adds { OnOk result (Adds (OfSolved ManText solved.now man) text.old.items text.new.items) }
     ensures kept { search.new ≡ search.old }
 {
-    for ray in 0..RAYS {
+    for ray in 0..MOST_RAYS {
         push_ray(text, solved, search, man, ray)?;
     }
     Ok(())

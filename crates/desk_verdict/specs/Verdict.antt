@@ -2,7 +2,7 @@
 -- budget.
 use Rattle.std.specs.Prelude.{◌≡◌, ◌⊎◌, ℕ, ◌≤◌, List, ◌++◌, length, Result, IfErr, codes}
 use Rattle.std.specs.Fmt.{decimal}
-use Rattle.limits.specs.declared.numbers.TheConstants.{MOST_MEN, MOST_MOVES}
+use Rattle.limits.specs.declared.numbers.TheConstants.{MOST_MOVES}
 use Rattle.game_rules.specs.Game.{Sound, Value}
 use Rattle.mate_plan.specs.PlanOf.{plan_of}
 use Rattle.winning_sets.specs.Solve.{IsWithin, IsSolveError}
@@ -59,8 +59,7 @@ HasSomeToPlay task = ¬ HasNothingToPlay task.moves task.problem
 abbrev pub OfTask : {A : Type 1} → (ℕ → ℕ → Problem → A) → Task → A
 OfTask this task = this task.moves task.budget task.problem
 
--- the position is sound and has no more men than a text, and the numbers are within their limits
+-- the position is sound, and the number of moves is within its limit
 pub record IsTask (task : Task) : Type 0 where
   pub sound : Sound task.problem.position
-  pub few : length task.problem.position.men ≤ MOST_MEN
   pub moves : task.moves ≤ MOST_MOVES

@@ -1,6 +1,6 @@
 //! Solving a problem for one number of moves after another.
 
-ghost use Rattle.std.specs.Prelude.{◌≡◌, ◌↔◌, ◌≤◌, Err, IsTrue, IfOk, IfSome, OnOk, is_some, length};
+ghost use Rattle.std.specs.Prelude.{◌≡◌, ◌↔◌, ◌≤◌, Err, IsTrue, IfOk, IfSome, OnOk, is_some};
 ghost use Rattle.game_rules.specs.Game.{Sound, Value};
 ghost use Rattle.winning_sets.specs.Solve.{IsOf};
 ghost use Rattle.desk_verdict.specs.Verdict.{ExceedsAt, FitsBudget, HasNothingToPlay, IfOver};
@@ -24,10 +24,10 @@ pub struct ProblemSolver {
 impl ProblemSolver {
     pub fn new(alloc: Global, problem: &Problem, budget: Budget) -> ProblemSolver
         requires sound { Sound problem.now.position }
-        requires few { length problem.now.position.men ≤ 8 }
         ensures problem { result.problem ≡ problem.now }
         ensures budget { result.budget ≡ budget }
     {
+        let _ = problem.position.count(); // for its invariant
         ProblemSolver {
             problem: *problem,
             budget,

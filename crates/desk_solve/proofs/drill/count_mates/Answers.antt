@@ -18,8 +18,8 @@ as_number : (won : Bool) (n : ℕ) → n ≡ from_bool won → cond won 1 0 ≡ 
 as_number true n is = sym is
 as_number false n is = sym is
 
-pub is_mate_in_one-requires-clause-sound : goal.is_mate_in_one-requires-clause-sound
-is_mate_in_one-requires-clause-sound c = rw c.problem_of-problem.ensures (drill_sound c.next.result)
+pub is_mate_in_one-requires : goal.is_mate_in_one-requires
+is_mate_in_one-requires c = rw c.problem_of-problem.ensures (drill_sound c.next.result)
 
 pub returns-in_err-won-clause-step : goal.returns-in_err-won-clause-step
 returns-in_err-won-clause-step c =
