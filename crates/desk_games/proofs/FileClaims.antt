@@ -24,11 +24,12 @@ use Rattle.mate_plan.specs.Won.{Won}
 use Rattle.strategy_file.proofs.FileClaims.{files_are_claims}
 use Rattle.strategy_file.proofs.SameReads.{read_is_same}
 use Rattle.strategy_file.specs.Claims.{claim_with}
-use Rattle.strategy_file.specs.Fitting.{HasFile}
+use Rattle.strategy_file.specs.Fitting.{HasFileOf}
 use Rattle.strategy_file.specs.Layout.{Refusal}
 use Rattle.strategy_file.specs.Layout as layout
 use Rattle.strategy_file.specs.StrategyFile.{Charts, File, charts_of}
 use Rattle.strategy_file.specs.Written.{most_bytes}
+use Rattle.strategy_file.specs.declared.version.Version.TheVariants.{Shared}
 use Rattle.winning_sets.specs.Claimed.{claim_of}
 use Rattle.winning_sets.specs.Solve.{Solution}
 use Rattle.desk_games.specs.Check.{CheckReports}
@@ -143,7 +144,7 @@ module _ (budget : ℕ) (name : List ℕ) (files : Files) where
     not_read (Over step) h = absurd h
 
     -- the claim of the tables is checked as the one that was read
-    module _ (c : Claim) (file : File bytes (Ok (charts_of c))) (has_file : HasFile c) where
+    module _ (c : Claim) (file : File bytes (Ok (charts_of c))) (has_file : HasFileOf c) where
       abbrev told : Claim
       told = claim_with (charts_of c)
 
@@ -169,7 +170,7 @@ module _ (budget : ℕ) (name : List ℕ) (files : Files) where
       checked s (is_checked, keeps) = record {
         charts = charts_of c;
         read = read_as (Ok (charts_of c)) file;
-        is_claim = alike.claims.0 (files_are_claims c has_file);
+        is_claim = alike.claims.0 (files_are_claims Shared c has_file);
         keeps_rules = (alike.ends budget None).0 keeps;
         origin = is_checked.origin;
         same = same_between (read_is_same c) is_checked.same;

@@ -18,6 +18,7 @@ use Rattle.strategy_file.proofs.OnceLemmas.{one_outcome}
 use Rattle.strategy_file.proofs.KeptFiles.{one_kept_file}
 use Rattle.strategy_file.specs.Claims.{claim_with}
 use Rattle.strategy_file.specs.KeptFile.{IsKeptTooLarge}
+use Rattle.strategy_file.specs.declared.version.Version.TheVariants.{Shared}
 use Rattle.strategy_file.specs.Layout.{Refusal}
 use Rattle.strategy_file.specs.StrategyFile.{Charts, File}
 use Rattle.strategy_file.specs.Written.{most_bytes}
@@ -63,16 +64,16 @@ play_row n budget problem lines files =
 -- a file that is kept
 module _ (winner : Side) (p : Position) (n : ℕ) (name : List ℕ) (files : Files) where
   kept_or_large : (r s : Report) → IsDueOf (IsFileToKeep winner p n) (λ bytes. done_with (map.insert files name bytes) (mate_line n)) r
-      → IsDueOf (IsKeptTooLarge winner p n) (λ size. refusal_as files is.File (too_large_line size) false) s → ⊥
-  kept_or_large r s (bytes, a, i) (size, b, j) = let e = (one_kept_file winner p n).same_size bytes size a.file b in omega (arith, e, a.small, b.large)
+      → IsDueOf (IsKeptTooLarge Shared winner p n) (λ size. refusal_as files is.File (too_large_line size) false) s → ⊥
+  kept_or_large r s (bytes, a, i) (size, b, j) = let e = (one_kept_file Shared winner p n).same_size bytes size a.file b in omega (arith, e, a.small, b.large)
 
   file_row : IsOne (FileReports winner p n name files)
   file_row =
       either_row
       (due_of_row (IsFileToKeep winner p n) (λ bytes. done_with (map.insert files name bytes) (mate_line n)) (λ bytes e. absurd (cc))
-      (λ x y a b. ap (λ bytes. done_with (map.insert files name bytes) (mate_line n)) ((one_kept_file winner p n).one_file x y a.file b.file)))
-      (due_of_row (IsKeptTooLarge winner p n) (λ size. refusal_as files is.File (too_large_line size) false) (λ size e. absurd (cc))
-      (λ x y a b. ap (λ size. refusal_as files is.File (too_large_line size) false) ((one_kept_file winner p n).one_size x y a b)))
+      (λ x y a b. ap (λ bytes. done_with (map.insert files name bytes) (mate_line n)) ((one_kept_file Shared winner p n).one_file x y a.file b.file)))
+      (due_of_row (IsKeptTooLarge Shared winner p n) (λ size. refusal_as files is.File (too_large_line size) false) (λ size e. absurd (cc))
+      (λ x y a b. ap (λ size. refusal_as files is.File (too_large_line size) false) ((one_kept_file Shared winner p n).one_size x y a b)))
       kept_or_large
 
 pub keep_row : (n budget : ℕ) (problem : Problem) (name : List ℕ) (files : Files) → IsOne (KeepReports n budget problem name files)

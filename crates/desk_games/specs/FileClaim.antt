@@ -10,7 +10,7 @@ use Rattle.desk_base.specs.Files.{Files}
 use Rattle.mate_plan.specs.Claim.{Claim, IsClaim}
 use Rattle.set_plan.specs.Outcome as plan
 use Rattle.strategy_file.specs.Claims.{claim_with, claim_of as file_claim}
-use Rattle.strategy_file.specs.Fitting.{HasFile}
+use Rattle.strategy_file.specs.Fitting.{HasFileOf}
 use Rattle.strategy_file.specs.Layout.{Refusal}
 use Rattle.strategy_file.specs.Layout as layout
 use Rattle.strategy_file.specs.StrategyFile.{Charts, File, charts_of}
@@ -111,7 +111,7 @@ IsFetched name files (Err _) = ⊥
 
 -- the claim that the bytes are the file of, or why they are none
 abbrev pub TellsRead : List ℕ → Result ClaimHere NoClaim → Type 0
-TellsRead bytes (Ok c) = File bytes (Ok (charts_of (file_claim c))) × HasFile (file_claim c)
+TellsRead bytes (Ok c) = File bytes (Ok (charts_of (file_claim c))) × HasFileOf (file_claim c)
 TellsRead bytes (Err (Cut at)) = File bytes (Err (layout.Cut at))
 TellsRead bytes (Err (Byte at why)) = File bytes (Err (layout.Byte at why))
 TellsRead bytes (Err (Extra at)) = File bytes (Err (layout.Extra at))

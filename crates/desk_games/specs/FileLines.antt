@@ -24,6 +24,9 @@ byte_word byte.Men = codes "men"
 byte_word byte.States = codes "states"
 byte_word byte.Entry = codes "entry"
 byte_word byte.Flag = codes "flag"
+byte_word byte.Nodes = codes "nodes"
+byte_word byte.Track = codes "track"
+byte_word byte.Ref = codes "ref"
 
 -- the fault line of bytes that are no file of a claim
 abbrev pub file_line : Refusal → List ℕ

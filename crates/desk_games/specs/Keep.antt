@@ -9,6 +9,7 @@ use Rattle.game_rules.specs.Game.{Position, Value}
 use Rattle.game_rules.specs.declared.men.Side.{Side}
 use Rattle.strategy_file.specs.KeptFile.{IsKeptFile, IsKeptTooLarge}
 use Rattle.strategy_file.specs.Written.{most_bytes}
+use Rattle.strategy_file.specs.declared.version.Version.TheVariants.{Shared}
 use Rattle.winning_sets.specs.Solve.{Solution}
 use Rattle.desk_report.specs.Outcome.{Ends, Report, done_with, refusal_as}
 use Rattle.desk_report.specs.Ports.{shelf_seen}
@@ -19,9 +20,9 @@ use Rattle.desk_text.specs.declared.problem.Task.{Task}
 use Rattle.desk_report.specs.declared.status.Status.{Status}
 use Rattle.desk_report.specs.declared.status.Status.TheVariants as is
 
--- the bytes are the file of what is kept, and no more than a file may have
+-- the bytes are the file of version 2 of what is kept, and no more than a file may have
 pub record IsFileToKeep (winner : Side) (p : Position) (n : ℕ) (bytes : List ℕ) : Type 0 where
-  pub file : IsKeptFile winner p n bytes
+  pub file : IsKeptFile Shared winner p n bytes
   pub small : length bytes ≤ most_bytes
 
 -- the file of what is kept has the name, or it would be too large
@@ -29,7 +30,7 @@ abbrev pub FileReports : Side → Position → (n : ℕ) → (name : List ℕ) �
 FileReports winner p n name files report =
     ((bytes : List ℕ) × IsFileToKeep winner p n bytes
     × (report ≡ done_with (map.insert files name bytes) (mate_line n)))
-    ⊎ ((size : ℕ) × IsKeptTooLarge winner p n size × (report ≡ refusal_as files is.File (too_large_line size) false))
+    ⊎ ((size : ℕ) × IsKeptTooLarge Shared winner p n size × (report ≡ refusal_as files is.File (too_large_line size) false))
 
 -- this where the winner mates within n moves of his own, and else that he does not, with no file kept
 abbrev pub KeptReports : (n : ℕ) → Problem → (name : List ℕ) → Files → Report → Type 0

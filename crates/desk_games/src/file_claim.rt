@@ -4,7 +4,7 @@ ghost use Rattle.std.specs.Prelude.{◌≡◌, ◌≤◌, [], IsErrOf, length};
 ghost use Rattle.desk_base.specs.Faults.{HasRisen};
 ghost use Rattle.desk_base.specs.Files.{FilesStay};
 ghost use Rattle.strategy_file.specs.Claims.{claim_of};
-ghost use Rattle.strategy_file.specs.Fitting.{HasFile};
+ghost use Rattle.strategy_file.specs.Fitting.{HasFileOf};
 ghost use Rattle.desk_games.specs.FileClaim.{Fetches, IsFetched, OnFiles, TellsChecked, TellsRead, no_claim_line, no_claim_status};
 ghost use Rattle.desk_report.specs.Outcome.{Writes};
 ghost use Rattle.desk_report.specs.Ports.{OnSink};
@@ -147,7 +147,7 @@ fn read_claim(alloc: Global, bytes: Vec<u8>) -> Result<Claim, NoClaim>
 
 /// The claim with its sets, once it is known to keep all rules.
 fn check_claim(alloc: Global, claim: Claim, budget: Budget) -> Result<Solved, NoClaim>
-    requires claim { HasFile (claim_of claim) }
+    requires claim { HasFileOf (claim_of claim) }
     ensures checks { TellsChecked (claim_of claim) budget result }
 {
     match check(alloc, claim, budget) {

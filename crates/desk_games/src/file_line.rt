@@ -76,6 +76,9 @@ fn byte_word(why: ByteWhy) -> &'static [u8]
         ByteWhy::States => b"states",
         ByteWhy::Entry => b"entry",
         ByteWhy::Flag => b"flag",
+        ByteWhy::Nodes => b"nodes",
+        ByteWhy::Track => b"track",
+        ByteWhy::Ref => b"ref",
     }
 }
 

@@ -1,7 +1,6 @@
 //! The file of the sets by which the winner mates.
 
-ghost use Rattle.std.specs.Prelude.{◌≡◌, ◌≤◌, length};
-ghost use Rattle.game_rules.specs.declared.men.Side.TheVariants.{White};
+ghost use Rattle.std.specs.Prelude.{◌≡◌};
 ghost use Rattle.winning_sets.specs.declared.origin.Origin.TheVariants.{Plan};
 ghost use Rattle.desk_games.specs.Keep.{FileEndsOn, KeepEndsOn};
 ghost use Rattle.desk_verdict.specs.Verdict.{IsTask};
@@ -25,7 +24,6 @@ pub fn keep<K: Sink, H: Shelf>(
     shelf: &mut H,
 ) -> Status
     requires task { IsTask task.now }
-    requires white { task.now.problem.winner ≡ White }
     ensures ends { KeepEndsOn K.Sink H.Shelf task.now name.now result (sink, shelf) }
 {
     let mut solver = ProblemSolver::new(alloc, &task.problem, task.budget);
@@ -49,8 +47,6 @@ fn keep_file<K: Sink, H: Shelf>(
     shelf: &mut H,
 ) -> Status
     requires plan { solved.now.origin ≡ Plan }
-    requires white { solved.now.winner ≡ White }
-    requires few { length solved.now.position.men ≤ 5 }
     ensures ends { FileEndsOn K.Sink H.Shelf solved.now name.now result (sink, shelf) }
 {
     let _masks = solved.masks();

@@ -29,7 +29,7 @@ pub fn play<S: Source, K: Sink>(
     requires task { IsTask task.now }
     requires goes_on { GoesOn reader.old }
     requires held { length reader.old.pending ≤ 256 }
-    requires lines { task.now.problem.lines ≤ 8 }
+    requires lines { task.now.problem.lines ≤ 11 }
     ensures ends { PlayEndsOn S.Source K.Sink task.now result (reader, source, sink) }
 {
     let mut solver = ProblemSolver::new(alloc, &task.problem, task.budget);

@@ -1,6 +1,7 @@
 use Rattle.std.proofs.Common.{Some, inl, inr, refl, subst, ap, ◌∙◌, rules}
 use Rattle.std.specs.FinMap as map
 use Rattle.strategy_file.proofs.KeptFiles.{file_is_kept}
+use Rattle.strategy_file.specs.declared.version.Version.TheVariants.{Shared}
 use Rattle.winning_sets.specs.Claimed.{IsValidBy}
 use Rattle.winning_sets.specs.Solve.{IsSolution}
 use Rattle.desk_games.specs.Keep.{FileReports, IsFileToKeep}
@@ -15,7 +16,7 @@ returns-in-Err-TooLarge g c = record {
       let s = c.args.solved.now in
       let valid : IsSolution s = subst (λ o. IsValidBy o s) c.requires.plan c.masks-masks.ensures.valid in
       let size = c.in-Err-TooLarge.length in
-      let large = (file_is_kept s valid).size size (rw c.in-Err-TooLarge.field-0-is at c.in-Err-TooLarge.ensures.refused) in (
+      let large = (file_is_kept Shared s valid).size size (rw c.in-Err-TooLarge.field-0-is at c.in-Err-TooLarge.ensures.refused) in (
         _,
         inr (size, large, refl),
         record {
@@ -33,7 +34,7 @@ returns-in-Ok-keep g c = record {
       let name = c.args.name.now in
       let valid : IsSolution s = subst (λ o. IsValidBy o s) c.requires.plan c.masks-masks.ensures.valid in
       let bytes = c.in-Ok.bytes.items in
-      let file : IsFileToKeep s.winner s.position s.moves bytes = record { file = (file_is_kept s valid).file bytes c.in-Ok.ensures.file; small = c.in-Ok.ensures.small } in
+      let file : IsFileToKeep s.winner s.position s.moves bytes = record { file = (file_is_kept Shared s valid).file bytes c.in-Ok.ensures.file; small = c.in-Ok.ensures.small } in
       let text = c.as_slice-in-Ok-keep.result.now in
       let line = c.as_slice-in-Ok-keep.ensures ∙ c.verdict_line-line.ensures.won refl ∙ ap mate_line c.moves.ensures in
       let after = map.insert files name bytes in
@@ -49,7 +50,7 @@ returns-in-Err-Failed g c = record {
       let s = c.args.solved.now in
       let valid : IsSolution s = subst (λ o. IsValidBy o s) c.requires.plan c.masks-masks.ensures.valid in
       let bytes = c.in-Ok.bytes.items in
-      let file : IsFileToKeep s.winner s.position s.moves bytes = record { file = (file_is_kept s valid).file bytes c.in-Ok.ensures.file; small = c.in-Ok.ensures.small } in (
+      let file : IsFileToKeep s.winner s.position s.moves bytes = record { file = (file_is_kept Shared s valid).file bytes c.in-Ok.ensures.file; small = c.in-Ok.ensures.small } in (
         Some c.args.name.now,
         ((bytes, file), refl),
         record {
