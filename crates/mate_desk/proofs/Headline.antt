@@ -5,12 +5,14 @@ use Rattle.std.proofs.lemmas.List.{append-nil, append_cancel_left, take_all}
 use Rattle.desk_base.specs.Files.{Files}
 use Rattle.desk_base.specs.Lines.{lines_of}
 use Rattle.game_rules.specs.Game.{Position}
-use Rattle.chess_text.specs.PositionText.{position_lines, position_text}
+use Rattle.game_rules.specs.declared.men.Side.{Side}
+use Rattle.chess_text.specs.PositionText.{position_text}
 use Rattle.desk_solve.specs.Decide.{IsAnswered, IsOverBudget}
 use Rattle.mate_desk.specs.Laws.{DecideWrites, HasRun, LeastWrites}
 use Rattle.desk_solve.specs.Least.{LeastFinds, LeastReports, least_line}
 use Rattle.desk_report.specs.Outcome.{Report, Seen}
-use Rattle.desk_text.specs.Text.{TextAt, white_mates, whole}
+use Rattle.desk_text.specs.Text.{TextAt, whole}
+use Rattle.desk_text.specs.TextLaws.{text_problem}
 use Rattle.desk_verdict.specs.Verdict.{mate_line, no_mate_line}
 use Rattle.desk_words.specs.declared.order.Order.{Order}
 use Rattle.desk_words.specs.declared.order.Order.TheVariants as orders
@@ -35,19 +37,19 @@ told_bytes (Some xs) (Some ys) out text told appends = let same : xs ≡ out = c
 pub take_none : (count : ℕ) (line : List ℕ) → line ≡ [] → take count line ≡ []
 take_none count line none = ap (λ l. take count l) none ∙ take_all count [] (omega arith)
 
-module _ (words : List (List ℕ)) (order : Order) (p : Position) (old new : Seen) (out : List ℕ) (run : HasRun words order p old new out) where
+module _ (words : List (List ℕ)) (order : Order) (p : Position) (winner : Side) (old new : Seen) (out : List ℕ) (run : HasRun words order p winner old new out) where
   abbrev reported : Report
   reported = run.ends.ends.0
 
   -- the problem that was read
   abbrev problem : Problem
-  problem = white_mates p (length (position_lines p))
+  problem = text_problem p winner
 
   is_read : TextAt (run.ends.given.taken ++ run.ends.given.rest) (whole problem (lines_of run.behind))
   is_read =
       let P : List ℕ → Type 0 = λ b. TextAt b (whole problem (lines_of run.behind)) in
-      subst P (given_bytes old.left new.left (position_text p ++ run.behind) run.ends.given.taken run.ends.given.rest run.input run.ends.given.consumed run.ends.given.left)
-      (text_is_read p run.behind run.writable)
+      subst P (given_bytes old.left new.left (position_text p winner ++ run.behind) run.ends.given.taken run.ends.given.rest run.input run.ends.given.consumed run.ends.given.left)
+      (text_is_read p winner run.behind run.writable)
 
   -- all that was written
   wrote : reported.fault ≡ [] → (all : List ℕ) × (new.written ≡ Some all) × (all ≡ out ++ reported.text)
@@ -71,16 +73,16 @@ one_of n out text all is (inl e) = inl (is ∙ ap (λ l. out ++ l) e)
 one_of n out text all is (inr e) = inr (is ∙ ap (λ l. out ++ l) e)
 
 pub decide_writes : DecideWrites
-decide_writes words n budget p old new out run =
+decide_writes words n budget p winner old new out run =
     let order = orders.Decide n budget in
     let given = run.ends.given in
     let report = run.ends.ends.0 in
     let done = sym run.ends.ends.2.reported in
-    let read = problem words order p old new out run in
+    let read = problem words order p winner old new out run in
     let exact =
-    decides_exactly words (given.taken ++ given.rest) given.files n budget read (lines_of run.behind) report run.ordered (is_read words order p old new out run) run.sound run.ends.ends.1 in
+    decides_exactly words (given.taken ++ given.rest) given.files n budget read (lines_of run.behind) report run.ordered (is_read words order p winner old new out run) run.sound run.ends.ends.1 in
     let answer = answered n budget read report done exact.cause in
-    let all = wrote words order p old new out run answer.fault in (
+    let all = wrote words order p winner old new out run answer.fault in (
       all.0,
       all.1,
       record {
@@ -103,17 +105,17 @@ says_least limit budget problem files report done (inl (step, stops, is')) = let
 says_least limit budget problem files report done (inr (found, finds, is')) = record { found = found; finds = finds; wrote = ap (λ r. r.text) is'; fault = ap (λ r. r.fault) is' }
 
 pub least_writes : LeastWrites
-least_writes words limit budget p old new out run =
+least_writes words limit budget p winner old new out run =
     let order = orders.Least limit budget in
     let given = run.ends.given in
     let report = run.ends.ends.0 in
     let bytes = given.taken ++ given.rest in
-    let read = problem words order p old new out run in
+    let read = problem words order p winner old new out run in
     let reports = of_words words bytes given.files order report run.ordered run.ends.ends.1 in
     let right =
-    of_text (λ r behind. LeastReports limit budget r given.files) given.files bytes read (lines_of run.behind) report (is_read words order p old new out run) run.sound reports in
+    of_text (λ r behind. LeastReports limit budget r given.files) given.files bytes read (lines_of run.behind) report (is_read words order p winner old new out run) run.sound reports in
     let says = says_least limit budget read given.files report (sym run.ends.ends.2.reported) right in
-    let all = wrote words order p old new out run says.fault in (
+    let all = wrote words order p winner old new out run says.fault in (
       all.0,
       all.1,
       record { found = says.found; least = says.finds.0; written = all.2 ∙ ap (λ l. out ++ l) says.wrote },

@@ -17,6 +17,7 @@ use Rattle.strategy_file.specs.Claims.{claim_with}
 use Rattle.strategy_file.specs.KeptFile.{IsReadAsWon}
 use Rattle.strategy_file.specs.Layout.{Refusal}
 use Rattle.strategy_file.specs.StrategyFile.{Charts, File}
+use Rattle.strategy_file.specs.declared.version.Version.TheVariants.{Shared}
 use Rattle.winning_sets.specs.Solve.{IsSolveError}
 use Rattle.winning_sets.specs.declared.names.SolveError.TheVariants as solve_error
 use Rattle.desk_games.specs.Check.{CheckReports}
@@ -138,7 +139,7 @@ module _ (words : List (List ℕ)) (n budget : ℕ) (name : List ℕ) (files : F
 -- the file is there, as it was kept, and its claim is won
 module _ (n other : ℕ) (name : List ℕ) (files kept given : Files) (l : Leaves n name kept given) (still : map.get files name ≡ map.get kept name) (report : Report) where
   won : IsReadAsWon l.problem.winner l.problem.position n l.bytes
-  won = kept_file_is_claim l.problem.winner l.problem.position n l.bytes l.sound l.value l.file.file
+  won = kept_file_is_claim Shared l.problem.winner l.problem.position n l.bytes l.sound l.value l.file.small l.file.file
 
   abbrev c : Claim
   c = claim_with won.charts

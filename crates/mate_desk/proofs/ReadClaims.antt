@@ -6,16 +6,18 @@ use Rattle.std.proofs.lemmas.Bool.{and_parts, leb-true}
 use Rattle.std.proofs.lemmas.List.Elements.{All-contains, All-nil, All-cons}
 use Rattle.auto_core.specs.Automaton.{Automaton}
 use Rattle.game_rules.specs.Game.{Position, Sound}
-use Rattle.game_rules.specs.declared.men.Side.TheVariants.{White}
 use Rattle.mate_plan.specs.Claim.{Claim, ClaimedSet, IsClaim}
 use Rattle.rule_formula.specs.Mean.{mask_tracks}
 use Rattle.strategy_file.proofs.FileClaims.{found_in, place_of, at_place, is_some_in}
+use Rattle.strategy_file.proofs.Greatest.{few_men}
 use Rattle.strategy_file.proofs.LosersPlies.{places_of-are}
 use Rattle.strategy_file.specs.Claims.{claim_with, set_with}
 use Rattle.strategy_file.specs.Layout.{Ends, Give, Layout, Read, Reads, Refusal, bind, each, repeated}
 use Rattle.strategy_file.specs.Men.{Start, man_layout, start_layout, start_with}
-use Rattle.strategy_file.specs.StrategyFile.{Chart, Charts, File, GoesOn, chart_layout, chart_with, charts_layout, charts_with, places_of}
+use Rattle.strategy_file.specs.StrategyFile.{Chart, Charts, File, GoesOn, chart_layout, chart_with, charts_layout, charts_with, places_of, sets_layout}
 use Rattle.strategy_file.specs.Tables.{Table, table_layout}
+use Rattle.strategy_file.specs.Versions.{most_kind, most_men, version_of}
+use Rattle.strategy_file.specs.declared.version.Version.{Version}
 use Rattle.strategy_file.specs.declared.refusal.ByteWhy.{ByteWhy}
 
 -- the value is one that the layout gives of some numbers, each of which may stand in its field
@@ -73,19 +75,21 @@ within low high n why h = below_by (nat_le low n && nat_le n high) refl h
     below_by true e h = leb-true n high (and_parts (nat_le low n) (nat_le n high) e).1
     below_by false e h = absurd cc
 
-start_few : (start : Start) → CanGive start_layout start → length start.position.men ≤ 5
+start_few : (start : Start) → CanGive start_layout start → length start.position.men ≤ 8
 unfolding start_layout
 start_few start (magic, magic_fits, (version, version_fits, (moves, moves_fit, (turn, turn_fits, (count, count_fits, h))))) =
-    let men = in_turn (repeated count man_layout) (λ men. Give (start_with moves turn men)) start h in
-    let P : ℕ → Type 0 = λ n. n ≤ 5 in
-    subst P (sym (ap (λ s. length s.position.men) men.then_given ∙ so_many count man_layout men.first men.given)) (within 2 5 count _ count_fits)
+    let is = version_of version in
+    let man = man_layout (most_kind is) in
+    let men = in_turn (repeated count man) (λ men. Give (start_with is moves turn men)) start h in
+    let P : ℕ → Type 0 = λ n. n ≤ 8 in
+    subst P (sym (ap (λ s. length s.position.men) men.then_given ∙ so_many count man men.first men.given)) (few_men is count (within 2 (most_men is) count _ count_fits))
 
 -- each chart of a place is that of the place
 module _ (p : Position) where
-  chart_is : (place : ℕ × ℕ) (x : Chart) → CanGive (chart_layout p place) x → (table : Table) × (x ≡ chart_with p place table)
+  chart_is : (version : Version) (place : ℕ × ℕ) (x : Chart) → CanGive (chart_layout version p place) x → (table : Table) × (x ≡ chart_with p place table)
   unfolding chart_layout
-  chart_is place x (ply, ply_fits, (mask, mask_fits, h)) =
-      let table = in_turn (table_layout (length (mask_tracks p place.1))) (λ t. Give (chart_with p place t)) x h in (table.first, table.then_given)
+  chart_is version place x (ply, ply_fits, (mask, mask_fits, h)) =
+      let table = in_turn (table_layout version (length (mask_tracks p place.1))) (λ t. Give (chart_with p place t)) x h in (table.first, table.then_given)
 
   -- a set over the tracks of its mask's men
   abbrev IsOver : ClaimedSet → Type 0
@@ -95,13 +99,13 @@ module _ (p : Position) where
     places_are : map place_of (map set_with xs) ≡ places
     over : All IsOver (map set_with xs)
 
-  are_at : (places : List (ℕ × ℕ)) (xs : List Chart) → CanGive (each places (chart_layout p)) xs → AreAt places xs
-  are_at [] xs h = let P : List Chart → Type 0 = λ l. AreAt [] l in subst P (sym h) (record { places_are = refl; over = All-nil IsOver })
-  are_at (place ∷ places) xs h =
-      let one = in_turn (chart_layout p place) (λ x. bind (each places (chart_layout p)) (λ rest. Give (x ∷ rest))) xs h in
-      let rest = in_turn (each places (chart_layout p)) (λ more. Give (one.first ∷ more)) xs one.then_given in
-      let later = are_at places rest.first rest.given in
-      let chart = chart_is place one.first one.given in
+  are_at : (version : Version) (places : List (ℕ × ℕ)) (xs : List Chart) → CanGive (each places (chart_layout version p)) xs → AreAt places xs
+  are_at version [] xs h = let P : List Chart → Type 0 = λ l. AreAt [] l in subst P (sym h) (record { places_are = refl; over = All-nil IsOver })
+  are_at version (place ∷ places) xs h =
+      let one = in_turn (chart_layout version p place) (λ x. bind (each places (chart_layout version p)) (λ rest. Give (x ∷ rest))) xs h in
+      let rest = in_turn (each places (chart_layout version p)) (λ more. Give (one.first ∷ more)) xs one.then_given in
+      let later = are_at version places rest.first rest.given in
+      let chart = chart_is version place one.first one.given in
       let whole : xs ≡ chart_with p place chart.0 ∷ rest.first = rest.then_given ∙ ap (λ x. x ∷ rest.first) chart.1 in
       let P : List Chart → Type 0 = λ l. AreAt (place ∷ places) l in
       subst P (sym whole) (record {
@@ -112,15 +116,15 @@ module _ (p : Position) where
 -- so it is of all charts of a file
 record IsRead (charts : Charts) : Type 0 where
   sound : Sound charts.position
-  few : length charts.position.men ≤ 5
+  few : length charts.position.men ≤ 8
   places_are : map place_of (claim_with charts).sets ≡ places_of charts.winner charts.position charts.moves
   over : All (IsOver charts.position) (claim_with charts).sets
 
-charts_read : (start : Start) (charts : Charts) → Sound start.position → length start.position.men ≤ 5 → CanGive (charts_layout start) charts → IsRead charts
+charts_read : (start : Start) (charts : Charts) → Sound start.position → length start.position.men ≤ 8 → CanGive (charts_layout start) charts → IsRead charts
 unfolding charts_layout
 charts_read start charts sound few h =
-    let sets = in_turn (each (places_of White start.position start.moves) (chart_layout start.position)) (λ xs. Give (charts_with start xs)) charts h in
-    let all = are_at start.position (places_of White start.position start.moves) sets.first sets.given in
+    let sets = in_turn (sets_layout start) (λ xs. Give (charts_with start xs)) charts h in
+    let all = are_at start.position start.version (places_of start.winner start.position start.moves) sets.first sets.given in
     let P : Charts → Type 0 = λ c. IsRead c in
     subst P (sym sets.then_given) (record { sound = sound; few = few; places_are = all.places_are; over = all.over })
 
@@ -133,7 +137,7 @@ file_read bytes charts file =
     let start = read_whole GoesOn charts start_layout 0 bytes file in
     go start.value start.at start.bytes (start_few start.value start.given) start.goes_on
   where
-    go : (start : Start) (at : ℕ) (rest : List ℕ) → length start.position.men ≤ 5 → GoesOn start at rest (Ok charts) → IsRead charts
+    go : (start : Start) (at : ℕ) (rest : List ℕ) → length start.position.men ≤ 8 → GoesOn start at rest (Ok charts) → IsRead charts
     go start at rest few (inl (unsound, e)) = absurd (cc)
     go start at rest few (inr (sound, reads)) =
         let r = read_whole Ends charts (charts_layout start) at rest reads in
@@ -147,7 +151,7 @@ module _ (charts : Charts) (h : IsRead charts) where
   charts_claim : IsClaim c
   charts_claim = record {
     sound = h.sound;
-    few = let most = h.few in omega (arith, most);
+    few = h.few;
     found = λ ply mask losers game.
         is_some_in c.sets ply mask
         (subst (λ (ps : List (ℕ × ℕ)). Contains {X = ℕ × ℕ} ps (ply, mask)) (sym h.places_are)

@@ -143,7 +143,7 @@ in_order (Play n budget) = text_row (λ problem rest files. play_row n budget pr
 in_order (Keep n budget) = text_to_keep_row (λ problem name files. keep_row n budget problem name files)
 in_order (Check budget) = file_row (λ lines name files. check_row budget name files)
 in_order (Resume budget) = file_row (λ lines name files. resume_row budget lines name files)
-in_order Show = text_row (λ problem rest files. show_row problem.position files)
+in_order Show = text_row (λ problem rest files. show_row problem files)
 in_order (Drill seed count) = words_row (λ files. drill_row seed count files)
 in_order (Arith budget) = lines_row (λ lines files. arith_row budget lines files)
 

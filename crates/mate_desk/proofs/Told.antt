@@ -6,9 +6,11 @@ use Rattle.desk_base.specs.Files.{Files}
 use Rattle.desk_base.specs.Lines.{Lines, lines_of}
 use Rattle.desk_base.specs.Moves.{AppendsFront}
 use Rattle.game_rules.specs.Game.{Position}
-use Rattle.chess_text.specs.PositionText.{position_lines, position_text}
+use Rattle.game_rules.specs.declared.men.Side.{Side}
+use Rattle.chess_text.specs.PositionText.{position_text}
 use Rattle.chess_text.specs.declared.reader.Stage.TheVariants.{Header}
-use Rattle.desk_text.specs.Text.{Text, TextAt, refused, white_mates, whole}
+use Rattle.desk_text.specs.Text.{Text, TextAt, refused, whole}
+use Rattle.desk_text.specs.TextLaws.{text_problem}
 use Rattle.desk_text.specs.declared.problem.Problem.{Problem}
 use Rattle.desk_text.proofs.MoreLines.{text_more}
 use Rattle.desk_text.proofs.OneText.{once_text}
@@ -32,10 +34,10 @@ use Rattle.mate_desk.proofs.StatusLaws.{memory_last, no_shelf_fault, ordered_not
 take_and_drop : (n : ℕ) (xs : List ℕ) → take n xs ++ drop n xs ≡ xs
 take_and_drop n xs = take-append-drop n xs
 
-module _ (words : List (List ℕ)) (order : Order) (p : Position) (status : Status) (old new : Seen) (told : IsTold words order p old) (run : RunEnds words status old new) where
+module _ (words : List (List ℕ)) (order : Order) (p : Position) (winner : Side) (status : Status) (old new : Seen) (told : IsTold words order p winner old) (run : RunEnds words status old new) where
   -- the problem that was read
   abbrev problem : Problem
-  problem = white_mates p (length (position_lines p))
+  problem = text_problem p winner
 
   abbrev all_bytes : List ℕ
   all_bytes = run.given.taken ++ run.given.rest
@@ -43,8 +45,8 @@ module _ (words : List (List ℕ)) (order : Order) (p : Position) (status : Stat
   is_read : TextAt all_bytes (whole problem (lines_of told.behind))
   is_read =
       let P : List ℕ → Type 0 = λ b. TextAt b (whole problem (lines_of told.behind)) in
-      subst P (given_bytes old.left new.left (position_text p ++ told.behind) run.given.taken run.given.rest told.input run.given.consumed run.given.left)
-      (text_is_read p told.behind told.writable)
+      subst P (given_bytes old.left new.left (position_text p winner ++ told.behind) run.given.taken run.given.rest told.input run.given.consumed run.given.left)
+      (text_is_read p winner told.behind told.writable)
 
 -- what is written of a text and a fault line
 module _ (out : List ℕ) (old new : Seen) (before : old.written ≡ Some out) (text fault : List ℕ) where
@@ -82,15 +84,15 @@ module _ (out : List ℕ) (old new : Seen) (before : old.written ≡ Some out) (
         },
       )
 
-module _ (words : List (List ℕ)) (n budget : ℕ) (p : Position) (old new : Seen) (out : List ℕ) (told : IsTold words (orders.Play n budget) p old) (before : old.written ≡ Some out) where
+module _ (words : List (List ℕ)) (n budget : ℕ) (p : Position) (winner : Side) (old new : Seen) (out : List ℕ) (told : IsTold words (orders.Play n budget) p winner old) (before : old.written ≡ Some out) where
   abbrev order : Order
   order = orders.Play n budget
 
   abbrev first : Problem
-  first = white_mates p (length (position_lines p))
+  first = text_problem p winner
 
   game : (status : Status) (run : RunEnds words status old new) (report : Report)
-      → Reports words (run.given.taken ++ run.given.rest) run.given.files report → Wrote out old new before report.text report.fault → WritesGame n budget p told.behind old new out
+      → Reports words (run.given.taken ++ run.given.rest) run.given.files report → Wrote out old new before report.text report.fault → WritesGame n budget p winner told.behind old new out
   game status run report reports wrote = record {
     all = wrote.0;
     told = wrote.1;
@@ -98,15 +100,15 @@ module _ (words : List (List ℕ)) (n budget : ℕ) (p : Position) (old new : Se
     report = report;
     plays =
         play_keeps words (run.given.taken ++ run.given.rest) run.given.files n budget first (lines_of told.behind) report told.ordered
-        (is_read words order p status old new told run) told.sound reports;
+        (is_read words order p winner status old new told run) told.sound reports;
     writes = wrote.2;
   }
 
   done : (status : Status) (run : RunEnds words status old new) (report : Report) → Reports words (run.given.taken ++ run.given.rest) run.given.files report
-      → DoesReport status report old new → WritesGame n budget p told.behind old new out
+      → DoesReport status report old new → WritesGame n budget p winner told.behind old new out
   done status run report reports does = game status run report reports (both_written out old new before report.text report.fault does.written)
 
-  writes_by : (status : Status) → status ≢ is.ReadFault → status ≢ is.Memory → RunEnds words status old new → WritesGame n budget p told.behind old new out
+  writes_by : (status : Status) → status ≢ is.ReadFault → status ≢ is.Memory → RunEnds words status old new → WritesGame n budget p winner told.behind old new out
   writes_by is.Done no_fault memory run = done is.Done run run.ends.0 run.ends.1 run.ends.2
   writes_by is.Usage no_fault memory run = done is.Usage run run.ends.0 run.ends.1 run.ends.2
   writes_by is.Text no_fault memory run = done is.Text run run.ends.0 run.ends.1 run.ends.2
@@ -144,7 +146,7 @@ module _ (words : List (List ℕ)) (n budget : ℕ) (p : Position) (old new : Se
         let same : problem ≡ first = cc in
         as_first problem lines same at right
 
-  writes_taken : RunEnds words is.ReadFault old new → WritesTaken n budget p (position_text p ++ told.behind) old new out
+  writes_taken : RunEnds words is.ReadFault old new → WritesTaken n budget p winner (position_text p winner ++ told.behind) old new out
   writes_taken run =
       let taken = run.given.taken in
       let report = run.ends.0 in
@@ -153,31 +155,31 @@ module _ (words : List (List ℕ)) (n budget : ℕ) (p : Position) (old new : Se
       record {
         taken = taken;
         rest = run.given.rest;
-        input_is = given_bytes old.left new.left (position_text p ++ told.behind) taken run.given.rest told.input run.given.consumed run.given.left;
+        input_is = given_bytes old.left new.left (position_text p winner ++ told.behind) taken run.given.rest told.input run.given.consumed run.given.left;
         all = wrote.0;
         told = wrote.1;
         files = run.given.files;
         report = report;
-        plays = taken_plays taken run.given.rest run.given.files report (is_read words order p is.ReadFault old new told run) read.0 read.1 read.2;
+        plays = taken_plays taken run.given.rest run.given.files report (is_read words order p winner is.ReadFault old new told run) read.0 read.1 read.2;
         writes = wrote.2;
       }
 
 pub play_writes : PlayWrites
 play_writes = record {
-  game = λ words n budget p status old new out told before no_fault memory run. writes_by words n budget p old new out told before status no_fault memory run;
-  taken = λ words n budget p old new out told before run. writes_taken words n budget p old new out told before run;
+  game = λ words n budget p winner status old new out told before no_fault memory run. writes_by words n budget p winner old new out told before status no_fault memory run;
+  taken = λ words n budget p winner old new out told before run. writes_taken words n budget p winner old new out told before run;
 }
 
 -- a run of `decide` that reports is done, or over budget
-module _ (words : List (List ℕ)) (n budget : ℕ) (p : Position) (old new : Seen) (told : IsTold words (orders.Decide n budget) p old) where
+module _ (words : List (List ℕ)) (n budget : ℕ) (p : Position) (winner : Side) (old new : Seen) (told : IsTold words (orders.Decide n budget) p winner old) where
   abbrev asked : Problem
-  asked = white_mates p (length (position_lines p))
+  asked = text_problem p winner
 
   exact : (status : Status) (run : RunEnds words status old new) (report : Report) → Reports words (run.given.taken ++ run.given.rest) run.given.files report
       → IsExact n budget asked report
   exact status run report reports =
       decides_exactly words (run.given.taken ++ run.given.rest) run.given.files n budget asked (lines_of told.behind) report told.ordered
-      (is_read words (orders.Decide n budget) p status old new told run) told.sound reports
+      (is_read words (orders.Decide n budget) p winner status old new told run) told.sound reports
 
   caused : (status : Status) (report : Report) → status ≡ report.status → IsExact n budget asked report → (status ≢ is.Done) → (status ≢ is.Budget) → ⊥
   caused status report same right not_done not_over = elim right.cause [
@@ -197,8 +199,8 @@ module _ (words : List (List ℕ)) (n budget : ℕ) (p : Position) (old new : Se
   causes is.ReadFault run = run.ends.2.failed
   causes is.WriteFault run = run.ends.2.failed
   causes is.Memory run =
-      ((memory_last words old new run).of_text (orders.Decide n budget) (position_text p ++ told.behind) asked (lines_of told.behind) told.ordered tt told.input
-      (text_is_read p told.behind told.writable)).1
+      ((memory_last words old new run).of_text (orders.Decide n budget) (position_text p winner ++ told.behind) asked (lines_of told.behind) told.ordered tt told.input
+      (text_is_read p winner told.behind told.writable)).1
   causes is.ShelfFault run = absurd (no_shelf_fault words (orders.Decide n budget) is.ShelfFault old new told.ordered tt run refl)
   causes is.Usage run = absurd (ordered_not_usage words (orders.Decide n budget) is.Usage old new told.ordered run refl)
   causes is.Text run = caused is.Text run.ends.0 run.ends.2.reported (exact is.Text run run.ends.0 run.ends.1) (λ e. absurd (cc)) (λ e. absurd (cc))
@@ -209,4 +211,4 @@ module _ (words : List (List ℕ)) (n budget : ℕ) (p : Position) (old new : Se
   causes is.TooMany run = caused is.TooMany run.ends.0 run.ends.2.reported (exact is.TooMany run run.ends.0 run.ends.1) (λ e. absurd (cc)) (λ e. absurd (cc))
 
 pub decide_ends : DecideEnds
-decide_ends words n budget p status old new told run = causes words n budget p old new told status run
+decide_ends words n budget p winner status old new told run = causes words n budget p winner old new told status run

@@ -6,8 +6,8 @@ use Rattle.desk_base.specs.Faults.{HasRisen}
 use Rattle.desk_base.specs.Files.{Files}
 use Rattle.desk_base.specs.Lines.{Lines, full, lines_of}
 use Rattle.game_rules.specs.Game.{Position, Least, Lost, Sound, Value}
-use Rattle.game_rules.specs.declared.men.Side.TheVariants.{White}
-use Rattle.chess_text.specs.PositionText.{IsWritable, position_lines, position_text}
+use Rattle.game_rules.specs.declared.men.Side.{Side}
+use Rattle.chess_text.specs.PositionText.{IsWritable, position_text}
 use Rattle.game_report.specs.Report.{IsReport, Match}
 use Rattle.game_report.specs.Report as game
 use Rattle.lin_formula.specs.Tree.{Tree}
@@ -34,7 +34,8 @@ use Rattle.desk_games.specs.Play.{as_played, first_match}
 use Rattle.mate_desk.specs.Report.{IsOfText, MayLackMemory, Reports, TakesMemory, UsesNoShelf}
 use Rattle.desk_games.specs.Resume.{claimed_match}
 use Rattle.mate_desk.specs.Run.{RunEnds}
-use Rattle.desk_text.specs.Text.{TextAt, refused, white_mates, whole}
+use Rattle.desk_text.specs.Text.{TextAt, refused, whole}
+use Rattle.desk_text.specs.TextLaws.{text_problem}
 use Rattle.desk_text.specs.declared.text.LineWhy.{LineWhy}
 use Rattle.desk_verdict.specs.Verdict.{ExceedsAt, mate_line, no_mate_line}
 use Rattle.desk_words.specs.declared.order.Order.{Order}
@@ -44,44 +45,44 @@ use Rattle.desk_text.specs.declared.problem.Problem.{Problem}
 use Rattle.desk_report.specs.declared.status.Status.{Status}
 use Rattle.desk_report.specs.declared.status.Status.TheVariants as is
 
--- What `decide` wrote behind the bytes `old`: one of the two lines, the one exactly where White mates within n moves of
--- his own, and the other exactly where he does not.
-pub record WritesVerdict (n : ℕ) (p : Position) (old new : List ℕ) : Type 0 where
+-- What `decide` wrote behind the bytes `old`: one of the two lines, the one exactly where the winner mates within n moves
+-- of his own, and the other exactly where he does not.
+pub record WritesVerdict (n : ℕ) (p : Position) (winner : Side) (old new : List ℕ) : Type 0 where
   pub one : (new ≡ old ++ mate_line n) ⊎ (new ≡ old ++ no_mate_line n)
-  pub mate : (new ≡ old ++ mate_line n) ↔ Value White n p
-  pub no_mate : (new ≡ old ++ no_mate_line n) ↔ (¬ Value White n p)
+  pub mate : (new ≡ old ++ mate_line n) ↔ Value winner n p
+  pub no_mate : (new ≡ old ++ no_mate_line n) ↔ (¬ Value winner n p)
 
--- What `least` wrote behind the bytes `old`: the least number of moves up to the limit within which White mates, or
--- that there is none.
-pub record WritesLeast (limit : ℕ) (p : Position) (old new : List ℕ) : Type 0 where
+-- What `least` wrote behind the bytes `old`: the least number of moves up to the limit within which the winner mates,
+-- or that there is none.
+pub record WritesLeast (limit : ℕ) (p : Position) (winner : Side) (old new : List ℕ) : Type 0 where
   pub found : Option ℕ
-  pub least : Least White p limit found
+  pub least : Least winner p limit found
   pub written : new ≡ old ++ least_line limit found
 
--- A run that is done has the text of the sound position at the front of its source, and a sink that tells what was
--- written.
-pub record HasRun (words : List (List ℕ)) (order : Order) (p : Position) (old new : Seen) (out : List ℕ) : Type 0 where
+-- A run that is done has the text of the sound position and of the winner at the front of its source, and a sink that
+-- tells what was written.
+pub record HasRun (words : List (List ℕ)) (order : Order) (p : Position) (winner : Side) (old new : Seen) (out : List ℕ) : Type 0 where
   pub behind : List ℕ
   pub ordered : Ordered words (Ok order)
   pub writable : IsWritable p
   pub sound : Sound p
-  pub input : old.left ≡ Some (position_text p ++ behind)
+  pub input : old.left ≡ Some (position_text p winner ++ behind)
   pub output : old.written ≡ Some out
   pub ends : RunEnds words is.Done old new
 
 -- what a run of `decide` writes
 abbrev pub DecideWrites : Type 0
 DecideWrites =
-    (words : List (List ℕ)) (n budget : ℕ) (p : Position) (old new : Seen) (out : List ℕ)
-    → HasRun words (orders.Decide n budget) p old new out
-    → (all : List ℕ) × (new.written ≡ Some all) × WritesVerdict n p out all
+    (words : List (List ℕ)) (n budget : ℕ) (p : Position) (winner : Side) (old new : Seen) (out : List ℕ)
+    → HasRun words (orders.Decide n budget) p winner old new out
+    → (all : List ℕ) × (new.written ≡ Some all) × WritesVerdict n p winner out all
 
 -- what a run of `least` writes
 abbrev pub LeastWrites : Type 0
 LeastWrites =
-    (words : List (List ℕ)) (limit budget : ℕ) (p : Position) (old new : Seen) (out : List ℕ)
-    → HasRun words (orders.Least limit budget) p old new out
-    → (all : List ℕ) × (new.written ≡ Some all) × WritesLeast limit p out all
+    (words : List (List ℕ)) (limit budget : ℕ) (p : Position) (winner : Side) (old new : Seen) (out : List ℕ)
+    → HasRun words (orders.Least limit budget) p winner old new out
+    → (all : List ℕ) × (new.written ≡ Some all) × WritesLeast limit p winner out all
 
 -- the status is that of words that are no order exactly where they are none
 abbrev pub UsageExactly : Type 0
@@ -194,7 +195,7 @@ ResumeKeeps =
     → Reports words bytes files report
     → OfFile (ResumesGame (lines_of bytes) files) budget name files report
 
--- A run of `keep` is done and wrote that White mates within n moves of his own. Its sink and its shelf tell; the files
+-- A run of `keep` is done and wrote that the winner mates within n moves of his own. Its sink and its shelf tell; the files
 -- are these then.
 pub record HasKept (words : List (List ℕ)) (n budget : ℕ) (name : List ℕ) (files : Files) (old new : Seen) : Type
     0 where
@@ -248,13 +249,14 @@ AnswersExactly =
     → Reports words bytes files report
     → ReportsAnswer budget f files report
 
--- The words are the order, and the source tells the text of the sound position, and what comes behind it.
-pub record IsTold (words : List (List ℕ)) (order : Order) (p : Position) (old : Seen) : Type 0 where
+-- The words are the order, and the source tells the text of the sound position and of the winner, and what comes behind
+-- it.
+pub record IsTold (words : List (List ℕ)) (order : Order) (p : Position) (winner : Side) (old : Seen) : Type 0 where
   pub behind : List ℕ
   pub ordered : Ordered words (Ok order)
   pub writable : IsWritable p
   pub sound : Sound p
-  pub input : old.left ≡ Some (position_text p ++ behind)
+  pub input : old.left ≡ Some (position_text p winner ++ behind)
 
 -- Behind the bytes `out` stand this text and this fault line: the whole of them, unless the sink has failed.
 pub record IsWritten (text fault out all : List ℕ) (failed : Type 0) : Type 0 where
@@ -264,12 +266,12 @@ pub record IsWritten (text fault out all : List ℕ) (failed : Type 0) : Type 0 
 
 -- What a run of `play` wrote: of the game of the text with the lines behind it, in which each move of the winner is
 -- legal and keeps the count, or that he does not mate, or the first step that exceeds the budget.
-pub record WritesGame (n budget : ℕ) (p : Position) (behind : List ℕ) (old new : Seen) (out : List ℕ) : Type 0 where
+pub record WritesGame (n budget : ℕ) (p : Position) (winner : Side) (behind : List ℕ) (old new : Seen) (out : List ℕ) : Type 0 where
   pub all : List ℕ
   pub told : new.written ≡ Some all
   pub files : Files
   pub report : Report
-  pub plays : PlaysGame n budget (white_mates p (length (position_lines p))) (lines_of behind) files report
+  pub plays : PlaysGame n budget (text_problem p winner) (lines_of behind) files report
   pub writes : IsWritten report.text report.fault out all (WriteFailed old new)
 
 -- What a run of `play` had to play whose source failed: the bytes that it took are a text cut short, and nothing is
@@ -280,7 +282,7 @@ PlaysTaken n budget problem taken files report =
     ⊎ ((lines : Lines) × TextAt taken (whole problem lines) × PlaysGame n budget problem lines files report)
 
 -- What such a run wrote of an input: the text of that, and that the source has failed.
-pub record WritesTaken (n budget : ℕ) (p : Position) (input : List ℕ) (old new : Seen) (out : List ℕ) : Type 0 where
+pub record WritesTaken (n budget : ℕ) (p : Position) (winner : Side) (input : List ℕ) (old new : Seen) (out : List ℕ) : Type 0 where
   pub taken : List ℕ
   pub rest : List ℕ
   pub input_is : input ≡ taken ++ rest
@@ -288,21 +290,21 @@ pub record WritesTaken (n budget : ℕ) (p : Position) (input : List ℕ) (old n
   pub told : new.written ≡ Some all
   pub files : Files
   pub report : Report
-  pub plays : PlaysTaken n budget (white_mates p (length (position_lines p))) taken files report
+  pub plays : PlaysTaken n budget (text_problem p winner) taken files report
   pub writes : IsWritten report.text (codes "read fault\n") out all (WriteFailed old new)
 
 -- So it is with each run of `play` that has memory.
 pub record PlayWrites : Type 0 where
-  pub game : (words : List (List ℕ)) (n budget : ℕ) (p : Position) (status : Status) (old new : Seen) (out : List ℕ)
-      → (told : IsTold words (orders.Play n budget) p old)
+  pub game : (words : List (List ℕ)) (n budget : ℕ) (p : Position) (winner : Side) (status : Status) (old new : Seen) (out : List ℕ)
+      → (told : IsTold words (orders.Play n budget) p winner old)
       → old.written ≡ Some out → status ≢ is.ReadFault → status ≢ is.Memory
       → RunEnds words status old new
-      → WritesGame n budget p told.behind old new out
-  pub taken : (words : List (List ℕ)) (n budget : ℕ) (p : Position) (old new : Seen) (out : List ℕ)
-      → (told : IsTold words (orders.Play n budget) p old)
+      → WritesGame n budget p winner told.behind old new out
+  pub taken : (words : List (List ℕ)) (n budget : ℕ) (p : Position) (winner : Side) (old new : Seen) (out : List ℕ)
+      → (told : IsTold words (orders.Play n budget) p winner old)
       → old.written ≡ Some out
       → RunEnds words is.ReadFault old new
-      → WritesTaken n budget p (position_text p ++ told.behind) old new out
+      → WritesTaken n budget p winner (position_text p winner ++ told.behind) old new out
 
 -- why a run of `decide` ended so
 abbrev pub Causes : (n budget : ℕ) → Problem → Status → Seen → Seen → Type 0
@@ -317,7 +319,7 @@ Causes n budget problem status old new = ⊥
 -- its sink failed and counted it, or memory was wanting, where it takes memory; and it does not end otherwise.
 abbrev pub DecideEnds : Type 0
 DecideEnds =
-    (words : List (List ℕ)) (n budget : ℕ) (p : Position) (status : Status) (old new : Seen)
-    → IsTold words (orders.Decide n budget) p old
+    (words : List (List ℕ)) (n budget : ℕ) (p : Position) (winner : Side) (status : Status) (old new : Seen)
+    → IsTold words (orders.Decide n budget) p winner old
     → RunEnds words status old new
-    → Causes n budget (white_mates p (length (position_lines p))) status old new
+    → Causes n budget (text_problem p winner) status old new

@@ -36,7 +36,7 @@ command_of (orders.Keep n budget) =
     (HasFileToKeep n budget)
 command_of (orders.Check budget) = of_file (λ lines name. CheckReports budget name) (Unit {0})
 command_of (orders.Resume budget) = of_file (λ lines name. ResumeReports budget lines name) ⊥
-command_of orders.Show = of_text (λ problem rest. ShowReports problem.position) (λ problem. Unit {0})
+command_of orders.Show = of_text (λ problem rest. ShowReports problem) (λ problem. Unit {0})
 command_of (orders.Drill seed count) = of_words (DrillReports seed count) (0 < count) (IsDrilled seed count)
 command_of (orders.Arith budget) = of_lines (λ lines. ArithReports budget lines) IsBehindLine
 

@@ -5,6 +5,7 @@ use Rattle.desk_base.specs.Files.{Files}
 use Rattle.game_rules.specs.Game.{Position, InCheck, square_of}
 use Rattle.chess_text.specs.PositionText.{position_text}
 use Rattle.desk_report.specs.Outcome.{Report, done_with}
+use Rattle.desk_text.specs.declared.problem.Problem.{Problem}
 
 -- the line says whether the side to move is in check
 abbrev pub IsCheckLine : Position → List ℕ → Type 0
@@ -19,9 +20,11 @@ live_count p = count_by (λ m. is_some (square_of m)) p.men
 abbrev pub live_line : Position → List ℕ
 live_line p = codes "live " ++ decimal (live_count p) ++ codes "\n"
 
--- the text of the position, whether its side to move is in check, and how many men are live
-abbrev pub IsShown : Position → List ℕ → Type 0
-IsShown p text = (check : List ℕ) × IsCheckLine p check × (text ≡ position_text p ++ check ++ live_line p)
+-- the text of a problem, whether the side to move is in check, and how many men are live
+abbrev pub IsShown : Problem → List ℕ → Type 0
+IsShown problem text =
+    (check : List ℕ) × IsCheckLine problem.position check
+    × (text ≡ position_text problem.position problem.winner ++ check ++ live_line problem.position)
 
-abbrev pub ShowReports : Position → Files → Report → Type 0
-ShowReports p files report = (text : List ℕ) × IsShown p text × (report ≡ done_with files text)
+abbrev pub ShowReports : Problem → Files → Report → Type 0
+ShowReports problem files report = (text : List ℕ) × IsShown problem text × (report ≡ done_with files text)

@@ -104,6 +104,6 @@ fn answer<S: Source, K: Sink, H: Shelf>(
             budget,
             name,
         } => keep(alloc, &problem.task(moves, budget), name, sink, shelf),
-        TextOrder::Show => show(alloc, &problem.position, sink),
+        TextOrder::Show => show(alloc, &problem, sink),
     }
 }

@@ -1,28 +1,23 @@
 //! Laws of a run, each the contract of a function that does nothing. They are of the relation that the contract of `run` names.
 
-ghost use Rattle.desk_text.specs.TextLaws.{TextIsRead, WhiteIsToMate};
+ghost use Rattle.desk_text.specs.TextLaws.{TextIsRead};
 ghost use Rattle.mate_desk.specs.Laws.{AnswersExactly, CheckedAfterKeep, DecideEnds, DecidesExactly, DecideWrites, FaultsAreCounted, LeastWrites, MemoryLast, NoShelfFault, OneReport, PlayKeeps, PlayWrites, ResumeKeeps, UsageExactly};
 
-/// A run of `decide` that is done, on the text of a sound position and whatever comes behind it, writes `mate in n` exactly where White
-/// mates within n moves of his own, whatever is replied on the whole board, and `no mate in n` exactly where he does not.
+/// A run of `decide` that is done, on the text of a sound position and whatever comes behind it, writes `mate in n` exactly where the side
+/// that the text names as winner mates within n moves of its own, whatever is replied on the whole board, and `no mate in n` exactly where it does not.
 pub fn decide_writes()
     ensures { DecideWrites }
 {}
 
 /// A run of `least` that is done, on the text of a sound position and whatever comes behind it, writes the least number of moves up to its
-/// limit within which White mates, or that there is none.
+/// limit within which the side that the text names as winner mates, or that there is none.
 pub fn least_writes()
     ensures { LeastWrites }
 {}
 
-/// The text of a position, whatever comes behind it, is read as that position.
+/// The text of a position and a winner, whatever comes behind it, is read as that position and that winner.
 pub fn text_is_read()
     ensures { TextIsRead }
-{}
-
-/// Each text that is read has White to mate.
-pub fn white_is_to_mate()
-    ensures { WhiteIsToMate }
 {}
 
 /// A run has the status of words that are no order exactly where they are none.

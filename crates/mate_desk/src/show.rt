@@ -1,6 +1,6 @@
-//! A position, whether its side to move is in check, and how many men are live.
+//! A problem, whether the side to move is in check, and how many men are live.
 
-ghost use Rattle.std.specs.Prelude.{IfOk, ◌≡◌, ◌≤◌, is_some, length};
+ghost use Rattle.std.specs.Prelude.{IfOk, ◌≡◌, is_some};
 ghost use Rattle.game_rules.specs.Game.{Sound, square_of};
 ghost use Rattle.desk_report.specs.Ports.{EndsOnSink};
 ghost use Rattle.mate_desk.specs.Show.{IsCheckLine, IsShown, ShowReports, live_line};
@@ -11,15 +11,15 @@ use chess_text::line_buffer::LineBuffer;
 use chess_text::position_bytes;
 use desk_base::Sink;
 use desk_report::{Status, print, refuse};
+use desk_text::Problem;
 use std::alloc::{AllocError, Global};
 
-/// Writes the position, whether its side to move is in check, and how many men are live.
-pub fn show<K: Sink>(alloc: Global, p: &Position, sink: &mut K) -> Status
-    requires sound { Sound p.now }
-    requires few { length p.now.men ≤ 5 }
-    ensures ends { EndsOnSink K.Sink result (ShowReports p.now) (Unit {0}) sink.old sink.new }
+/// Writes the text of the problem, whether the side to move is in check, and how many men are live.
+pub fn show<K: Sink>(alloc: Global, problem: &Problem, sink: &mut K) -> Status
+    requires { Sound problem.now.position }
+    ensures ends { EndsOnSink K.Sink result (ShowReports problem.now) (Unit {0}) sink.old sink.new }
 {
-    match shown(alloc, p) {
+    match shown(alloc, problem) {
         Ok(text) => print(sink, text.as_slice()),
         Err(_) => {
             refuse(sink, b"memory\n");
@@ -28,13 +28,13 @@ pub fn show<K: Sink>(alloc: Global, p: &Position, sink: &mut K) -> Status
     }
 }
 
-/// The text of the position, and the lines behind it.
-fn shown(alloc: Global, p: &Position) -> Result<Vec<u8>, AllocError>
-    requires sound { Sound p.now }
-    requires few { length p.now.men ≤ 5 }
-    ensures { IfOk result (λ text. IsShown p.now text.items) }
+/// The text of the problem, and the lines behind it.
+fn shown(alloc: Global, problem: &Problem) -> Result<Vec<u8>, AllocError>
+    requires { Sound problem.now.position }
+    ensures { IfOk result (λ text. IsShown problem.now text.items) }
 {
-    let mut text = position_bytes(alloc, p)?;
+    let p = &problem.position;
+    let mut text = position_bytes(alloc, p, problem.winner)?;
     text.extend_from_slice(check_line(p))?;
     text.extend_from_slice(count_line(p).as_slice())?;
     Ok(text)

@@ -7,7 +7,6 @@ use Rattle.desk_solve.specs.Decide.{DecideReports}
 use Rattle.desk_solve.specs.First.{FirstReports, HasNoFirstMove}
 use Rattle.desk_solve.specs.Least.{LeastReports}
 use Rattle.desk_verdict.specs.Verdict.{HasNothingToPlay}
-use Rattle.desk_text.proofs.WhiteToMate.{white_is_to_mate}
 use Rattle.desk_words.specs.Order.{IsOrderOf, Ordered, as_order}
 use Rattle.desk_words.specs.declared.order.Order.TheVariants.{Decide, Least, First, Play, Show}
 use Rattle.desk_words.specs.declared.order.TextOrder.{TextOrder}
@@ -35,11 +34,6 @@ returns-in-Err-clause-ends g c = λ words o.
     unsound_ends words _ _ refl (as_order c.args.order) o.ordered (text_order c.args.order words).refuses _ _ c.in-Ok.ensures.reads c.in-Err.ensures.reason
     (rw (c.as_slice-in-Err.ensures, c.unsound_line-line.ensures) at c.refuse-in-Err.ensures.written)
 
-pub keep-requires-clause-white : goal.keep-requires-clause-white
-keep-requires-clause-white g c =
-    let t = c.in-Ok.ensures.reads in
-    rw c.task-in-Keep.ensures (white_is_to_mate (text_of_lines t.takes.lines ++ []) c.in-Ok.problem (lines_of []) (t.reads []))
-
 pub returns-in-Decide-clause-ends : goal.returns-in-Decide-clause-ends
 returns-in-Decide-clause-ends g c = λ words o.
     let IsOrdered : TextOrder → Type 0 = λ x. Ordered words (Ok (as_order x)) in
@@ -62,7 +56,7 @@ pub returns-in-Show-clause-ends : goal.returns-in-Show-clause-ends
 returns-in-Show-clause-ends g c = λ words o.
     let IsOrdered : TextOrder → Type 0 = λ x. Ordered words (Ok (as_order x)) in
     text_ends words _ _ refl _ c.in-Ok.problem c.in-Ok.ensures.reads (c.in_default.ensures.ok.0 refl) c.show.result Show (subst IsOrdered c.in-Show.is o.ordered)
-    (λ problem. ShowReports problem.position) (λ problem. Unit {0}) (λ bytes files report right. right) (λ taken some. some) c.show.ensures.ends
+    (λ problem. ShowReports problem) (λ problem. Unit {0}) (λ bytes files report right. right) (λ taken some. some) c.show.ensures.ends
 
 pub returns-in-Play-clause-ends : goal.returns-in-Play-clause-ends
 returns-in-Play-clause-ends g c = λ words o.

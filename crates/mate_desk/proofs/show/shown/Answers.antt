@@ -9,5 +9,5 @@ returns c =
       c.check_line.ensures,
       c.in_ok-extend_from_slice-2.ensures.items
           ∙ ap (λ t. t ++ c.as_slice.result.now) (c.in_ok-extend_from_slice.ensures.items ∙ ap (λ t. t ++ check) c.in_ok-text.ensures)
-          ∙ ap (λ l. (position_text c.args.p.now ++ check) ++ l) (c.as_slice.ensures ∙ c.count_line.ensures),
+          ∙ ap (λ l. (position_text c.args.problem.now.position c.args.problem.now.winner ++ check) ++ l) (c.as_slice.ensures ∙ c.count_line.ensures),
     )
