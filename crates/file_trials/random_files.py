@@ -14,7 +14,8 @@ import sys
 HERE = pathlib.Path(__file__).parent
 STEPS = [(1, 0), (1, 1), (0, 1), (-1, 1), (-1, 0), (-1, -1), (0, -1), (1, -1)]
 LEAPS = [(2, 1), (1, 2), (-1, 2), (-2, 1), (-2, -1), (-1, -2), (1, -2), (2, -1)]
-WHYS = "magic version moves turn count side kind place unsound ply men states entry flag".split()
+NO_TRACK = 255
+MOST = {1: {"turn": 1, "men": 5, "kind": 5}, 2: {"turn": 3, "men": 8, "kind": 9}}
 
 
 class Refusal(Exception):
@@ -40,30 +41,38 @@ class Bytes:
         return n - 2**64 if n >= 2**63 else n
 
 
+# The kinds that bear along ranks and files, along diagonals, by one leap, and by any number of equal leaps.
+STRAIGHT, SLANT, LEAPING, RIDING = {1, 2, 6, 8}, {1, 3, 7, 8}, {4, 6, 7, 8}, {9}
+
+
 def bears(man, square, men):
     """Whether a man bears on a square."""
     side, kind, place = man
     x, y = square[0] - place[0], square[1] - place[1]
-    if kind == 4:
-        return (x, y) in LEAPS
     if kind == 0:
         return (x, y) in STEPS
     if kind == 5:
         return abs(x) == 1 and y == (1 if side == 0 else -1)
+    if kind in LEAPING and (x, y) in LEAPS:
+        return True
     straight = (x == 0) != (y == 0)
     slant = abs(x) == abs(y) != 0
-    if not (straight and kind in (1, 2) or slant and kind in (1, 3)):
+    riding = min(abs(x), abs(y)) != 0 and max(abs(x), abs(y)) == 2 * min(abs(x), abs(y))
+    if not (straight and kind in STRAIGHT or slant and kind in SLANT or riding and kind in RIDING):
         return False
-    length = max(abs(x), abs(y))
-    step = ((x > 0) - (x < 0), (y > 0) - (y < 0))
-    for other in men:
-        if other[2] is None or other is man:
-            continue
-        u, v = other[2][0] - place[0], other[2][1] - place[1]
-        far = max(abs(u), abs(v))
-        if 0 < far < length and (u, v) == (step[0] * far, step[1] * far):
-            return False
-    return True
+    length = max(abs(x), abs(y)) if x == 0 or y == 0 else min(abs(x), abs(y))
+    step = (x // length, y // length)
+    return not any(
+        other[2] == (place[0] + step[0] * far, place[1] + step[1] * far)
+        for other in men if other[2] is not None and other is not man
+        for far in [how_far(other[2], place, step)] if 0 < far < length
+    )
+
+
+def how_far(square, place, step):
+    """After how many of the steps one coordinate of the square is reached."""
+    at = 0 if step[0] != 0 else 1
+    return (square[at] - place[at]) // step[at]
 
 
 def is_sound(men, turn):
@@ -84,38 +93,63 @@ def masks_of(men):
     return [m for m in range(1 << len(men)) if m & ~live == 0 and m & kings == kings]
 
 
+def read_rows(b, states, tracks):
+    """The rows and flags of a set of version 1: a state for each letter."""
+    for _ in range(1 << tracks):
+        b.number(4, 0, states - 1, "entry")
+    for _ in range(states):
+        b.number(1, 0, 1, "flag")
+        for _ in range(1 << tracks):
+            b.number(4, 0, states - 1, "entry")
+
+
+def read_nodes(b, states, tracks):
+    """Those of version 2: each row is a state or a node, and a part of a node is a state or an earlier node of a later track."""
+    looks_at = [NO_TRACK] * states
+    for _ in range(b.number(4, 0, 30_000_000, "nodes")):
+        track = b.number(1, 0, tracks - 1, "track")
+        for _ in range(2):
+            at = b.at
+            part = b.number(4, 0, 2**32 - 1, None)
+            if part >= len(looks_at) or looks_at[part] <= track:
+                raise Refusal(f"byte {at} ref")
+        looks_at.append(track)
+    b.number(4, 0, len(looks_at) - 1, "ref")
+    for _ in range(states):
+        b.number(1, 0, 1, "flag")
+        b.number(4, 0, len(looks_at) - 1, "ref")
+
+
 def read(data):
     b = Bytes(data)
     b.number(4, 0x49435346, 0x49435346, "magic")
-    b.number(1, 1, 1, "version")
+    version = b.number(1, 1, 2, "version")
+    most = MOST[version]
     moves = b.number(1, 0, 20, "moves")
-    turn = b.number(1, 0, 1, "turn")
+    winner, turn = divmod(b.number(1, 0, most["turn"], "turn"), 2)
     men = []
-    for _ in range(b.number(1, 2, 5, "count")):
+    for _ in range(b.number(1, 2, most["men"], "count")):
         side = b.number(1, 0, 1, "side")
-        kind = b.number(1, 0, 5, "kind")
+        kind = b.number(1, 0, most["kind"], "kind")
         tag = b.number(1, 0, 1, "place")
         men.append((side, kind, (b.coordinate(), b.coordinate()) if tag else None))
     if not is_sound(men, turn):
         raise Refusal(f"byte {b.at} unsound")
-    text = f"claim {moves} {'WB'[turn]} {len(men)}"
-    plies = range(1, 2 * moves, 2) if turn == 0 else range(0, 2 * moves + 1, 2)
+    text = f"claim {moves} {'WB'[turn]}{' for B' * winner} {len(men)}"
+    plies = range(1, 2 * moves, 2) if turn == winner else range(0, 2 * moves + 1, 2)
     for ply in plies:
         for mask in masks_of(men):
             b.number(1, ply, ply, "ply")
             b.number(1, mask, mask, "men")
             states = b.number(4, 1, 200000, "states")
-            letters = 1 << (2 * bin(mask).count("1"))
-            for _ in range(letters):
-                b.number(4, 0, states - 1, "entry")
-            for _ in range(states):
-                b.number(1, 0, 1, "flag")
-                for _ in range(letters):
-                    b.number(4, 0, states - 1, "entry")
+            READERS[version](b, states, 2 * bin(mask).count("1"))
             text += f" {ply}/{mask}/{states}"
     if b.at < len(data):
         raise Refusal(f"extra at {b.at}")
     return text
+
+
+READERS = {1: read_rows, 2: read_nodes}
 
 
 def outcome(data):

@@ -6,7 +6,10 @@ mod outcome;
 mod rows;
 mod spelling;
 
-use rows::{accepts_row, change_row, cuts_row, file_row, more_row, noise_row, read_row, write_row};
+use rows::{
+    accepts_row, change_row, cuts_row, file_row, migrate_row, more_row, noise_row, read_row,
+    write_1_row, write_row,
+};
 use std::alloc::Global;
 use std::process::ExitCode;
 use trial_rows::{Fields, Named, RowError, Rows, answer_script};
@@ -32,6 +35,8 @@ fn of_files(
         "cuts" => cuts_row(alloc, files, fields, out),
         "accepts" => accepts_row(alloc, files, fields, out),
         "write" => write_row(alloc, files, fields, out),
+        "write_1" => write_1_row(alloc, files, fields, out),
+        "migrate" => migrate_row(alloc, files, fields, out),
         _ => Err(RowError::Kind),
     }
 }

@@ -20,6 +20,9 @@ fn why_word(why: ByteWhy) -> &'static str {
         ByteWhy::States => "states",
         ByteWhy::Entry => "entry",
         ByteWhy::Flag => "flag",
+        ByteWhy::Nodes => "nodes",
+        ByteWhy::Track => "track",
+        ByteWhy::Ref => "ref",
     }
 }
 
@@ -30,12 +33,21 @@ fn turn_letter(position: &Position) -> char {
     }
 }
 
-/// The number of moves, the side to move, the number of men, and for each set its ply, its mask and the number of its states.
+fn winner_word(winner: Side) -> &'static str {
+    match winner {
+        Side::White => "",
+        Side::Black => " for B",
+    }
+}
+
+/// The number of moves, the side to move, the winner where he is Black, the number of men, and for each set its ply, its mask and the number of its
+/// states.
 fn write_claim(out: &mut String, claim: &Claim) -> Result<(), RowError> {
     let turn = turn_letter(&claim.position);
+    let winner = winner_word(claim.winner);
     write!(
         out,
-        "claim {} {turn} {}",
+        "claim {} {turn}{winner} {}",
         claim.moves,
         claim.position.count()
     )?;

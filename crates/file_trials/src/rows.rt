@@ -1,18 +1,20 @@
 //! The rows, each a call of `strategy_file`.
 
-ghost use Rattle.std.specs.Prelude.{IfOk};
+ghost use Rattle.std.specs.Prelude.{◌≡◌, IfOk};
+ghost use Rattle.winning_sets.specs.declared.origin.Origin.TheVariants.{Plan};
 ghost use Rattle.strategy_file.specs.Claims.{claim_of};
-ghost use Rattle.strategy_file.specs.Fitting.{HasFile};
+ghost use Rattle.strategy_file.specs.Fitting.{HasFileOf};
 
 use crate::outcome::write_outcome;
 use crate::spelling::spelled;
 use auto_core::Auto;
-use chess_game::Side;
 use limits::Budget;
 use std::alloc::Global;
-use strategy_file::{Claim, FileError, WriteFileError, read_file, write_file};
+use strategy_file::{
+    Claim, FileError, Version, WriteFileError, read_file, write_claim, write_file, write_file_1,
+};
 use trial_rows::{Fields, Named, RowError, write_truth, written};
-use winning_sets::{SolveError, solve};
+use winning_sets::{SolveError, Solved, solve};
 
 /// `file NAME WORDS`: names a file.
 pub fn file_row(
@@ -109,7 +111,7 @@ pub fn cuts_row(
 
 /// The claim of a file that is one.
 fn claim_in(alloc: Global, bytes: &[u8]) -> Result<Claim, RowError>
-    ensures { IfOk result (λ claim. HasFile (claim_of claim)) }
+    ensures { IfOk result (λ claim. HasFileOf (claim_of claim)) }
 {
     match read_file(alloc, bytes) {
         Ok(claim) => Ok(claim),
@@ -164,18 +166,19 @@ pub fn accepts_row(
     write_truth(out, is_accepted(alloc, bytes, ply, mask, word.as_slice())?)
 }
 
-/// The file of what is solved for the position and the number of moves of a claim.
-fn solved_file(alloc: Global, claim: &Claim) -> Result<Result<Vec<u8>, WriteFileError>, RowError>
-    requires { HasFile (claim_of claim.now) }
+/// What is solved for the position, the winner and the number of moves of a claim.
+fn solved_of(alloc: Global, claim: &Claim) -> Result<Solved, RowError>
+    requires { HasFileOf (claim_of claim.now) }
+    ensures { IfOk result (λ solved. solved.origin ≡ Plan) }
 {
     match solve(
         alloc,
         &claim.position,
-        Side::White,
+        claim.winner,
         claim.moves,
         Budget::new(50_000),
     ) {
-        Ok(solved) => Ok(write_file(alloc, &solved)),
+        Ok(solved) => Ok(solved),
         Err(SolveError::Over(_)) => Err(RowError::Condition),
         Err(SolveError::Memory) => Err(RowError::Memory),
     }
@@ -187,32 +190,62 @@ fn write_bytes(out: &mut String, bytes: &[u8], other: &[u8]) -> Result<(), RowEr
     written(write!(out, "{} {word}", bytes.len()))
 }
 
-/// Writes what comes of writing what is solved for the position and the number of moves of a file.
-fn write_solved(
-    alloc: Global,
-    bytes: &[u8],
-    other: &[u8],
+/// Writes what comes of writing a file, and whether that is the other.
+fn write_result(
     out: &mut String,
+    file: Result<Vec<u8>, WriteFileError>,
+    other: &[u8],
 ) -> Result<(), RowError> {
-    let claim = claim_in(alloc, bytes)?;
-    match solved_file(alloc, &claim)? {
+    match file {
         Ok(bytes) => write_bytes(out, bytes.as_slice(), other),
         Err(WriteFileError::TooLarge { length }) => written(write!(out, "too large {length}")),
         Err(WriteFileError::Memory) => Err(RowError::Memory),
     }
 }
 
-/// `write NAME OTHER`: how many bytes are written for the position and the number of moves of a file, and whether they are those of the other.
+/// `write NAME OTHER`: how many bytes version 2 has for the position, the winner and the number of moves of a file, solved anew, and whether they
+/// are those of the other.
 pub fn write_row(
     alloc: Global,
     files: &Named<Vec<u8>>,
     fields: &mut Fields,
     out: &mut String,
 ) -> Result<(), RowError> {
-    let bytes = files.get(fields.word()?)?.as_slice();
+    let claim = claim_in(alloc, files.get(fields.word()?)?.as_slice())?;
     let other = files.get(fields.word()?)?.as_slice();
     fields.end()?;
-    write_solved(alloc, bytes, other, out)
+    let solved = solved_of(alloc, &claim)?;
+    write_result(out, write_file(alloc, &solved), other)
+}
+
+/// `write_1 NAME OTHER`: the same of version 1.
+pub fn write_1_row(
+    alloc: Global,
+    files: &Named<Vec<u8>>,
+    fields: &mut Fields,
+    out: &mut String,
+) -> Result<(), RowError> {
+    let claim = claim_in(alloc, files.get(fields.word()?)?.as_slice())?;
+    let other = files.get(fields.word()?)?.as_slice();
+    fields.end()?;
+    let solved = solved_of(alloc, &claim)?;
+    if !Version::Dense.fits(solved.winner(), &solved.position()) {
+        return Err(RowError::Condition);
+    }
+    write_result(out, write_file_1(alloc, &solved), other)
+}
+
+/// `migrate NAME OTHER`: how many bytes version 2 has for the claim of a file, and whether they are those of the other.
+pub fn migrate_row(
+    alloc: Global,
+    files: &Named<Vec<u8>>,
+    fields: &mut Fields,
+    out: &mut String,
+) -> Result<(), RowError> {
+    let claim = claim_in(alloc, files.get(fields.word()?)?.as_slice())?;
+    let other = files.get(fields.word()?)?.as_slice();
+    fields.end()?;
+    write_result(out, write_claim(alloc, &claim), other)
 }
 
 /// Adds so many states, each a flag 0 and a row of entries that are drawn.

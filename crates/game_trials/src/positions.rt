@@ -59,6 +59,10 @@ fn kind(fields: &mut Fields) -> Result<Kind, RowError> {
         "B" => Ok(Kind::Bishop),
         "N" => Ok(Kind::Knight),
         "P" => Ok(Kind::Pawn),
+        "C" => Ok(Kind::Chancellor),
+        "A" => Ok(Kind::Archbishop),
+        "Z" => Ok(Kind::Amazon),
+        "H" => Ok(Kind::Nightrider),
         _ => Err(RowError::Word),
     }
 }
@@ -71,7 +75,10 @@ fn position_of(lines: &str) -> Result<Position, RowError> {
         let _ = reader.feed_line(line.as_bytes());
     }
     match reader.feed_line(b"end") {
-        Ok(fed) => fed.position().ok_or(RowError::Word),
+        Ok(fed) => match fed.whole() {
+            Some((position, _)) => Ok(position),
+            None => Err(RowError::Word),
+        },
         Err(_) => Err(RowError::Word),
     }
 }

@@ -3,7 +3,7 @@
 ghost use Rattle.std.specs.Prelude.{◌≤◌, ◌≡◌};
 
 use crate::positions::{frame, illegal_words, move_of, side, sound_named};
-use chess_game::{Frame, Move, Position};
+use chess_game::{Frame, Move, Position, Side};
 use chess_text::position_bytes;
 use std::alloc::Global;
 use trial_rows::{Fields, Named, RowError, separate, write_truth, written, yes_or_no};
@@ -80,10 +80,7 @@ fn other_step(
 
 /// Writes the lines of a position's text without the first and the last, parted by commas.
 fn write_position(alloc: Global, position: &Position, out: &mut String) -> Result<(), RowError> {
-    if position.count() > 5 {
-        return Err(RowError::Condition);
-    }
-    let text = position_bytes(alloc, position)?;
+    let text = position_bytes(alloc, position, Side::White)?;
     let mut lines = 0u8;
     for byte in text.as_slice() {
         if *byte == b'\n' {
