@@ -62,18 +62,18 @@ def run(words, men=(), turn="W", seconds=None, behind=()):
 
 
 def decide(men, turn, n, budget=None, seconds=None):
-    """Returns whether White can force mate within n moves."""
+    """Returns whether the winner can force mate within n moves."""
     return run(["decide", n, budget], men, turn, seconds) == [f"mate in {n}"]
 
 
 def least(men, turn, most, budget=None, seconds=None):
-    """Returns the least number of moves within which White can force mate, or None where it is greater than most."""
+    """Returns the least number of moves within which the winner can force mate, or None where it is greater than most."""
     word, number = run(["least", most, budget], men, turn, seconds)[0].split()[:2]
     return int(number) if word == "least" else None
 
 
 def first(men, turn, n, budget=None, seconds=None):
-    """Returns White's first moves that mate within n moves, a line of the program for each ray."""
+    """Returns the winner's first moves that mate within n moves, a line of the program for each ray."""
     return run(["first", n, budget], men, turn, seconds)[:-1]
 
 
@@ -83,7 +83,7 @@ def play(men, turn, n, replies, budget=None, seconds=None):
 
 
 def keep(men, turn, n, name, budget=None, seconds=None):
-    """Returns what decide does. Where White can, his strategy is then the file of this name in the working folder, whatever stood there."""
+    """Returns what decide does. Where he can, his strategy is then the file of this name in the working folder, whatever stood there."""
     return run(["keep", n, name, budget], men, turn, seconds) == [f"mate in {n}"]
 
 

@@ -6,6 +6,7 @@ words, and the standard input is what it had; that is read only where it is a fi
 sentences.txt, by the reason that the program told and by what is seen of the text beside it; where the text does not show what the program told, only the
 program's reason is explained. Nothing here is proved. trial.py tries the rows of rows.txt.
 """
+import collections
 import difflib
 import os
 import re
@@ -33,6 +34,11 @@ NAMED = re.compile(r"[a-z0-9_]{1,32}")
 REPLY = re.compile(r"[1-8] \S+ \S+")
 # Of so many replies that were refused it is said why, of the last ones.
 MOST_REPLIES = 10
+# The kinds of men by their numbers in files.
+FILE_KINDS = "KQRBNPCAZH"
+# By the version of a file: how many kinds it has, how many bytes may stand for the turn and the winner, and how many men it has at most.
+FileLimits = collections.namedtuple("FileLimits", "kinds turns men")
+FILE_LIMITS = {1: FileLimits(6, 2, 5), 2: FileLimits(10, 4, 8)}
 # What an input was that is no text.
 FOLDER, CLOSED = "folder", "closed"
 
@@ -235,12 +241,14 @@ def of_header(line, _men, told):
 
 
 def of_turn(line, _men, told):
-    lower = line.lower()
-    if lower in (b"turn w", b"turn b"):
-        return said("turn / case", mended=f"turn {plain(line)[-1].upper()}", **told)
-    if lower in (b"turn white", b"turn black"):
-        return said("turn / word", mended=f"turn {plain(line)[5].upper()}", **told)
-    if re.match(rb"[WBwb] [KQRBNPkqrbnp]( |$)", line):
+    lower = plain(line).lower()
+    one_letter = re.sub(r"(white|black)", lambda it: it[0][0], lower)
+    mended = next((it for it in chess.TURNS.values() if it.lower() == one_letter), None)
+    if mended:
+        return said("turn / case" if lower == one_letter else "turn / word", mended=mended, **told)
+    if re.fullmatch(r"turn [wb] for w", one_letter):
+        return said("turn / for white", mended=f"turn {one_letter[5].upper()}", **told)
+    if re.match(rb"[WBwb] [KQRBNPCAZHkqrbnpcazh]( |$)", line):
         return said("turn / left out", **told)
     return said("turn / quote", **told)
 
@@ -264,7 +272,7 @@ def of_man(line, _men, told):
         return said("man / end", **told)
     if REPLY.fullmatch(text) or text == "quit":
         return said("man / reply", **told)
-    if line == chess.HEADER or re.fullmatch(r"turn [WB]", text):
+    if line == chess.HEADER or text in chess.TURNS.values():
         return said("man / again", **told)
     if "," in text:
         return said("text / comma", mended=" ".join(re.sub(",", " ", text).split()), **told)
@@ -285,7 +293,7 @@ def of_man(line, _men, told):
 
 
 def is_shape(text):
-    return bool(re.fullmatch(r"[WB] [KQRBNP] (gone|\S+ \S+)", text))
+    return bool(re.fullmatch(r"[WB] [KQRBNPCAZH] (gone|\S+ \S+)", text))
 
 
 def of_field(line, _men, told):
@@ -620,30 +628,33 @@ def start_of(words, text, folder):
         return None, None
 
 
+
+
 def read_head(path):
     """Returns the number of moves and the position that a strategy file begins with; refuses another file by a ValueError that says why."""
     with open(path, "rb") as it:
-        data = it.read(8 + 8 * 19)
+        data = it.read(8 + chess.MOST_MEN * 19)
     if data[:4] != b"ICSF":
         raise ValueError("its first four bytes are not `ICSF`, so it is no strategy file")
     if len(data) < 8:
         raise ValueError("it is cut within its head")
     version, moves, turn, count = data[4:8]
-    if version != 1:
-        raise ValueError(f"it is a strategy file of version {version}, and this script reads version 1")
+    if version not in FILE_LIMITS:
+        raise ValueError(f"it is a strategy file of version {version}, and this script reads versions 1 and 2")
+    limits = FILE_LIMITS[version]
     at, men = 8, []
     for _ in range(count):
         if len(data) < at + 3 or (data[at + 2] and len(data) < at + 19):
             raise ValueError("it is cut within its men")
         side, kind, place = data[at : at + 3]
-        if side > 1 or kind > 5 or place > 1:
+        if side > 1 or kind >= limits.kinds or place > 1:
             raise ValueError(f"it has a wrong field among its men, at byte {at}")
         square = tuple(int.from_bytes(data[at + 3 + 8 * it : at + 11 + 8 * it], "big", signed=True) for it in (0, 1)) if place else None
-        men.append(chess.Man("WB"[side], "KQRBNP"[kind], square))
+        men.append(chess.Man("WB"[side], FILE_KINDS[kind], square))
         at += 19 if place else 3
-    if turn > 1 or moves > 20 or not chess.FEWEST_MEN <= count <= chess.MOST_MEN:
+    if turn >= limits.turns or moves > 20 or not chess.FEWEST_MEN <= count <= limits.men:
         raise ValueError("it has a wrong field in its head")
-    return moves, chess.Position("WB"[turn], tuple(men))
+    return moves, chess.Position("WB"[turn % 2], tuple(men), "WB"[turn // 2])
 
 
 # The whole

@@ -1,18 +1,27 @@
 """Position texts, and how men move. Written from docs/FORMATS.md and the laws of the game for what scripts tell people; it shares nothing with the
 program, nothing of it is proved, and where the program is there, the program decides.
 """
+import math
 import re
 from dataclasses import dataclass, replace
 
 HEADER = b"infinite chess 1"
 SIDES = {"W": "White", "B": "Black"}
-KINDS = {"K": "king", "Q": "queen", "R": "rook", "B": "bishop", "N": "knight", "P": "pawn"}
+KINDS = {
+    "K": "king", "Q": "queen", "R": "rook", "B": "bishop", "N": "knight", "P": "pawn",
+    "C": "chancellor", "A": "archbishop", "Z": "amazon", "H": "nightrider",
+}
 NUMBER = re.compile(r"0|-?[1-9][0-9]*")
 # The most bytes of a line, the most men of a text, and the numbers of a text.
-LINE, FEWEST_MEN, MOST_MEN, LEAST, MOST = 200, 2, 5, -(2**63), 2**63 - 1
-STRAIGHT = [(1, 0), (0, 1), (-1, 0), (0, -1)]
-DIAGONAL = [(1, 1), (-1, 1), (-1, -1), (1, -1)]
+LINE, FEWEST_MEN, MOST_MEN, LEAST, MOST = 200, 2, 8, -(2**63), 2**63 - 1
+# The second line of a text, by the side to move and the side that is to mate.
+TURNS = {(turn, winner): f"turn {turn}" + " for B" * (winner == "B") for turn in "WB" for winner in "WB"}
+STRAIGHT = {(1, 0), (0, 1), (-1, 0), (0, -1)}
+DIAGONAL = {(1, 1), (-1, 1), (-1, -1), (1, -1)}
 LEAPS = {(x, y) for x in (-2, -1, 1, 2) for y in (-2, -1, 1, 2) if abs(x) != abs(y)}
+# For each kind but the pawn the steps that it makes once, and those that it makes as often as it likes.
+ONCE = {"K": STRAIGHT | DIAGONAL, "N": LEAPS, "C": LEAPS, "A": LEAPS, "Z": LEAPS}
+FAR = {"Q": STRAIGHT | DIAGONAL, "R": STRAIGHT, "B": DIAGONAL, "C": STRAIGHT, "A": DIAGONAL, "Z": STRAIGHT | DIAGONAL, "H": LEAPS}
 
 
 @dataclass(frozen=True)
@@ -36,13 +45,17 @@ class Man:
 
 @dataclass(frozen=True)
 class Position:
-    """The side to move, and the men, counted from 1 by their lines."""
+    """The side to move, the men, counted from 1 by their lines, and the side that is to mate."""
 
     turn: str
     men: tuple
+    winner: str = "W"
+
+    def turn_line(self):
+        return TURNS[self.turn, self.winner]
 
     def text(self):
-        return "\n".join(["infinite chess 1", f"turn {self.turn}", *[it.line() for it in self.men], "end", ""])
+        return "\n".join(["infinite chess 1", self.turn_line(), *[it.line() for it in self.men], "end", ""])
 
     def on(self, square):
         """Returns the number of a man on the square, or None."""
@@ -53,7 +66,7 @@ class Position:
         mover = self.men[number - 1]
         gone = lambda it: replace(it, square=None) if it.square == square and it.side != mover.side else it
         men = [replace(it, square=square) if at == number else gone(it) for at, it in enumerate(self.men, 1)]
-        return Position(other(self.turn), tuple(men))
+        return Position(other(self.turn), tuple(men), self.winner)
 
 
 def other(side):
@@ -87,7 +100,7 @@ def number_of(field):
 
 def read_text(data):
     """Returns the position that bytes begin with, and what stands behind its text; or refuses the first line that may not stand where it stands."""
-    at, men, turn = 0, [], None
+    at, men, sides = 0, [], None
     for number in range(1, MOST_MEN + 4):
         line, at = next_line(data, at, number, men)
         refuse = lambda why: Refused(number, line, why, tuple(men))
@@ -95,13 +108,13 @@ def read_text(data):
             if line != HEADER:
                 raise refuse("header")
         elif number == 2:
-            if line not in (b"turn W", b"turn B"):
+            sides = next((sides for sides, it in TURNS.items() if it.encode() == line), None)
+            if sides is None:
                 raise refuse("turn")
-            turn = line[5:].decode()
         elif line == b"end":
             if len(men) < FEWEST_MEN:
                 raise refuse("few")
-            return Position(turn, tuple(men)), data[at:]
+            return Position(sides[0], tuple(men), sides[1]), data[at:]
         elif len(men) == MOST_MEN:
             raise refuse("many")
         else:
@@ -126,19 +139,20 @@ def read_man(line, refuse):
 # How men move
 
 def way(start, target):
-    """Returns the step of a straight or diagonal way from one square to another, or None."""
+    """Returns the step of a straight, diagonal or leaping way from one square to another, or None."""
     dx, dy = target[0] - start[0], target[1] - start[1]
-    if (dx, dy) == (0, 0) or not (dx == 0 or dy == 0 or abs(dx) == abs(dy)):
-        return None
-    return (dx > 0) - (dx < 0), (dy > 0) - (dy < 0)
+    count = length(start, target)
+    step = (dx // count, dy // count) if count and dx % count == 0 and dy % count == 0 else None
+    return step if step in STRAIGHT | DIAGONAL | LEAPS else None
 
 
 def length(start, target):
-    return max(abs(target[0] - start[0]), abs(target[1] - start[1]))
+    """Returns how many steps of one direction lead from one square to another, where any do."""
+    return math.gcd(target[0] - start[0], target[1] - start[1])
 
 
 def blocker(position, start, target):
-    """Returns the number of the first man between two squares on a straight or diagonal way, or None."""
+    """Returns the number of the first man between two squares on a straight, diagonal or leaping way, or None."""
     step, far = way(start, target), length(start, target)
     between = [(length(start, it.square), number) for number, it in enumerate(position.men, 1)
                if it.square is not None and way(start, it.square) == step and 0 < length(start, it.square) < far]
@@ -148,15 +162,9 @@ def blocker(position, start, target):
 def reaches(man, target):
     """Returns whether a man bears on a square of an empty board."""
     dx, dy = target[0] - man.square[0], target[1] - man.square[1]
-    step = way(man.square, target)
-    return {
-        "K": max(abs(dx), abs(dy)) == 1,
-        "Q": step is not None,
-        "R": step in STRAIGHT,
-        "B": step in DIAGONAL,
-        "N": (dx, dy) in LEAPS,
-        "P": abs(dx) == 1 and dy == forward(man.side),
-    }[man.kind]
+    if man.kind == "P":
+        return abs(dx) == 1 and dy == forward(man.side)
+    return (dx, dy) in ONCE.get(man.kind, ()) or way(man.square, target) in FAR.get(man.kind, ())
 
 
 def forward(side):
@@ -168,7 +176,7 @@ def bears(position, number, target):
     man = position.men[number - 1]
     if man.square is None or not reaches(man, target):
         return False
-    return man.kind not in "QRB" or blocker(position, man.square, target) is None
+    return blocker(position, man.square, target) is None
 
 
 def attackers(position, side, target):
@@ -207,7 +215,7 @@ def why_illegal(position, number, target):
         return ("pawn is stopped", {"there": there}) if target == ahead else ("pawn's way", {})
     if man.kind != "P" and not reaches(man, target):
         return "way", {}
-    stops = blocker(position, man.square, target) if man.kind in "QRB" else None
+    stops = blocker(position, man.square, target)
     if stops:
         return "in between", {"stops": stops}
     left = checkers(position.after(number, target), man.side)

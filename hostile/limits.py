@@ -194,12 +194,12 @@ def store(trials):
 
 
 def at_file_limit(trials):
-    """A file may have 4096 bytes, and what is to be kept has 8437. The system ends a process that goes on, if it does not ignore the signal for it."""
-    limit = lambda: resource.setrlimit(resource.RLIMIT_FSIZE, (4096, 4096))
+    """A file may have 512 bytes, and what is to be kept has 545. The system ends a process that goes on, if it does not ignore the signal for it."""
+    limit = lambda: resource.setrlimit(resource.RLIMIT_FSIZE, (512, 512))
     room, old = with_old(trials)
     end = trials.run("keep 1 a", LADDER, room, preexec_fn=limit, restore_signals=False)[:2]
     names = sorted(it.name for it in room.iterdir())
-    trials.want("keep 1 a, files of 4096 bytes at most, SIGXFSZ ignored", (end, (room / "a").read_bytes() == old, names), ((b"shelf fault\n", 7), True, ["a"]))
+    trials.want("keep 1 a, files of 512 bytes at most, SIGXFSZ ignored", (end, (room / "a").read_bytes() == old, names), ((b"shelf fault\n", 7), True, ["a"]))
     room, old = with_old(trials)
     code = trials.run("keep 1 a", LADDER, room, preexec_fn=limit)[1]
     trials.want("keep 1 a, the same, SIGXFSZ not ignored", (code, (room / "a").read_bytes() == old), (-signal.SIGXFSZ, True))

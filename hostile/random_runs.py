@@ -26,15 +26,15 @@ HEAD = b"infinite chess 1\n"
 LADDER = HEAD + b"turn W\nW K 0 -2\nW R 10 1\nW R 5 7\nB K 0 0\nend\n"
 MATED = HEAD + b"turn B\nW K 0 -2\nW R 10 0\nW R 10 1\nB K 0 0\nend\n"
 BLACK_FIRST = HEAD + b"turn B\nW K 0 -2\nW R 10 1\nW R 2 7\nB K 1 0\nend\n"
-GOOD = [LADDER, MATED, BLACK_FIRST, HEAD + b"turn W\nW K 0 0\nB K 10 0\nend\n", HEAD + b"turn B\nW K 5 5\nB P 1 2\nB K -3 -3\nW Q gone\nW N 7 7\nend\n"]
+GOOD = [LADDER, MATED, BLACK_FIRST, HEAD + b"turn W\nW K 0 0\nB K 10 0\nend\n", HEAD + b"turn B for B\nW K 5 5\nB P 1 2\nB K -3 -3\nW Q gone\nW N 7 7\nB C 2 9\nW H 40 -7\nend\n"]
 EDGES = [2**63 - 1, -2**63, 2**63, -2**63 - 1, 2**64, 10**19, 10**18, 2**31, 10**40, 0, -1, 20, 21, 100, 101, 200000, 200001]
 # What may come with each code where the reader does not say it. With the codes 3, 9, 12 and 13 the lines of a game may come before.
 NAMED = rb"over budget at (moves [0-9]+ ply [0-9]+ men [0-9]+ part [a-z]+ at|arith) [0-9]+\n"
-GAME = rb"((white [1-8] \S+ \S+|illegal|unreadable)\n)*"
-WHYS = rb"(magic|version|moves|turn|count|side|kind|place|unsound|ply|men|states|entry|flag)"
+GAME = rb"(((?:white|black) [1-8] \S+ \S+|illegal|unreadable)\n)*"
+WHYS = rb"(magic|version|moves|turn|count|side|kind|place|unsound|ply|men|states|entry|flag|nodes|track|ref)"
 RULES = rb"(sign|same|guard|first|left|stale)"
 ANSWERS = {
-    0: rb"mate in [0-9]+\n|no mate in [0-9]+\n|least [0-9]+\n|none up to [0-9]+\n|(man [1-5] step -?[012] -?[012] least (wide|[0-9]+) (only|more)\n)*end\n|"
+    0: rb"mate in [0-9]+\n|no mate in [0-9]+\n|least [0-9]+\n|none up to [0-9]+\n|(man [1-8] step -?[012] -?[012] least (wide|[0-9]+) (only|more)\n)*end\n|"
     rb"[0-9]+ of [0-9]+ mate in 1\n|true( witness (wide|0|-?[1-9][0-9]*))?\n|false\n|" + GAME + rb"mate\n",
     3: GAME + rb"text line [0-9]+ (cut|long)\n",
     8: NAMED,
@@ -129,8 +129,8 @@ def words_case(draw):
 def drawn_text(draw):
     if draw.random() < 0.4:
         return changed(draw, draw.choice(GOOD))
-    lines = [b"infinite chess 1", b"turn " + draw.choice([b"W", b"B"])]
-    men = [b"W K", b"B K"] + [draw.choice([b"W", b"B"]) + b" " + draw.choice([b"Q", b"R", b"B", b"N", b"P"]) for _ in range(draw.choice([0, 0, 1, 2, 2, 3, 3, 4]))]
+    lines = [b"infinite chess 1", draw.choice([*reader.TURNS, b"turn W", b"turn B"])]
+    men = [b"W K", b"B K"] + [draw.choice([b"W", b"B"]) + b" " + draw.choice([b"Q", b"R", b"B", b"N", b"P", b"C", b"A", b"Z", b"H"]) for _ in range(draw.choice([0, 0, 1, 2, 2, 3, 3, 4, 6, 7]))]
     if draw.random() < 0.1:
         men[draw.randrange(len(men))] = draw.choice([b"W K", b"B K", b"B R"])
     draw.shuffle(men)
@@ -156,15 +156,15 @@ def text_case(draw):
     text = drawn_text(draw)
     lines = Lines(text)
     try:
-        turn, men = reader.read_text(lines)
+        turn, winner, men = reader.read_text(lines)
         reader.require_sound(turn, men)
     except Refused as why:
         return Case(words, text, wanted=(f"{why.line}\n".encode(), why.code))
     if command == "show":
-        return Case(words, text, wanted=(reader.shown(turn, men).encode(), 0))
-    if command == "first" and (turn == 1 or moves == 0):
+        return Case(words, text, wanted=(reader.shown(turn, winner, men).encode(), 0))
+    if command == "first" and (turn != winner or moves == 0):
         return Case(words, text, wanted=(b"end\n", 0))
-    if turn == 0 and moves == 0:
+    if turn == winner and moves == 0:
         return Case(words, text, wanted=(b"none up to 0\n" if command == "least" else b"no mate in 0\n", 0))
     return Case(words, text)
 

@@ -1,6 +1,6 @@
 """A reader of words, texts, formulas and replies, written from docs/FORMATS.md; it shares nothing with the program. Files are read, and attacks found,
 by ../crates/file_trials/random_files.py, which is such a reader too. A man is (side, kind, place): side 0 White, 1 Black; the kinds
-king, queen, rook, bishop, knight, pawn are 0 to 5; the place of a captured man is None."""
+king, queen, rook, bishop, knight, pawn, chancellor, archbishop, amazon, nightrider are 0 to 9; the place of a captured man is None."""
 import pathlib
 import re
 import sys
@@ -9,10 +9,12 @@ sys.path.insert(0, str(pathlib.Path(__file__).resolve().parent.parent / "crates/
 from random_files import Refusal, bears, is_sound, read as read_file  # noqa: E402, F401
 
 LINE = 200
-SIDES, KINDS = b"WB", b"KQRBNP"
+SIDES, KINDS = b"WB", b"KQRBNPCAZH"
+# The second line of a text, and the side to move and the side that is to mate.
+TURNS = {b"turn W": (0, 0), b"turn B": (1, 0), b"turn W for B": (0, 1), b"turn B for B": (1, 1)}
 NATURAL = re.compile(rb"0|[1-9][0-9]*")
 NUMBER = re.compile(rb"0|-?[1-9][0-9]*")
-MAN = re.compile(rb"([WB]) ([KQRBNP]) (gone|([^ ]+) ([^ ]+))", re.DOTALL)
+MAN = re.compile(rb"([WB]) ([KQRBNPCAZH]) (gone|([^ ]+) ([^ ]+))", re.DOTALL)
 REPLY = re.compile(rb"([1-8]) ([^ ]+) ([^ ]+)", re.DOTALL)
 NAME = re.compile(rb"[a-z0-9_]{1,32}")
 # For each command the limits of its words; a name has none. The budget may be left out.
@@ -90,7 +92,7 @@ def coordinate(field):
 
 
 def read_text(lines):
-    """The side to move and the men of a position text, or its refusal."""
+    """The side to move, the side that is to mate, and the men of a position text, or its refusal."""
     def due():
         line = lines.next()
         if line is None:
@@ -100,16 +102,16 @@ def read_text(lines):
     if due() != b"infinite chess 1":
         lines.refuse("header")
     line = due()
-    if line not in (b"turn W", b"turn B"):
+    if line not in TURNS:
         lines.refuse("turn")
-    turn, men = SIDES.index(line[5:]), []
+    (turn, winner), men = TURNS[line], []
     while True:
         line = due()
         if line == b"end":
             if len(men) < 2:
                 lines.refuse("few")
-            return turn, men
-        if len(men) == 5:
+            return turn, winner, men
+        if len(men) == 8:
             lines.refuse("many")
         shape = MAN.fullmatch(line)
         if not shape:
@@ -143,12 +145,13 @@ def is_attacked(side, square, men):
     return any(man[0] == side and man[2] is not None and bears(man, square, men) for man in men)
 
 
-def shown(turn, men):
+def shown(turn, winner, men):
     """What `show` writes."""
-    text = f"infinite chess 1\nturn {'WB'[turn]}\n"
+    line = next(line for line, sides in TURNS.items() if sides == (turn, winner))
+    text = f"infinite chess 1\n{line.decode()}\n"
     for side, kind, place in men:
         where = "gone" if place is None else f"{place[0]} {place[1]}"
-        text += f"{'WB'[side]} {'KQRBNP'[kind]} {where}\n"
+        text += f"{'WB'[side]} {KINDS.decode()[kind]} {where}\n"
     king = next(man for man in men if man[0] == turn and man[1] == 0)
     check = "yes" if is_attacked(1 - turn, king[2], men) else "no"
     return f"{text}end\ncheck {check}\nlive {sum(man[2] is not None for man in men)}\n"
