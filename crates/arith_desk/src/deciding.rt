@@ -18,7 +18,7 @@ use crate::slots::is_one_of;
 use crate::words::Connective;
 use auto_core::Auto;
 use auto_reduce::is_empty;
-use auto_search::{Search, Way};
+use auto_search::{Search, TupleRay};
 use formula_auto::{CompileError, SetTable, compile};
 use limits::Budget;
 use lin_formula::{Formula, copy, free_vars, value};
@@ -119,14 +119,14 @@ fn nearest(search: &mut Search, a: &Auto) -> Option<i128>
     ensures { IsNearestFound (λ n. IsAccepted a.now (n ∷ pos 0 ∷ [])) result }
 {
     let origin = [0, 0];
-    let up = Way {
+    let up = TupleRay {
         fixed: &origin,
         x_track: 0,
         y_track: 1,
         dx: 1,
         dy: 0,
     };
-    let down = Way {
+    let down = TupleRay {
         fixed: &origin,
         x_track: 0,
         y_track: 1,

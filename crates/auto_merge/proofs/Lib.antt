@@ -3,6 +3,6 @@ pub mod Classes
 pub mod ClassStates
 pub mod Padded
 pub mod Mergings
-pub mod Ways
+pub mod Trails
 pub mod Flags
 pub mod States

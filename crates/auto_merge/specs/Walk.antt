@@ -1,11 +1,11 @@
 -- Walks over numbers of places: those on the way, and those that were entered.
 use Rattle.std.specs.Prelude.{◌≡◌, ℕ, ◌<◌, ◌≤◌, ◌+◌, ◌-◌, ◌*◌, Bool, true, false, List, length, All, sum_by}
 use Rattle.auto_merge.specs.declared.merging.Merging.{Merging}
-use Rattle.auto_merge.specs.declared.walk.Way.{Way}
+use Rattle.auto_merge.specs.declared.walk.Trail.{Trail}
 use Rattle.auto_merge.specs.Graph.{Graph}
 
 -- so many numbers are known, and those on the way are among them
-pub record IsWay (count : ℕ) (way : Way) : Type 0 where
+pub record IsTrail (count : ℕ) (way : Trail) : Type 0 where
   pub size : length way.entered.items ≤ count
   pub within : All (λ number. number < count) way.numbers.items
 
@@ -32,17 +32,17 @@ pub record IsEntered (old new : List Bool) (number : ℕ) (is_new : Bool) : Type
 
 -- how long a walk can last where so many numbers may be entered: a number that is entered brings itself and the one that
 -- leads to it
-abbrev pub steps_left : ℕ → Way → ℕ
+abbrev pub steps_left : ℕ → Trail → ℕ
 steps_left most way = 2 * (most - entered_count way.entered.items) + length way.numbers.items
 
 -- at most two numbers more are on the way, and nothing more is entered but the second
-pub record IsTurned (number next : ℕ) (old new : Way) : Type 0 where
-  pub way : (count : ℕ) → number < count → next < count → IsWay count old → IsWay count new
-  pub left : (count most : ℕ) → next < count → count ≤ most → IsWay count old → steps_left most new ≤ steps_left most old
+pub record IsTurned (number next : ℕ) (old new : Trail) : Type 0 where
+  pub way : (count : ℕ) → number < count → next < count → IsTrail count old → IsTrail count new
+  pub left : (count most : ℕ) → next < count → count ≤ most → IsTrail count old → steps_left most new ≤ steps_left most old
 
 -- the numbers on the way are numbers of places
-abbrev pub IsWayIn : {R Spot Seen Memo : Type 0} → (Seen → List (List ℕ)) → Merging R Spot Seen Memo → Way → Type 0
-IsWayIn places m way = IsWay (length (places m.led.seen)) way
+abbrev pub IsTrailIn : {R Spot Seen Memo : Type 0} → (Seen → List (List ℕ)) → Merging R Spot Seen Memo → Trail → Type 0
+IsTrailIn places m way = IsTrail (length (places m.led.seen)) way
 
-abbrev pub steps_left_in : {Spot : Type 0} → Graph Spot → Way → ℕ
+abbrev pub steps_left_in : {Spot : Type 0} → Graph Spot → Trail → ℕ
 steps_left_in g way = steps_left g.most way

@@ -4,13 +4,13 @@ ghost use Rattle.auto_core.specs.Reduced.{AllReached};
 ghost use Rattle.auto_core.specs.Words.{HasSameWords};
 ghost use Rattle.auto_walk.specs.Walker.{MoreThan};
 ghost use Rattle.auto_merge.specs.Merging.{IsMerging, Keeps, IsKnownClassIn};
-ghost use Rattle.auto_merge.specs.Walk.{IsWayIn};
+ghost use Rattle.auto_merge.specs.Walk.{IsTrailIn};
 ghost use Rattle.auto_merge.specs.Merged.{IsMerged, IsSettledIn, IsClassRowIn, AreClassRowsIn, AreClassFlagsIn};
 
 use crate::keys::NoKey;
 use crate::merging::{Merging, has_own_classes, into_diagrams, no_classes, spot_key};
 use crate::rows::Rows;
-use crate::walk::{Way, class_from, no_way};
+use crate::walk::{Trail, class_from, no_trail};
 use auto_compact::compact;
 use auto_core::Auto;
 use auto_reduce::reduce;
@@ -23,15 +23,15 @@ fn settled_node<R: Rows>(
     rows: &R,
     spot: R::Spot,
     merging: &mut Merging<R>,
-    way: &mut Way,
+    way: &mut Trail,
 ) -> Result<Node, Grown>
     requires read { (R.graph rows.now).can_read spot }
     requires merging { IsMerging (R.graph rows.now) (R.places rows.now) R.answers merging.old }
-    requires way { IsWayIn (R.places rows.now) merging.old way.old }
+    requires way { IsTrailIn (R.places rows.now) merging.old way.old }
     ensures node { IfOk result (IsSettledIn (R.graph rows.now) (R.places rows.now) merging.new spot) }
     ensures merging { OnOk result (IsMerging (R.graph rows.now) (R.places rows.now) R.answers merging.new) }
     ensures kept { OnOk result (Keeps (R.places rows.now) merging.old merging.new) }
-    ensures way { OnOk result (IsWayIn (R.places rows.now) merging.new way.new) }
+    ensures way { OnOk result (IsTrailIn (R.places rows.now) merging.new way.new) }
     ensures over { result ≡ Err Grown.Over → MoreThan (R.graph rows.now).walker (R.graph rows.now).most }
 {
     loop {
@@ -49,15 +49,15 @@ fn class_row<R: Rows>(
     rows: &R,
     class: u32,
     merging: &mut Merging<R>,
-    way: &mut Way,
+    way: &mut Trail,
 ) -> Result<Node, Grown>
     requires known { IsKnownClassIn merging.old class }
     requires merging { IsMerging (R.graph rows.now) (R.places rows.now) R.answers merging.old }
-    requires way { IsWayIn (R.places rows.now) merging.old way.old }
+    requires way { IsTrailIn (R.places rows.now) merging.old way.old }
     ensures node { IfOk result (IsClassRowIn (R.graph rows.now) (R.places rows.now) merging.new class) }
     ensures merging { OnOk result (IsMerging (R.graph rows.now) (R.places rows.now) R.answers merging.new) }
     ensures kept { OnOk result (Keeps (R.places rows.now) merging.old merging.new) }
-    ensures way { OnOk result (IsWayIn (R.places rows.now) merging.new way.new) }
+    ensures way { OnOk result (IsTrailIn (R.places rows.now) merging.new way.new) }
     ensures over { result ≡ Err Grown.Over → MoreThan (R.graph rows.now).walker (R.graph rows.now).most }
 {
     let owner = merging.owners[class as usize];
@@ -71,10 +71,10 @@ fn class_rows<R: Rows>(
     alloc: Global,
     rows: &R,
     merging: &mut Merging<R>,
-    way: &mut Way,
+    way: &mut Trail,
 ) -> Result<Vec<Node>, Grown>
     requires merging { IsMerging (R.graph rows.now) (R.places rows.now) R.answers merging.old }
-    requires way { IsWayIn (R.places rows.now) merging.old way.old }
+    requires way { IsTrailIn (R.places rows.now) merging.old way.old }
     ensures rows { IfOk result (λ nodes. AreClassRowsIn (R.graph rows.now) (R.places rows.now) merging.new nodes.items) }
     ensures size { IfOk result (λ nodes. length nodes.items ≡ length merging.new.owners.items) }
     ensures merging { OnOk result (IsMerging (R.graph rows.now) (R.places rows.now) R.answers merging.new) }
@@ -121,7 +121,7 @@ fn merged<R: Rows>(alloc: Global, rows: &R) -> Result<Once, Grown>
     ensures over { result ≡ Err Grown.Over → MoreThan (R.graph rows.now).walker (R.graph rows.now).most }
 {
     let mut merging = no_classes(alloc, rows)?;
-    let mut way = no_way(alloc);
+    let mut way = no_trail(alloc);
     let first = settled_node(rows, rows.first(), &mut merging, &mut way)?;
     let nodes = class_rows(alloc, rows, &mut merging, &mut way)?;
     let accept = class_flags(alloc, rows, &merging)?;

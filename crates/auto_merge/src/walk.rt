@@ -3,7 +3,7 @@ ghost use Rattle.std.specs.Prelude.{◌≡◌, ◌<◌, ◌≤◌, ◌+◌, Err,
 ghost use Rattle.auto_walk.specs.Walker.{MoreThan};
 ghost use Rattle.auto_walk.specs.Rows.{Extends};
 ghost use Rattle.auto_merge.specs.Merging.{IsMerging, Keeps, IsUnclassedIn, IsClassedIn};
-ghost use Rattle.auto_merge.specs.Walk.{IsWay, IsRoomMade, IsEntered, IsTurned, IsWayIn, steps_left_in};
+ghost use Rattle.auto_merge.specs.Walk.{IsTrail, IsRoomMade, IsEntered, IsTurned, IsTrailIn, steps_left_in};
 
 use crate::keys::{NO_CLASS, NoKey, class_of};
 use crate::merging::{Merging, give_any, give_own, row_key};
@@ -13,17 +13,17 @@ use std::alloc::{AllocError, Global};
 
 /// A walk over numbers of places, depth first: those on the way, and those that were entered.
 #[derive(Drop)]
-pub struct Way {
+pub struct Trail {
     numbers: Vec<u32>,
     /// Whether each number was entered, as far as the list goes. One past it was not.
     entered: Vec<bool>,
 }
 
 /// No number was entered.
-pub fn no_way(alloc: Global) -> Way
-    ensures { IsWay 0 result }
+pub fn no_trail(alloc: Global) -> Trail
+    ensures { IsTrail 0 result }
 {
-    Way {
+    Trail {
         numbers: Vec::new(alloc),
         entered: Vec::new(alloc),
     }
@@ -40,7 +40,7 @@ fn make_room(entered: &mut Vec<bool>, count: usize) -> Result<(), AllocError>
 }
 
 /// Whether a number was not entered; it is from now on.
-fn enter(way: &mut Way, number: u32) -> Result<bool, AllocError>
+fn enter(way: &mut Trail, number: u32) -> Result<bool, AllocError>
     ensures numbers { way.new.numbers ≡ way.old.numbers }
     ensures entered { IfOk result (IsEntered way.old.entered.items way.new.entered.items number) }
 {
@@ -52,7 +52,7 @@ fn enter(way: &mut Way, number: u32) -> Result<bool, AllocError>
 }
 
 /// Puts a number on the way, and another one that comes first, unless that one was entered; it is from now on. Whether it was not.
-fn turn_to(way: &mut Way, number: u32, next: u32) -> Result<bool, AllocError>
+fn turn_to(way: &mut Trail, number: u32, next: u32) -> Result<bool, AllocError>
     ensures { OnOk result (IsTurned number next way.old way.new) }
 {
     if !enter(way, next)? {
@@ -70,15 +70,15 @@ fn put_off<R: Rows>(
     number: u32,
     next: u32,
     merging: &mut Merging<R>,
-    way: &mut Way,
+    way: &mut Trail,
 ) -> Result<(), Grown>
     requires merging { IsMerging (R.graph rows.now) (R.places rows.now) R.answers merging.old }
     requires new { IsUnclassedIn (R.places rows.now) merging.old number }
     requires next { next < length (R.places rows.now merging.old.led.seen) }
-    requires way { IsWayIn (R.places rows.now) merging.old way.old }
+    requires way { IsTrailIn (R.places rows.now) merging.old way.old }
     ensures merging { OnOk result (IsMerging (R.graph rows.now) (R.places rows.now) R.answers merging.new) }
     ensures kept { OnOk result (Keeps (R.places rows.now) merging.old merging.new) }
-    ensures way { OnOk result (IsWayIn (R.places rows.now) merging.new way.new) }
+    ensures way { OnOk result (IsTrailIn (R.places rows.now) merging.new way.new) }
     ensures left { OnOk result (steps_left_in (R.graph rows.now) way.new ≤ steps_left_in (R.graph rows.now) way.old) }
     ensures memory { ¬ (result ≡ Err Grown.Over) }
 {
@@ -94,14 +94,14 @@ fn visit<R: Rows>(
     rows: &R,
     number: u32,
     merging: &mut Merging<R>,
-    way: &mut Way,
+    way: &mut Trail,
 ) -> Result<(), Grown>
     requires merging { IsMerging (R.graph rows.now) (R.places rows.now) R.answers merging.old }
     requires within { number < length (R.places rows.now merging.old.led.seen) }
-    requires way { IsWayIn (R.places rows.now) merging.old way.old }
+    requires way { IsTrailIn (R.places rows.now) merging.old way.old }
     ensures merging { OnOk result (IsMerging (R.graph rows.now) (R.places rows.now) R.answers merging.new) }
     ensures kept { OnOk result (Keeps (R.places rows.now) merging.old merging.new) }
-    ensures way { OnOk result (IsWayIn (R.places rows.now) merging.new way.new) }
+    ensures way { OnOk result (IsTrailIn (R.places rows.now) merging.new way.new) }
     ensures left { OnOk result (steps_left_in (R.graph rows.now) way.new ≤ steps_left_in (R.graph rows.now) way.old) }
     ensures over { result ≡ Err Grown.Over → MoreThan (R.graph rows.now).walker (R.graph rows.now).most }
 {
@@ -123,12 +123,12 @@ fn visit<R: Rows>(
 }
 
 /// Gives a class to the numbers on a way and to those to which they lead.
-fn follow<R: Rows>(rows: &R, merging: &mut Merging<R>, way: &mut Way) -> Result<(), Grown>
+fn follow<R: Rows>(rows: &R, merging: &mut Merging<R>, way: &mut Trail) -> Result<(), Grown>
     requires merging { IsMerging (R.graph rows.now) (R.places rows.now) R.answers merging.old }
-    requires way { IsWayIn (R.places rows.now) merging.old way.old }
+    requires way { IsTrailIn (R.places rows.now) merging.old way.old }
     ensures merging { OnOk result (IsMerging (R.graph rows.now) (R.places rows.now) R.answers merging.new) }
     ensures kept { OnOk result (Keeps (R.places rows.now) merging.old merging.new) }
-    ensures way { OnOk result (IsWayIn (R.places rows.now) merging.new way.new) }
+    ensures way { OnOk result (IsTrailIn (R.places rows.now) merging.new way.new) }
     ensures over { result ≡ Err Grown.Over → MoreThan (R.graph rows.now).walker (R.graph rows.now).most }
 {
     while let Some(number) = way.numbers.pop() {
@@ -142,14 +142,14 @@ fn start<R: Rows>(
     rows: &R,
     number: u32,
     merging: &mut Merging<R>,
-    way: &mut Way,
+    way: &mut Trail,
 ) -> Result<(), Grown>
     requires merging { IsMerging (R.graph rows.now) (R.places rows.now) R.answers merging.old }
     requires within { number < length (R.places rows.now merging.old.led.seen) }
-    requires way { IsWayIn (R.places rows.now) merging.old way.old }
+    requires way { IsTrailIn (R.places rows.now) merging.old way.old }
     ensures merging { OnOk result (IsMerging (R.graph rows.now) (R.places rows.now) R.answers merging.new) }
     ensures kept { OnOk result (Keeps (R.places rows.now) merging.old merging.new) }
-    ensures way { OnOk result (IsWayIn (R.places rows.now) merging.new way.new) }
+    ensures way { OnOk result (IsTrailIn (R.places rows.now) merging.new way.new) }
     ensures over { result ≡ Err Grown.Over → MoreThan (R.graph rows.now).walker (R.graph rows.now).most }
 {
     if !enter(way, number)? {
@@ -165,14 +165,14 @@ pub fn class_from<R: Rows>(
     rows: &R,
     number: u32,
     merging: &mut Merging<R>,
-    way: &mut Way,
+    way: &mut Trail,
 ) -> Result<(), Grown>
     requires merging { IsMerging (R.graph rows.now) (R.places rows.now) R.answers merging.old }
     requires within { number < length (R.places rows.now merging.old.led.seen) }
-    requires way { IsWayIn (R.places rows.now) merging.old way.old }
+    requires way { IsTrailIn (R.places rows.now) merging.old way.old }
     ensures merging { OnOk result (IsMerging (R.graph rows.now) (R.places rows.now) R.answers merging.new) }
     ensures kept { OnOk result (Keeps (R.places rows.now) merging.old merging.new) }
-    ensures way { OnOk result (IsWayIn (R.places rows.now) merging.new way.new) }
+    ensures way { OnOk result (IsTrailIn (R.places rows.now) merging.new way.new) }
     ensures given { OnOk result (IsClassedIn merging.new number) }
     ensures over { result ≡ Err Grown.Over → MoreThan (R.graph rows.now).walker (R.graph rows.now).most }
 {

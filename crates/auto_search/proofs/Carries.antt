@@ -7,8 +7,8 @@ use Rattle.track_word.proofs.Spelling.{integer_bit-lt}
 use Rattle.auto_core.proofs.Prefixes.{int_shr-none}
 use Rattle.auto_search.specs.declared.axis.Axis.{Axis}
 use Rattle.auto_search.specs.declared.ray.Ray.{Ray}
-use Rattle.auto_search.specs.declared.way.Way.{Way}
-use Rattle.auto_search.specs.Way.{IsWay, IsSlope, tuple_at}
+use Rattle.auto_search.specs.declared.tuple_ray.TupleRay.{TupleRay}
+use Rattle.auto_search.specs.TupleRay.{IsTupleRay, IsSlope, tuple_at}
 use Rattle.auto_search.specs.Bits.{number, sum_at, carry, letter_at, letters, fall, rise, IsAxis, IsRay}
 use Rattle.auto_search.proofs.Sums.{added, int_shr-suc, each_slope, times-double, times-add, carry-step, letter_of-set2}
 
@@ -69,19 +69,19 @@ along-is {value} {d} {near} t slope is =
     regroup : (v m n : ℤ) → v +ℤ (m +ℤ n) ≡ v +ℤ m +ℤ n
     regroup v m n = omega (arith, ints)
 
-module _ (way : Way) (near : ℕ) {steps : ℕ} (ray : Ray) (is_way : IsWay way) (is : IsRay way near steps ray) where
+module _ (way : TupleRay) (near : ℕ) {steps : ℕ} (ray : Ray) (is_tuple_ray : IsTupleRay way) (is : IsRay way near steps ray) where
   -- the letter at sums whose bits are those of two values
   pub letter-is : (place sx sy : ℕ) (x y : ℤ) → place ≤ ray.top → sx % 2 ≡ integer_bit x place → sy % 2 ≡ integer_bit y place
       → letter_at ray place sx sy ≡ letter_of (set (set way.fixed.now way.x_track x) way.y_track y) place
   letter-is place sx sy x y small hx hy =
       let still = is.still place small in
-      let both = letter_of-set2 way.fixed.now way.x_track way.y_track place x y is_way.x_track is_way.y_track is_way.apart in
+      let both = letter_of-set2 way.fixed.now way.x_track way.y_track place x y is_tuple_ray.x_track is_tuple_ray.y_track is_tuple_ray.apart in
       rw (hx, hy, is.x.unit, is.y.unit) (omega (arith, still, both))
 
   pub tuple-is : (t : ℕ) → tuple_at way (near + t) ≡ set (set way.fixed.now way.x_track (along ray.x way.dx t)) way.y_track (along ray.y way.dy t)
   tuple-is t =
-      let ex = along-is t is_way.dx is.x in
-      let ey = along-is t is_way.dy is.y in
+      let ex = along-is t is_tuple_ray.dx is.x in
+      let ey = along-is t is_tuple_ray.dy is.y in
       rw (ex, ey) refl
 
   -- the last letters of the tuple at a distance
@@ -93,7 +93,7 @@ module _ (way : Way) (near : ℕ) {steps : ℕ} (ray : Ray) (is_way : IsWay way)
       let first =
       letter-is (length bits) (sum_at ray.x (length bits) (carry ray.x bits) bit) (sum_at ray.y (length bits) (carry ray.y bits) bit)
       (along ray.x way.dx (whole hi (bit ∷ bits))) (along ray.y way.dy (whole hi (bit ∷ bits))) (omega (arith, small))
-      (sum-bit ray.x way.dx is_way.dx is.x.zero is.x.one bit bits hi) (sum-bit ray.y way.dy is_way.dy is.y.zero is.y.one bit bits hi) in
+      (sum-bit ray.x way.dx is_tuple_ray.dx is.x.zero is.x.one bit bits hi) (sum-bit ray.y way.dy is_tuple_ray.dy is.y.zero is.y.one bit bits hi) in
       let others = letters-are bits (2 * hi + bit_number bit) (omega (arith, small)) in
       let same = whole-cons hi bit bits in
       let others' = rw (← same) at others in

@@ -12,8 +12,8 @@ use Rattle.auto_core.specs.Integers.{DecidesIntegers, IsAccepted}
 use Rattle.auto_core.proofs.Members.{accepted-spelled}
 use Rattle.auto_search.specs.declared.axis.Axis.{Axis}
 use Rattle.auto_search.specs.declared.ray.Ray.{Ray}
-use Rattle.auto_search.specs.declared.way.Way.{Way}
-use Rattle.auto_search.specs.Way.{IsWay, IsSlope, tuple_at, IsHit}
+use Rattle.auto_search.specs.declared.tuple_ray.TupleRay.{TupleRay}
+use Rattle.auto_search.specs.TupleRay.{IsTupleRay, IsSlope, tuple_at, IsHit}
 use Rattle.auto_search.specs.Bits.{number, sum_at, carry, letter_at, IsAxis, IsRay}
 use Rattle.auto_search.specs.Search.{Leads, sign_of}
 use Rattle.auto_search.specs.Heads.{head_number, read, zeros, headed}
@@ -52,7 +52,7 @@ unfolding down
 down-run a tuple place zero = (let e : place ≡ place + 0 = omega arith in ap (λ k. state_of a (spelled tuple k)) e)
 down-run a tuple place (suc n) = down-run a tuple (suc place) n ∙ (let e : suc place + n ≡ place + suc n = omega arith in ap (λ k. state_of a (spelled tuple k)) e)
 
-module _ (a : Automaton) (way : Way) (near : ℕ) {steps : ℕ} (ray : Ray) (is_way : IsWay way) (is : IsRay way near steps ray) (x y : ℤ) where
+module _ (a : Automaton) (way : TupleRay) (near : ℕ) {steps : ℕ} (ray : Ray) (is_tuple_ray : IsTupleRay way) (is : IsRay way near steps ray) (x y : ℤ) where
   pub changed : List ℤ
   changed = set (set way.fixed.now way.x_track x) way.y_track y
 
@@ -60,10 +60,10 @@ module _ (a : Automaton) (way : Way) (near : ℕ) {steps : ℕ} (ray : Ray) (is_
   unfolding changed
   letter-high place sx sy high hx hy =
       let still = is.still ray.top (omega arith) in
-      let both = letter_of-set2 way.fixed.now way.x_track way.y_track place x y is_way.x_track is_way.y_track is_way.apart in
+      let both = letter_of-set2 way.fixed.now way.x_track way.y_track place x y is_tuple_ray.x_track is_tuple_ray.y_track is_tuple_ray.apart in
       let whole = high-letter way.fixed.now ray.top place high is.fits in
-      let bx = high-bit (get_or way.fixed.now way.x_track (pos 0)) ray.top place high (is.fits way.x_track (pos 0) is_way.x_track) in
-      let by = high-bit (get_or way.fixed.now way.y_track (pos 0)) ray.top place high (is.fits way.y_track (pos 0) is_way.y_track) in
+      let bx = high-bit (get_or way.fixed.now way.x_track (pos 0)) ray.top place high (is.fits way.x_track (pos 0) is_tuple_ray.x_track) in
+      let by = high-bit (get_or way.fixed.now way.y_track (pos 0)) ray.top place high (is.fits way.y_track (pos 0) is_tuple_ray.y_track) in
       let both' = rw (whole, bx, by) at both in
       rw (hx, hy, is.x.unit, is.y.unit) (omega (arith, still, both'))
 
@@ -101,14 +101,14 @@ module _ (a : Automaton) (way : Way) (near : ℕ) {steps : ℕ} (ray : Ray) (is_
   unfolding down
   read-is [] place cx cy high ex ey fx fy =
       let zero : place + 0 ≡ place = omega arith in
-      let sx = sign-here x place cx is_way.dx is.x (base-fits ray.x steps ray.top is.x_fits) high ex (rw zero at fx) in
-      let sy = sign-here y place cy is_way.dy is.y (base-fits ray.y steps ray.top is.y_fits) high ey (rw zero at fy) in
+      let sx = sign-here x place cx is_tuple_ray.dx is.x (base-fits ray.x steps ray.top is.x_fits) high ex (rw zero at fx) in
+      let sy = sign-here y place cy is_tuple_ray.dy is.y (base-fits ray.y steps ray.top is.y_fits) high ey (rw zero at fy) in
       let l = letter-high place (integer_bit x place) (integer_bit y place) high (let b = integer_bit-lt x place in omega (arith, b)) (let b = integer_bit-lt y place in omega (arith, b)) in
       rw (sx, sy) (ap (λ l. Some (first_state a l)) l)
   read-is (bit ∷ head) place cx cy high ex ey fx fy =
       let next : place + suc (length head) ≡ suc place + length head = omega arith in
-      let hx = carried-more x bit head place cx is_way.dx is.x (base-fits ray.x steps ray.top is.x_fits) high ex in
-      let hy = carried-more y bit head place cy is_way.dy is.y (base-fits ray.y steps ray.top is.y_fits) high ey in
+      let hx = carried-more x bit head place cx is_tuple_ray.dx is.x (base-fits ray.x steps ray.top is.x_fits) high ex in
+      let hy = carried-more y bit head place cy is_tuple_ray.dy is.y (base-fits ray.y steps ray.top is.y_fits) high ey in
       let sx = sum_at ray.x ray.top cx bit in
       let sy = sum_at ray.y ray.top cy bit in
       let before = read-is head (suc place) (sx / 2) (sy / 2) (omega (arith, high)) hx.0 hy.0 (rw next at fx) (rw next at fy) in
@@ -145,7 +145,7 @@ whole-lt head lo =
     below hi p q n l m = omega (arith, l, m)
 
 module _ (a : Automaton) (valid : IsAutomaton a) (decides : DecidesIntegers a) (spell : BitsSpell) (keeps : RepeatKeepsValues) (equal : EqualValuesEqualWords)
-    (way : Way) (near : ℕ) {steps : ℕ} (ray : Ray) (is_way : IsWay way) (is : IsRay way near steps ray)
+    (way : TupleRay) (near : ℕ) {steps : ℕ} (ray : Ray) (is_tuple_ray : IsTupleRay way) (is : IsRay way near steps ray)
     (count : length way.fixed.now ≡ length a.tracks) (head lo : List Bool) (size : length lo ≡ ray.top) where
   -- the state of a head decides, together with the bits after it, whether the tuple is in the set
   pub record Decided (state : ℕ) : Type 0 where
@@ -170,16 +170,16 @@ module _ (a : Automaton) (valid : IsAutomaton a) (decides : DecidesIntegers a) (
   carried-here {d} {axis} slope i = rw (head_number-zeros head) (carried axis d slope i.zero i.one lo (head_number head))
 
   state-here : ℕ
-  state-here = down a (changed a way near ray is_way is x-here y-here) (length lo) (length (head ++ zeros))
+  state-here = down a (changed a way near ray is_tuple_ray is x-here y-here) (length lo) (length (head ++ zeros))
 
   reads-here : headed a ray head (carry ray.x lo) (carry ray.y lo) ≡ Some state-here
   unfolding state-here x-here y-here
   reads-here =
-      read-is a way near ray is_way is (along ray.x way.dx (whole (head_number head) lo)) (along ray.y way.dy (whole (head_number head) lo))
+      read-is a way near ray is_tuple_ray is (along ray.x way.dx (whole (head_number head) lo)) (along ray.y way.dy (whole (head_number head) lo))
       (head ++ zeros) (length lo) (carry ray.x lo) (carry ray.y lo) (omega (arith, size))
-      (carried-here is_way.dx is.x)
-      (carried-here is_way.dy is.y)
-      (fits-here way.dx ray.x is_way.dx is.x_fits) (fits-here way.dy ray.y is_way.dy is.y_fits)
+      (carried-here is_tuple_ray.dx is.x)
+      (carried-here is_tuple_ray.dy is.y)
+      (fits-here way.dx ray.x is_tuple_ray.dx is.x_fits) (fits-here way.dy ray.y is_tuple_ray.dy is.y_fits)
 
   tuple-here : List ℤ
   tuple-here = set (set way.fixed.now way.x_track (along ray.x way.dx (whole (head_number head) lo))) way.y_track (along ray.y way.dy (whole (head_number head) lo))
@@ -187,7 +187,7 @@ module _ (a : Automaton) (valid : IsAutomaton a) (decides : DecidesIntegers a) (
   leads-here : Leads a ray state-here lo ≡ Accepts a (spelled tuple-here (length lo + length (head ++ zeros)))
   unfolding state-here x-here y-here tuple-here changed
   leads-here =
-      let l = letters-are way near ray is_way is lo (head_number head) (omega (arith, size)) in
+      let l = letters-are way near ray is_tuple_ray is lo (head_number head) (omega (arith, size)) in
       rw l (ap (λ s. IsTrue (is_final a s)) (down-run a tuple-here (length lo) (length (head ++ zeros))))
 
   all-here : All (FitsBelow (length lo + length (head ++ zeros))) tuple-here
@@ -195,7 +195,7 @@ module _ (a : Automaton) (valid : IsAutomaton a) (decides : DecidesIntegers a) (
   all-here =
       all-fit way.fixed.now way.x_track way.y_track (length lo + length (head ++ zeros)) (along ray.x way.dx (whole (head_number head) lo)) (along ray.y way.dy (whole (head_number head) lo))
       (λ k d h. fits-past (get_or way.fixed.now k d) ray.top (length lo + length (head ++ zeros)) (omega (arith, size)) (is.fits k d h))
-      (fits-here way.dx ray.x is_way.dx is.x_fits) (fits-here way.dy ray.y is_way.dy is.y_fits)
+      (fits-here way.dx ray.x is_tuple_ray.dx is.x_fits) (fits-here way.dy ray.y is_tuple_ray.dy is.y_fits)
 
   accepted-here : Accepts a (spelled tuple-here (length lo + length (head ++ zeros))) ↔ IsAccepted a tuple-here
   unfolding tuple-here
@@ -208,7 +208,7 @@ module _ (a : Automaton) (valid : IsAutomaton a) (decides : DecidesIntegers a) (
 
   is-here : tuple_at way (near + whole (head_number head) lo) ≡ tuple-here
   unfolding tuple-here
-  is-here = tuple-is way near ray is_way is (whole (head_number head) lo)
+  is-here = tuple-is way near ray is_tuple_ray is (whole (head_number head) lo)
 
   pub head-decides : (state : ℕ) × Decided state
   head-decides = (

@@ -16,8 +16,8 @@ use Rattle.auto_core.specs.Integers.{DecidesIntegers}
 use Rattle.auto_core.proofs.Members.{accepted-spelled}
 use Rattle.auto_search.specs.declared.axis.Axis.{Axis}
 use Rattle.auto_search.specs.declared.ray.Ray.{Ray}
-use Rattle.auto_search.specs.declared.way.Way.{Way}
-use Rattle.auto_search.specs.Way.{IsWay, IsSlope, tuple_at, IsHit, IsLeastFound}
+use Rattle.auto_search.specs.declared.tuple_ray.TupleRay.{TupleRay}
+use Rattle.auto_search.specs.TupleRay.{IsTupleRay, IsSlope, tuple_at, IsHit, IsLeastFound}
 use Rattle.auto_search.specs.Bits.{number, carry, letter_at, letters, slot_of, fall, rise, IsAxis, IsRay}
 use Rattle.auto_search.specs.Search.{Suits, Leads, Completes, IsDead, IsLeastAhead, sign_of, started, IsStart}
 use Rattle.auto_search.proofs.Sums.{each_slope, carry-le}
@@ -130,12 +130,12 @@ all-fit values i j place x y all fx fy k d h =
     ]
 
 module _ (a : Automaton) (valid : IsAutomaton a) (decides : DecidesIntegers a) (spell : BitsSpell) (keeps : RepeatKeepsValues) (equal : EqualValuesEqualWords)
-    (way : Way) (near : ℕ) {steps : ℕ} (ray : Ray) (is_way : IsWay way) (is : IsRay way near steps ray) (count : length way.fixed.now ≡ length a.tracks) where
+    (way : TupleRay) (near : ℕ) {steps : ℕ} (ray : Ray) (is_tuple_ray : IsTupleRay way) (is : IsRay way near steps ray) (count : length way.fixed.now ≡ length a.tracks) where
   -- the letters of the ray are those of the automaton
   pub suits : Suits a ray
   suits = record {
-    x_small = small way.dx is_way.dx ray.x is.x.zero is.x.one;
-    y_small = small way.dy is_way.dy ray.y is.y.zero is.y.one;
+    x_small = small way.dx is_tuple_ray.dx ray.x is.x.zero is.x.one;
+    y_small = small way.dy is_tuple_ray.dy ray.y is.y.zero is.y.one;
     narrow = λ place sx sy h. narrow place sx sy h;
     few = let h = valid.few_tracks in pow_le (length a.tracks) 20 h;
     few_places = is.few_places;
@@ -154,7 +154,7 @@ module _ (a : Automaton) (valid : IsAutomaton a) (decides : DecidesIntegers a) (
       narrow place sx sy h =
           let x = pos (sx % 2 * 2 ^ place) in
           let y = pos (sy % 2 * 2 ^ place) in
-          let e = letter-is way near ray is_way is place sx sy x y h (bit-at sx place) (bit-at sy place) in
+          let e = letter-is way near ray is_tuple_ray is place sx sy x y h (bit-at sx place) (bit-at sy place) in
           let l = letter-lt (set (set way.fixed.now way.x_track x) way.y_track y) place in
           let s : length (set (set way.fixed.now way.x_track x) way.y_track y) ≡ length a.tracks =
           length-set (set way.fixed.now way.x_track x) way.y_track y ∙ length-set way.fixed.now way.x_track x ∙ count in
@@ -184,12 +184,12 @@ module _ (a : Automaton) (valid : IsAutomaton a) (decides : DecidesIntegers a) (
     unfolding tuple x-value y-value
     letters-here =
         let t : whole 0 bits ≡ number bits = omega arith in
-        rw t at (letters-are way near ray is_way is bits 0 (omega (arith, size)))
+        rw t at (letters-are way near ray is_tuple_ray is bits 0 (omega (arith, size)))
 
     top-letter : letter_at ray ray.top (integer_bit x-value ray.top) (integer_bit y-value ray.top) ≡ letter_of tuple (length bits)
     unfolding tuple
     top-letter =
-        rw size (letter-is way near ray is_way is ray.top (integer_bit x-value ray.top) (integer_bit y-value ray.top) x-value y-value (omega arith)
+        rw size (letter-is way near ray is_tuple_ray is ray.top (integer_bit x-value ray.top) (integer_bit y-value ray.top) x-value y-value (omega arith)
         (let h = integer_bit-lt x-value ray.top in omega (arith, h)) (let h = integer_bit-lt y-value ray.top in omega (arith, h)))
 
     fit : FitsBelow ray.top x-value → FitsBelow ray.top y-value → All (FitsBelow (length bits)) tuple
@@ -202,7 +202,7 @@ module _ (a : Automaton) (valid : IsAutomaton a) (decides : DecidesIntegers a) (
 
     is-tuple : tuple_at way (near + number bits) ≡ tuple
     unfolding tuple x-value y-value
-    is-tuple = tuple-is way near ray is_way is (number bits)
+    is-tuple = tuple-is way near ray is_tuple_ray is (number bits)
 
     -- the state after the sign letter, and what it leads to
     leads-is : (state : ℕ) → state ≡ first_state a (letter_of tuple (length bits)) → Leads a ray state bits ≡ Accepts a (spelled tuple (length bits))
@@ -217,8 +217,8 @@ module _ (a : Automaton) (valid : IsAutomaton a) (decides : DecidesIntegers a) (
         (sign_of ray.x ray.top (carry ray.x bits)) done.state (sym first-is ∙ done.found) in
         f (λ sx ex e.
         let some = option_map-some (λ (sy : ℕ). first_state a (letter_at ray ray.top sx sy)) (sign_of ray.y ray.top (carry ray.y bits)) done.state e in
-        let x = sign-to (get_or way.fixed.now way.x_track (pos 0)) way.dx near way.x_track ray.top ray.x is_way.dx is.x (base-fits ray.x steps ray.top is.x_fits) bits size sx ex in
-        let y = sign-to (get_or way.fixed.now way.y_track (pos 0)) way.dy near way.y_track ray.top ray.y is_way.dy is.y (base-fits ray.y steps ray.top is.y_fits) bits size some.0 some.1 in
+        let x = sign-to (get_or way.fixed.now way.x_track (pos 0)) way.dx near way.x_track ray.top ray.x is_tuple_ray.dx is.x (base-fits ray.x steps ray.top is.x_fits) bits size sx ex in
+        let y = sign-to (get_or way.fixed.now way.y_track (pos 0)) way.dy near way.y_track ray.top ray.y is_tuple_ray.dy is.y (base-fits ray.y steps ray.top is.y_fits) bits size some.0 some.1 in
         let state : done.state ≡ first_state a (letter_of tuple (length bits)) =
         sym some.2
         ∙ ap (first_state a)
@@ -230,10 +230,10 @@ module _ (a : Automaton) (valid : IsAutomaton a) (decides : DecidesIntegers a) (
     pub hit-to : number bits ≤ steps → IsHit a way (near + number bits) → Completes a ray front bits
     unfolding x-value y-value
     hit-to small hit =
-        let fx = along-fits way.dx ray.x (number bits) steps ray.top is_way.dx is.x_fits small in
-        let fy = along-fits way.dy ray.y (number bits) steps ray.top is_way.dy is.y_fits small in
-        let x = sign-from (get_or way.fixed.now way.x_track (pos 0)) way.dx near way.x_track ray.top ray.x is_way.dx is.x (base-fits ray.x steps ray.top is.x_fits) bits size fx in
-        let y = sign-from (get_or way.fixed.now way.y_track (pos 0)) way.dy near way.y_track ray.top ray.y is_way.dy is.y (base-fits ray.y steps ray.top is.y_fits) bits size fy in
+        let fx = along-fits way.dx ray.x (number bits) steps ray.top is_tuple_ray.dx is.x_fits small in
+        let fy = along-fits way.dy ray.y (number bits) steps ray.top is_tuple_ray.dy is.y_fits small in
+        let x = sign-from (get_or way.fixed.now way.x_track (pos 0)) way.dx near way.x_track ray.top ray.x is_tuple_ray.dx is.x (base-fits ray.x steps ray.top is.x_fits) bits size fx in
+        let y = sign-from (get_or way.fixed.now way.y_track (pos 0)) way.dy near way.y_track ray.top ray.y is_tuple_ray.dy is.y (base-fits ray.y steps ray.top is.y_fits) bits size fy in
         let state = first_state a (letter_of tuple (length bits)) in
         let found : started a ray (carry ray.x bits) (carry ray.y bits) ≡ Some state = rw (x, y) (ap (λ l. Some (first_state a l)) top-letter) in
         let accepted = (accepted-spelled a tuple (length bits) valid sized decides (fit fx fy) spell keeps equal).1 (rw is-tuple at hit) in
@@ -241,7 +241,7 @@ module _ (a : Automaton) (valid : IsAutomaton a) (decides : DecidesIntegers a) (
 
 -- the least distance is the least number ahead
 module _ (a : Automaton) (valid : IsAutomaton a) (decides : DecidesIntegers a) (spell : BitsSpell) (keeps : RepeatKeepsValues) (equal : EqualValuesEqualWords)
-    (way : Way) (near far : ℕ) (ray : Ray) (is_way : IsWay way) (is : IsRay way near (far - near) ray) (count : length way.fixed.now ≡ length a.tracks)
+    (way : TupleRay) (near far : ℕ) (ray : Ray) (is_tuple_ray : IsTupleRay way) (is : IsRay way near (far - near) ray) (count : length way.fixed.now ≡ length a.tracks)
     (front : List (Option ℕ)) (start : IsStart a ray front) (order : near ≤ far) where
   -- the bits of a distance that is met
   met : (t : ℕ) → near ≤ t → t ≤ far → IsHit a way t → (bits : List Bool) × (length bits ≡ ray.top) × (number bits ≡ t - near) × Completes a ray front bits
@@ -250,7 +250,7 @@ module _ (a : Automaton) (valid : IsAutomaton a) (decides : DecidesIntegers a) (
       let b = bits-for ray.top (t - near) (omega (arith, from, to, short)) in
       let n = b.2 in
       let same : near + number b.0 ≡ t = omega (arith, n, from) in
-      (b.0, b.1, n, hit-to a valid decides spell keeps equal way near ray is_way is count front start b.0 b.1 (omega (arith, n, to)) (rw same hit))
+      (b.0, b.1, n, hit-to a valid decides spell keeps equal way near ray is_tuple_ray is count front start b.0 b.1 (omega (arith, n, to)) (rw same hit))
 
   pub none-found : IsDead a ray ray.top front → IsLeastFound a way near far None
   none-found dead = λ t from to hit.
@@ -270,7 +270,7 @@ module _ (a : Automaton) (valid : IsAutomaton a) (decides : DecidesIntegers a) (
     to = omega (arith, within, order);
     hit =
         let i = found.is in
-        let h = hit-from a valid decides spell keeps equal way near ray is_way is count front start found.bits found.size found.completes in
+        let h = hit-from a valid decides spell keeps equal way near ray is_tuple_ray is count front start found.bits found.size found.completes in
         rw (ap (λ n. near + n) i) at h;
     least = λ u from hit. elim (cases_lt u (near + ahead)) [
       | inl below ↦

@@ -14,7 +14,7 @@ use Rattle.auto_search.specs.Met.{IsAfter, Adds, Walks, HasSizes, Begins}
 use Rattle.auto_search.proofs.Sums.{added-le}
 use Rattle.auto_search.proofs.Fronts.{option_map-some, slot-parts}
 use Rattle.auto_search.specs.Heads.{IsTrimmed, headed, IsOpened}
-use Rattle.auto_search.specs.Met.{Trace, up, moment, IsSlot, Entered, Once, Twice, Known, IsFirst, Follows, IsMet, HasPlace, Goes}
+use Rattle.auto_search.specs.Met.{Trace, up, moment, IsSlot, Entered, Once, Twice, Known, IsFirst, Follows, IsMet, HasPlace, KeepsTrace}
 
 -- a value changed at one place
 put : {A : Type 0} → (ℕ → A) → ℕ → A → ℕ → A
@@ -32,7 +32,7 @@ pub grown : Trace → ℕ → List Bool → ℕ → Bool → ℕ → Trace
 grown g n head parent bit key = record { heads = put g.heads n head; parent = put g.parent n parent; bit = put g.bit n bit; key = put g.key n key }
 
 -- what was known stays so
-module _ (g new : Trace) (states slots states' slots' : List ℕ) (len : ℕ) (goes : Goes g new len)
+module _ (g new : Trace) (states slots states' slots' : List ℕ) (len : ℕ) (goes : KeepsTrace g new len)
     (same_states : (j : ℕ) → j < len → get_or states' j 0 ≡ get_or states j 0) (same_slots : (j : ℕ) → j < len → get_or slots' j 0 ≡ get_or slots j 0)
     (len' : ℕ) (more : len ≤ len') where
   Entered-kept : (head : List Bool) (slot state : ℕ) → Entered g states slots len head slot state → Entered new states' slots' len' head slot state
@@ -105,7 +105,7 @@ module _ (a : Automaton) (ray : Ray) (g : Trace) (times times' states slots : Li
   abbrev pub next : Trace
   next = grown g len head parent bit now
 
-  pub next-goes : Goes g next len
+  pub next-goes : KeepsTrace g next len
   unfolding grown
   next-goes = record {
     heads = λ j h. put-below g.heads len j head h;
@@ -321,7 +321,7 @@ module _ {a : Automaton} {ray : Ray} (suits : Suits a ray) {g : Trace} {times st
     pub g' : Trace
     g' = grown g len (bit ∷ g.heads entry) entry bit (moment entry bit slot)
 
-    goes : Goes g g' len
+    goes : KeepsTrace g g' len
     unfolding g'
     goes = next-goes a ray g times times states slots len starts starts (moment entry bit slot) is (bit ∷ g.heads entry) entry bit slot state in_states in_slots
 
@@ -442,14 +442,14 @@ module _ {a : Automaton} {ray : Ray} (suits : Suits a ray) {g : Trace} {times st
           is_state = st-here ∙ same;
         }))
 
-    pub push-goes : Goes g g' len
+    pub push-goes : KeepsTrace g g' len
     push-goes = goes
 
 moment-suc : (entry slot : ℕ) (bit : Bool) → moment entry bit slot + 1 ≡ moment entry bit (slot + 1)
 moment-suc entry slot bit = omega arith
 
-Goes-trans : {f g h : Trace} {len len' : ℕ} → len ≤ len' → Goes f g len → Goes g h len' → Goes f h len
-Goes-trans more p q = record {
+KeepsTrace-trans : {f g h : Trace} {len len' : ℕ} → len ≤ len' → KeepsTrace f g len → KeepsTrace g h len' → KeepsTrace f h len
+KeepsTrace-trans more p q = record {
   heads = λ j l. q.heads j (omega (arith, l, more)) ∙ p.heads j l;
   parent = λ j l. q.parent j (omega (arith, l, more)) ∙ p.parent j l;
   bit = λ j l. q.bit j (omega (arith, l, more)) ∙ p.bit j l;
@@ -521,7 +521,7 @@ module _ {a : Automaton} {ray : Ray} (suits : Suits a ray) {times states slots t
               let goes = push-goes suits entry slot bit w.1 walk.place within-here small (may-here w.1) after-here front state found i1 i2 in (
                 g' suits entry slot bit w.1 walk.place within-here small (may-here w.1) after-here front state found i1 i2,
                 rw (← moment-suc entry slot bit, more.1, more.2, more.3, more.4) n,
-                Goes-trans walk.longer w.2 goes,
+                KeepsTrace-trans walk.longer w.2 goes,
               );
         }
   ]

@@ -10,8 +10,8 @@ use Rattle.auto_core.specs.Integers.{DecidesIntegers}
 use Rattle.auto_search.specs.declared.ray.Ray.{Ray}
 use Rattle.auto_search.specs.declared.few.Few.{Few}
 use Rattle.auto_search.specs.Fews.{HasFew}
-use Rattle.auto_search.specs.declared.way.Way.{Way}
-use Rattle.auto_search.specs.Way.{IsWay, IsHit, HasHits}
+use Rattle.auto_search.specs.declared.tuple_ray.TupleRay.{TupleRay}
+use Rattle.auto_search.specs.TupleRay.{IsTupleRay, IsHit, HasHits}
 use Rattle.auto_search.specs.Bits.{number, sum_at, letter_at, carry, slot_of, IsRay}
 use Rattle.auto_search.specs.Search.{Suits, IsStep, IsStart, Leads}
 use Rattle.auto_search.specs.Heads.{IsTrimmed, head_number, read, IsOpened}
@@ -74,7 +74,7 @@ trimmed-for (suc fuel) n f = elim (cases_eq n 0) [
 ]
 
 module _ (a : Automaton) (valid : IsAutomaton a) (decides : DecidesIntegers a) (spell : BitsSpell) (keeps : RepeatKeepsValues) (equal : EqualValuesEqualWords)
-    (way : Way) (ray : Ray) (is_way : IsWay way) (is : IsRay way 1 0 ray) (count : length way.fixed.now ≡ length a.tracks) (suits : Suits a ray) where
+    (way : TupleRay) (ray : Ray) (is_tuple_ray : IsTupleRay way) (is : IsRay way 1 0 ray) (count : length way.fixed.now ≡ length a.tracks) (suits : Suits a ray) where
   slot-carries : (lo : List Bool) → (slot_of ray lo / 3 ≡ carry ray.x lo) × (slot_of ray lo % 3 ≡ carry ray.y lo)
   slot-carries lo =
       let hy = carry-le ray.y lo in
@@ -86,7 +86,7 @@ module _ (a : Automaton) (valid : IsAutomaton a) (decides : DecidesIntegers a) (
 
   to-hit : (t : ℕ) → Raised 1 (Meets a ray) t → (1 ≤ t) × IsHit a way t
   to-hit t (n, e, m) =
-      let d = head-decides a valid decides spell keeps equal way 1 ray is_way is count m.head m.lo m.size in
+      let d = head-decides a valid decides spell keeps equal way 1 ray is_tuple_ray is count m.head m.lo m.size in
       let parts = slot-carries m.lo in
       let reads = rw (parts.0, parts.1) at m.reads in
       let same : m.state ≡ d.0 = let x = sym reads ∙ d.1.reads in cc in
@@ -103,7 +103,7 @@ module _ (a : Automaton) (valid : IsAutomaton a) (decides : DecidesIntegers a) (
       let el = l.2 in
       let total : n ≡ head_number h.0 * 2 ^ ray.top + number l.0 = rw (eh, el) (let h = div-add-mod n (2 ^ ray.top) in let c = mul_comm (n / 2 ^ ray.top) (2 ^ ray.top) in omega (arith, h, c)) in
       let where_is : 1 + whole (head_number h.0) l.0 ≡ t = ap (λ k. 1 + k) (same-whole h.0 l.0 l.1 ∙ sym total) ∙ (let z : 1 + n ≡ t = omega (arith, some) in z) in
-      let d = head-decides a valid decides spell keeps equal way 1 ray is_way is count h.0 l.0 l.1 in
+      let d = head-decides a valid decides spell keeps equal way 1 ray is_tuple_ray is count h.0 l.0 l.1 in
       let parts = slot-carries l.0 in (
         n,
         (let z : t ≡ 1 + n = omega (arith, some) in z),

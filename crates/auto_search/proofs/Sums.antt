@@ -8,7 +8,7 @@ use Rattle.std.proofs.lemmas.List.{length-set, get_or-set_other}
 use Rattle.track_word.specs.Word.{integer_bit, letter_of}
 use Rattle.track_word.proofs.Spelling.{integer_bit-lt}
 use Rattle.auto_search.specs.declared.axis.Axis.{Axis}
-use Rattle.auto_search.specs.Way.{IsSlope}
+use Rattle.auto_search.specs.TupleRay.{IsSlope}
 use Rattle.auto_search.specs.Bits.{carry}
 
 -- what a bit adds

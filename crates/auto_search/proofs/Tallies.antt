@@ -10,7 +10,7 @@ use Rattle.auto_search.specs.Fews.{HasFew, plus_of}
 use Rattle.auto_search.specs.Bits.{number, slot_of, carry}
 use Rattle.auto_search.specs.Search.{Suits, CompletedBy, Leads}
 use Rattle.auto_search.specs.Heads.{head_number}
-use Rattle.auto_search.specs.Met.{Trace, moment, IsSlot, IsMet, Goes, IsAlone, Walks, Yields, Meets, Counting, IsEntered}
+use Rattle.auto_search.specs.Met.{Trace, moment, IsSlot, IsMet, KeepsTrace, IsAlone, Walks, Yields, Meets, Counting, IsEntered}
 use Rattle.auto_search.proofs.Sums.{carry-le}
 use Rattle.auto_search.proofs.Fronts.{slot-parts, number-lt}
 use Rattle.auto_search.proofs.Counts.{plus-has, raised-has, Raised}
@@ -31,7 +31,7 @@ parts-same top m n b c lb lc e =
     let s = same_from_place m (number b) n (number c) (2 ^ top) hb hc e in
     (s.0, number-same b c (lb ∙ sym lc) s.1)
 
-Yields-kept : (a : Automaton) (ray : Ray) {g h : Trace} (states slots states' slots' : List ℕ) {len : ℕ} (end : ℕ) → end ≤ len → Goes g h len
+Yields-kept : (a : Automaton) (ray : Ray) {g h : Trace} (states slots states' slots' : List ℕ) {len : ℕ} (end : ℕ) → end ≤ len → KeepsTrace g h len
     → ((j : ℕ) → j < len → get_or states' j 0 ≡ get_or states j 0) → ((j : ℕ) → j < len → get_or slots' j 0 ≡ get_or slots j 0)
     → (n : ℕ) → Yields a ray g states slots end n → Yields a ray h states' slots' end n
 Yields-kept a ray states slots states' slots' {len} end inside goes ss sl n y =
@@ -46,8 +46,8 @@ Yields-kept a ray states slots states' slots' {len} end inside goes ss sl n y =
       leads = subst (λ s. Leads a ray s y.lo) (sym (ss y.entry w)) y.leads;
     }
 
-Goes-back : {g h : Trace} {len : ℕ} → Goes g h len → Goes h g len
-Goes-back p = record { heads = λ j l. sym (p.heads j l); parent = λ j l. sym (p.parent j l); bit = λ j l. sym (p.bit j l); key = λ j l. sym (p.key j l) }
+KeepsTrace-back : {g h : Trace} {len : ℕ} → KeepsTrace g h len → KeepsTrace h g len
+KeepsTrace-back p = record { heads = λ j l. sym (p.heads j l); parent = λ j l. sym (p.parent j l); bit = λ j l. sym (p.bit j l); key = λ j l. sym (p.key j l) }
 
 -- what one entry yields
 alone-yields : (a : Automaton) (ray : Ray) (g : Trace) (states slots : List ℕ) (end : ℕ) {front : List (Option ℕ)} → IsAlone (get_or slots end 0) (get_or states end 0) front → (n : ℕ)
@@ -123,7 +123,7 @@ turn-counts {a} {ray} suits times states slots times1 states1 slots1 times2 stat
     let m2' = subst (λ t. IsMet a ray m2.0 times2 states2 slots2 len2 starts t) t2 m2.1 in
     let l1 = w1.longer in
     let l2 = w2.longer in
-    let goes : Goes is.trace m2.0 len = record {
+    let goes : KeepsTrace is.trace m2.0 len = record {
       heads = λ j h. m2.2.heads j (omega (arith, h, l1)) ∙ m1.2.heads j h;
       parent = λ j h. m2.2.parent j (omega (arith, h, l1)) ∙ m1.2.parent j h;
       bit = λ j h. m2.2.bit j (omega (arith, h, l1)) ∙ m1.2.bit j h;
@@ -140,7 +140,7 @@ turn-counts {a} {ray} suits times states slots times1 states1 slots1 times2 stat
       met = m2';
       few_yields = has-same (plus_of few more) (Yields a ray is.trace states slots (end + 1)) (Yields a ray m2.0 states2 slots2 (end + 1)) next
           (Yields-kept a ray states slots states2 slots2 (end + 1) inside goes ss sl)
-          (Yields-kept a ray states2 slots2 states slots (end + 1) inside (Goes-back goes) (λ j h. sym (ss j h)) (λ j h. sym (sl j h)));
+          (Yields-kept a ray states2 slots2 states slots (end + 1) inside (KeepsTrace-back goes) (λ j h. sym (ss j h)) (λ j h. sym (sl j h)));
     }
 
 module _ {a : Automaton} {ray : Ray} (suits : Suits a ray) {times states slots : List ℕ} {len starts end : ℕ} {few : Few} (is : Counting a ray times states slots len starts end few) where

@@ -1,7 +1,7 @@
 -- A distance bit by bit, and what its last bits carry over to the bits before them.
 use Rattle.std.specs.Prelude.{◌≡◌, ℕ, suc, ℤ, pos, negsuc, ◌+ℤ◌, ◌*ℤ◌, ◌+◌, ◌*◌, ◌/◌, ◌%◌, ◌^◌, ◌<◌, ◌≤◌, unsigned_abs, Bool, List, [], ◌∷◌, length, All, if◌then◌else◌, slice_index, slice_index_or}
 use Rattle.track_word.specs.Word.{integer_bit, letter_of, FitsBelow}
-use Rattle.auto_search.specs.declared.way.Way.{Way}
+use Rattle.auto_search.specs.declared.tuple_ray.TupleRay.{TupleRay}
 use Rattle.auto_search.specs.declared.axis.Axis.{Axis}
 use Rattle.auto_search.specs.declared.ray.Ray.{Ray}
 
@@ -52,14 +52,14 @@ pub record IsAxis (value d : ℤ) (near track : ℕ) (axis : Axis) : Type 0 wher
   pub unit : axis.unit ≡ 2 ^ track
 
 -- the letter of a place without the two tracks' bits
-abbrev pub IsStill : Way → ℕ → ℕ → Type 0
+abbrev pub IsStill : TupleRay → ℕ → ℕ → Type 0
 IsStill way place letter =
     letter + integer_bit (slice_index_or way.fixed.now way.x_track (pos 0)) place * 2 ^ way.x_track + integer_bit
     (slice_index_or way.fixed.now way.y_track (pos 0)) place * 2 ^ way.y_track ≡ letter_of way.fixed.now place
 
 -- the ray as it is searched from its near end on, its values within so many steps having no bit but their signs from
 -- the top on
-pub record IsRay (way : Way) (near steps : ℕ) (ray : Ray) : Type 0 where
+pub record IsRay (way : TupleRay) (near steps : ℕ) (ray : Ray) : Type 0 where
   pub x : IsAxis (slice_index_or way.fixed.now way.x_track (pos 0)) way.dx near way.x_track ray.x
   pub y : IsAxis (slice_index_or way.fixed.now way.y_track (pos 0)) way.dy near way.y_track ray.y
   pub still : (place : ℕ) → place ≤ ray.top → IsStill way place (slice_index ray.still place)

@@ -1,7 +1,7 @@
 pub use Rattle.auto_core.specs.Automaton
 pub use Rattle.auto_core.specs.Integers
 pub mod Fews
-pub mod Way
+pub mod TupleRay
 pub mod Bits
 pub mod Search
 pub mod Marks

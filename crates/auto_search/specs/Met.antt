@@ -104,7 +104,7 @@ pub record HasPlace (a : Automaton) (times states slots : List ℕ) (len : ℕ) 
   pub filled : len ≤ 9 + sum times
 
 -- a trace that is the same so far
-pub record Goes (old new : Trace) (len : ℕ) : Type 0 where
+pub record KeepsTrace (old new : Trace) (len : ℕ) : Type 0 where
   pub heads : (j : ℕ) → j < len → new.heads j ≡ old.heads j
   pub parent : (j : ℕ) → j < len → new.parent j ≡ old.parent j
   pub bit : (j : ℕ) → j < len → new.bit j ≡ old.bit j
@@ -134,7 +134,7 @@ pub record Walks (a : Automaton) (ray : Ray) (times states slots : List ℕ) (le
   pub sizes : SameSizes times states slots times' states' slots'
   pub place : HasPlace a times' states' slots' len'
   pub met : (g : Trace) → IsMet a ray g times states slots len starts now
-      → (new : Trace) × IsMet a ray new times' states' slots' len' starts' now' × Goes g new len
+      → (new : Trace) × IsMet a ray new times' states' slots' len' starts' now' × KeepsTrace g new len
 
 -- the front of one state alone
 pub record IsAlone (slot state : ℕ) (front : List (Option ℕ)) : Type 0 where

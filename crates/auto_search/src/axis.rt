@@ -1,10 +1,10 @@
 //! One of the two tracks that a ray moves on.
 ghost use Rattle.std.specs.Prelude.{◌≡◌, ◌+◌, ◌^◌, ◌<◌, ◌≤◌, unsigned_abs};
-ghost use Rattle.auto_search.specs.Way.{IsSlope};
+ghost use Rattle.auto_search.specs.TupleRay.{IsSlope};
 ghost use Rattle.auto_search.specs.Bits.{IsAxis, fall, rise, sum_at};
 ghost use Rattle.auto_search.specs.Search.{sign_of};
 
-use crate::way::value_along;
+use crate::tuple_ray::value_along;
 use limits::MOST_TRACKS;
 use track_word::bit_of;
 

@@ -1,5 +1,5 @@
 //! Which distances along a ray have their tuple in the set of an automaton: the least of them between two bounds, and whether there are several.
-//! Only the calls that reserve room take memory. `specs/Way` says what a ray and its tuples are; `specs/Bits` what the last bits of a distance
+//! Only the calls that reserve room take memory. `specs/TupleRay` says what a ray and its tuples are; `specs/Bits` what the last bits of a distance
 //! carry over, `specs/Search` how states are searched, `specs/Met` how all distances are counted.
 #![tactic(auto)]
 
@@ -15,8 +15,8 @@ mod met;
 mod ray;
 mod search;
 mod several;
-mod way;
+mod tuple_ray;
 
 pub use few::Few;
 pub use search::Search;
-pub use way::{Way, value_along};
+pub use tuple_ray::{TupleRay, value_along};

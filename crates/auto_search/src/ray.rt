@@ -1,11 +1,11 @@
 //! A ray, ready to be searched from its near end on.
 ghost use Rattle.std.specs.Prelude.{◌≡◌, ◌≤◌, ◌<◌, ◌^◌, ◌+◌, ◌*◌, ℕ, length, All, pos, slice_index, slice_index_or, unsigned_abs};
 ghost use Rattle.track_word.specs.Word.{integer_bit, letter_of};
-ghost use Rattle.auto_search.specs.Way.{IsWay};
+ghost use Rattle.auto_search.specs.TupleRay.{IsTupleRay};
 ghost use Rattle.auto_search.specs.Bits.{IsRay, IsStill};
 
 use crate::axis::{Axis, unit_of};
-use crate::way::Way;
+use crate::tuple_ray::TupleRay;
 use limits::MOST_TRACKS;
 use track_word::bit_of;
 
@@ -25,8 +25,8 @@ pub struct Ray {
 
 impl Ray {
     /// The ray from its near end on, for so many steps.
-    pub fn new(way: &Way, near: u128, steps: u128) -> Ray
-        requires way { IsWay way.now }
+    pub fn new(way: &TupleRay, near: u128, steps: u128) -> Ray
+        requires way { IsTupleRay way.now }
         requires few { length way.now.fixed.now ≤ MOST_TRACKS }
         requires near { near ≤ 2 ^ 64 }
         requires steps { steps ≤ 2 ^ 64 }
@@ -81,8 +81,8 @@ fn bits_of(number: u128) -> u8
 }
 
 /// The letters of the tracks that do not move, for the places up to the top.
-fn still_letters(way: &Way, top: u8) -> [u32; MOST_PLACES]
-    requires way { IsWay way.now }
+fn still_letters(way: &TupleRay, top: u8) -> [u32; MOST_PLACES]
+    requires way { IsTupleRay way.now }
     requires few { length way.now.fixed.now ≤ MOST_TRACKS }
     requires top { top ≤ 67 }
     ensures still { (place : ℕ) → place ≤ top → IsStill way.now place (slice_index result place) }
@@ -95,8 +95,8 @@ fn still_letters(way: &Way, top: u8) -> [u32; MOST_PLACES]
 }
 
 /// The letter of a place without the bits of the two tracks.
-fn still_letter(way: &Way, place: u8) -> u32
-    requires way { IsWay way.now }
+fn still_letter(way: &TupleRay, place: u8) -> u32
+    requires way { IsTupleRay way.now }
     requires few { length way.now.fixed.now ≤ MOST_TRACKS }
     requires place { place ≤ 67 }
     ensures { IsStill way.now place result }

@@ -3,7 +3,7 @@ ghost use Rattle.std.specs.Prelude.{◌≡◌, ◌≤◌, ◌^◌, length, IfOk}
 ghost use Rattle.auto_core.specs.Integers.{DecidesIntegers};
 ghost use Rattle.auto_search.specs.Search.{IsFirstAhead};
 ghost use Rattle.auto_search.specs.Marks.{Serves, SameRoom, IsClear};
-ghost use Rattle.auto_search.specs.Way.{IsWay, IsLeastFound, HasHits};
+ghost use Rattle.auto_search.specs.TupleRay.{IsTupleRay, IsLeastFound, HasHits};
 
 use crate::carry::SLOTS;
 use crate::count::{Room, count};
@@ -14,7 +14,7 @@ use crate::least::least;
 use crate::marks::Marks;
 use crate::met::{MOST_TIMES, Met};
 use crate::ray::{MOST_PLACES, Ray};
-use crate::way::Way;
+use crate::tuple_ray::TupleRay;
 use auto_core::Auto;
 use std::alloc::{AllocError, Global};
 use std::marker::Model;
@@ -70,11 +70,11 @@ impl Search {
 
     /// The least distance from `near` to `far` whose tuple is in the set. At most the automaton's states, nine carries and the bits
     /// of the values and of `far - near` are searched.
-    pub fn least_on_ray(&mut self, a: &Auto, way: &Way, near: u128, far: u128) -> Option<u128>
+    pub fn least_on_ray(&mut self, a: &Auto, way: &TupleRay, near: u128, far: u128) -> Option<u128>
         requires decides { DecidesIntegers a.now }
         requires room { length a.now.accept ≤ self.old }
         requires count { length way.now.fixed.now ≡ length a.now.tracks }
-        requires way { IsWay way.now }
+        requires way { IsTupleRay way.now }
         requires far { far ≤ 2 ^ 64 }
         ensures least { IsLeastFound a.now way.now near far result }
         ensures kept { self.new ≡ self.old }
@@ -101,11 +101,11 @@ impl Search {
     }
 
     /// How many of all positive distances, without bound, have their tuple in the set.
-    pub fn count_on_ray(&mut self, a: &Auto, way: &Way) -> Few
+    pub fn count_on_ray(&mut self, a: &Auto, way: &TupleRay) -> Few
         requires decides { DecidesIntegers a.now }
         requires room { length a.now.accept ≤ self.old }
         requires count { length way.now.fixed.now ≡ length a.now.tracks }
-        requires way { IsWay way.now }
+        requires way { IsTupleRay way.now }
         ensures few { HasHits a.now way.now result }
         ensures kept { self.new ≡ self.old }
     {

@@ -1,7 +1,7 @@
 //! Moves: which are legal, and why others are refused.
 
 ghost use Rattle.std.specs.Prelude.{◌≡◌, ◌↔◌, ◌-ℤ◌, IfErr, IfOk, IsTrue, Some};
-ghost use Rattle.game_rules.specs.Game.{Goes, IsHeldBy, IsEmptySquare, Legal, Step, StandsOn, forward, man_at};
+ghost use Rattle.game_rules.specs.Game.{Goes, IsOccupiedBy, IsEmptySquare, Legal, Step, StandsOn, forward, man_at};
 ghost use Rattle.game_laws.specs.Answer.{CanGo};
 ghost use Rattle.chess_game.specs.Near.{IsNear};
 ghost use Rattle.chess_game.specs.Refusal.{IsRefusal};
@@ -52,7 +52,7 @@ fn is_held_by(man: &Piece, side: Side, square: Square) -> bool
 
 /// Whether a live man of the side stands on the square.
 fn holds(board: &Board, side: Side, square: Square) -> bool
-    ensures { IsTrue result ↔ IsHeldBy board.now side square }
+    ensures { IsTrue result ↔ IsOccupiedBy board.now side square }
 {
     board.men().iter().any(|man| is_held_by(man, side, square))
 }

@@ -12,7 +12,7 @@ use Rattle.desk_base.specs.declared.line.Line.TheVariants.{Full, End}
 use Rattle.desk_base.specs.declared.line.LineError.TheVariants as fails
 use Rattle.desk_text.specs.Taken.{TakesLines}
 use Rattle.desk_report.specs.ByLines.{IsDueBy}
-use Rattle.desk_report.specs.Outcome.{Ends, NeverMisses, Report, Seen, Writes, of_sink, of_streams, reported_on}
+use Rattle.desk_report.specs.Outcome.{RunEndsAs, NeverMisses, Report, Seen, Writes, of_sink, of_streams, reported_on}
 use Rattle.desk_text.specs.Text.{is_end, refusal_line}
 use Rattle.desk_report.specs.declared.status.Status.{Status}
 use Rattle.desk_report.specs.declared.status.Status.TheVariants as is
@@ -61,7 +61,7 @@ module _ (budget : ℕ) (files : Files) where
 
     -- a whole line came, and the run ends as what answers it does
     pub line_ends : (len : ℕ) → Takes (Ok (Full len)) [] line pending left after → IsLine line → (status : Status)
-        → Ends status (LineReports budget line files) (Unit {0}) NeverMisses (of_sink files written writes) (of_sink files later writes_later)
+        → RunEndsAs status (LineReports budget line files) (Unit {0}) NeverMisses (of_sink files written writes) (of_sink files later writes_later)
         → ArithEnds budget files status pending old new
     line_ends len took is_line status ends =
         let rest = unwrap_or after [] in

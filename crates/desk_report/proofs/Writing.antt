@@ -5,7 +5,7 @@ use Rattle.std.proofs.lemmas.List.{take_all, append-nil}
 use Rattle.desk_base.specs.Faults.{HasRisen}
 use Rattle.desk_base.specs.Files.{Files, Go}
 use Rattle.desk_base.specs.Moves.{AppendsFront}
-use Rattle.desk_report.specs.Outcome.{DoesReport, Ends, NeverMisses, Report, Seen, Writes, of_shelf, of_sink, of_streams, reported_on}
+use Rattle.desk_report.specs.Outcome.{DoesReport, RunEndsAs, NeverMisses, Report, Seen, Writes, of_shelf, of_sink, of_streams, reported_on}
 use Rattle.desk_report.specs.declared.status.Status.{Status}
 use Rattle.desk_report.specs.declared.status.Status.TheVariants as is
 
@@ -30,7 +30,7 @@ text_written text old new failed wrote = record {
 -- what is reported may say less, memory may lack more often, and so may the shelf fail
 pub ends_as : (status : Status) (reports more : Report → Type 0) (may_lack lacks_more : Type 0) (may_miss misses_more : Option (List ℕ) → Type 0) (old new : Seen)
     → ((report : Report) → reports report → more report) → (may_lack → lacks_more) → ((keeping : Option (List ℕ)) → may_miss keeping → misses_more keeping)
-    → Ends status reports may_lack may_miss old new → Ends status more lacks_more misses_more old new
+    → RunEndsAs status reports may_lack may_miss old new → RunEndsAs status more lacks_more misses_more old new
 ends_as is.Done reports more may_lack lacks_more may_miss misses_more old new says lacks misses ends = (ends.0, says ends.0 ends.1, ends.2)
 ends_as is.Usage reports more may_lack lacks_more may_miss misses_more old new says lacks misses ends = (ends.0, says ends.0 ends.1, ends.2)
 ends_as is.Text reports more may_lack lacks_more may_miss misses_more old new says lacks misses ends = (ends.0, says ends.0 ends.1, ends.2)
@@ -47,7 +47,7 @@ ends_as is.ShelfFault reports more may_lack lacks_more may_miss misses_more old 
 
 -- what is printed is what is to be reported
 pub printed : (status : Status) (reports : Report → Type 0) (may_lack : Type 0) (old new : Seen) (due : Report) → reports due
-    → Ends status (λ report. report ≡ due) ⊥ NeverMisses old new → Ends status reports may_lack NeverMisses old new
+    → RunEndsAs status (λ report. report ≡ due) ⊥ NeverMisses old new → RunEndsAs status reports may_lack NeverMisses old new
 printed status reports may_lack old new due right =
     ends_as status (λ report. report ≡ due) reports ⊥ may_lack NeverMisses NeverMisses old new (λ report is'. subst reports (sym is') right) (λ none. absurd none)
     (λ keeping never. never)
@@ -83,7 +83,7 @@ module _ (files : Files) (old new : Seen) (kept : IfSome old.files (λ told. tol
 
     -- so the run ends as its command does
     pub at_files : (HasRisen reads later → HasRisen old.read_faults new.read_faults) → (status : Status) (reports : Report → Type 0) (may_lack : Type 0)
-        → Ends status reports may_lack NeverMisses (told old left_old reads) (told new left_new later) → Ends status reports may_lack NeverMisses old new
+        → RunEndsAs status reports may_lack NeverMisses (told old left_old reads) (told new left_new later) → RunEndsAs status reports may_lack NeverMisses old new
     at_files rises is.Done reports may_lack ends = (ends.0, ends.1, does ends.2)
     at_files rises is.Usage reports may_lack ends = (ends.0, ends.1, does ends.2)
     at_files rises is.Text reports may_lack ends = (ends.0, ends.1, does ends.2)
@@ -111,8 +111,8 @@ module _ (files : Files) (old new : Seen) (kept : IfSome old.files (λ told. tol
 
   -- and as one that has the sink alone, whose source does not fail
   pub at_sink : (status : Status) (reports : Report → Type 0) (may_lack : Type 0)
-      → Ends status reports may_lack NeverMisses (of_sink files old.written old.write_faults) (of_sink files new.written new.write_faults)
-      → Ends status reports may_lack NeverMisses old new
+      → RunEndsAs status reports may_lack NeverMisses (of_sink files old.written old.write_faults) (of_sink files new.written new.write_faults)
+      → RunEndsAs status reports may_lack NeverMisses old new
   at_sink status reports may_lack ends = at_files None None 0 0 (λ risen. absurd (omega (arith, risen))) status reports may_lack ends
 
 shelf_does : {status : Status} {report : Report} (old new : Seen)
@@ -123,16 +123,16 @@ shelf_does old new d = record { reported = d.reported; written = d.written; file
 
 -- a command that has no source does not fail to read
 pub no_read_fault : (status : Status) (reports : Report → Type 0) (may_lack : Type 0) (may_miss : Option (List ℕ) → Type 0) (old new : Seen)
-    → old.read_faults ≡ 0 → new.read_faults ≡ 0 → Ends status reports may_lack may_miss old new → status ≢ is.ReadFault
+    → old.read_faults ≡ 0 → new.read_faults ≡ 0 → RunEndsAs status reports may_lack may_miss old new → status ≢ is.ReadFault
 no_read_fault status reports may_lack may_miss old new before after ends same =
-    let P : Status → Type 0 = λ s. Ends s reports may_lack may_miss old new in
+    let P : Status → Type 0 = λ s. RunEndsAs s reports may_lack may_miss old new in
     let failed = (subst P same ends).2.failed in
     absurd (omega (arith, failed, before, after))
 
 -- and it ends as it does whatever the source tells
 pub with_source : (status : Status) (reports : Report → Type 0) (may_lack : Type 0) (may_miss : Option (List ℕ) → Type 0) (old new : Seen)
-    → Ends status reports may_lack may_miss (of_shelf old.written old.files old.write_faults old.shelf_faults) (of_shelf new.written new.files new.write_faults new.shelf_faults)
-    → Ends status reports may_lack may_miss old new
+    → RunEndsAs status reports may_lack may_miss (of_shelf old.written old.files old.write_faults old.shelf_faults) (of_shelf new.written new.files new.write_faults new.shelf_faults)
+    → RunEndsAs status reports may_lack may_miss old new
 with_source is.Done reports may_lack may_miss old new ends = (ends.0, ends.1, shelf_does old new ends.2)
 with_source is.Usage reports may_lack may_miss old new ends = (ends.0, ends.1, shelf_does old new ends.2)
 with_source is.Text reports may_lack may_miss old new ends = (ends.0, ends.1, shelf_does old new ends.2)

@@ -4,7 +4,7 @@ use Rattle.std.specs.Io.KnownBytes.{Consumes}
 use Rattle.chess_text.specs.PositionText.{text_of_lines}
 use Rattle.desk_base.specs.Lines.{Lines, lines_of}
 use Rattle.desk_text.specs.Taken.{TakesLines}
-use Rattle.desk_report.specs.Outcome.{Ends, Report, Seen, reported_on}
+use Rattle.desk_report.specs.Outcome.{RunEndsAs, Report, Seen, reported_on}
 use Rattle.desk_report.specs.declared.status.Status.{Status}
 
 -- a line is due behind these: what `reports` says of them ends because they end
@@ -22,5 +22,5 @@ pub record EndsByLines (reports : Lines → Report → Type 0) (may_lack : (byte
   pub taken : Consumes old.left new.left bytes
   pub left : IfSome new.left (λ told. told ≡ rest)
   pub takes : TakesLines (IsDueBy reports) (held ++ bytes) pending
-  pub ends : Ends status (reports (lines_of (reported_on status (held ++ bytes) rest))) (may_lack bytes)
+  pub ends : RunEndsAs status (reports (lines_of (reported_on status (held ++ bytes) rest))) (may_lack bytes)
       (may_miss bytes) old new

@@ -136,11 +136,11 @@ NeverMisses keeping = ⊥
 
 -- How a run, or the command in it, ends with this status, where `reports` says what is reported, `may_lack` that memory
 -- may be wanting, and `may_miss` that the shelf may fail while the file of this name, or none, is being kept.
-abbrev pub Ends : Status → (Report → Type 0) → (may_lack : Type 0) → (may_miss : Option (List ℕ) → Type 0) → Seen → Seen
+abbrev pub RunEndsAs : Status → (Report → Type 0) → (may_lack : Type 0) → (may_miss : Option (List ℕ) → Type 0) → Seen → Seen
     → Type 0
-Ends is.ReadFault reports may_lack may_miss old new = (report : Report) × reports report × ReadsSome report old new
-Ends is.WriteFault reports may_lack may_miss old new = (report : Report) × reports report × WritesSome report old new
-Ends is.ShelfFault reports may_lack may_miss old new =
+RunEndsAs is.ReadFault reports may_lack may_miss old new = (report : Report) × reports report × ReadsSome report old new
+RunEndsAs is.WriteFault reports may_lack may_miss old new = (report : Report) × reports report × WritesSome report old new
+RunEndsAs is.ShelfFault reports may_lack may_miss old new =
     (keeping : Option (List ℕ)) × may_miss keeping × MissesShelf keeping old new
-Ends is.Memory reports may_lack may_miss old new = may_lack × LacksMemory old new
-Ends status reports may_lack may_miss old new = (report : Report) × reports report × DoesReport status report old new
+RunEndsAs is.Memory reports may_lack may_miss old new = may_lack × LacksMemory old new
+RunEndsAs status reports may_lack may_miss old new = (report : Report) × reports report × DoesReport status report old new

@@ -5,7 +5,7 @@ use Rattle.desk_base.specs.Files.{Files}
 use Rattle.desk_base.specs.declared.files.Shelf.{Ghosts as ShelfModel}
 use Rattle.desk_base.specs.declared.sink.Sink.{Ghosts as SinkModel}
 use Rattle.desk_base.specs.declared.source.Source.{Ghosts as SourceModel}
-use Rattle.desk_report.specs.Outcome.{Ends, NeverMisses, Report, Seen, of_shelf, of_sink, of_streams, seen_of}
+use Rattle.desk_report.specs.Outcome.{RunEndsAs, NeverMisses, Report, Seen, of_shelf, of_sink, of_streams, seen_of}
 use Rattle.desk_report.specs.declared.status.Status.{Status}
 
 -- what is seen of a sink, by a command that has nothing else
@@ -37,4 +37,4 @@ OnSink k Holds old new = Holds (k.written old) (k.written new) (SinkFailed k old
 abbrev pub EndsOnSink : {K : Type 0} → SinkModel K → Status → (Files → Report → Type 0) → (may_lack : Type 0)
     → (old new : K) → Type 0
 EndsOnSink k status reports may_lack old new =
-    (files : Files) → Ends status (reports files) may_lack NeverMisses (sink_seen k files old) (sink_seen k files new)
+    (files : Files) → RunEndsAs status (reports files) may_lack NeverMisses (sink_seen k files old) (sink_seen k files new)

@@ -6,7 +6,7 @@ use Rattle.lin_formula.specs.Tree.{Tree, symbols, steps}
 use Rattle.lin_formula.specs.TreeOf.{tree_of}
 use Rattle.lin_formula.specs.SetOf.{SetOf, tables}
 use Rattle.formula_auto.specs.Chains.{IsLink, IsLinkedOn, IsMadeLink, IsNextLink, IsNextStopped, FitsAfter, IsExtension, and_of, link_done}
-use Rattle.formula_auto.specs.LevelState.{LevelState}
+use Rattle.formula_auto.specs.MeetState.{MeetState}
 use Rattle.formula_auto.specs.MemoState.{MemoState}
 use Rattle.formula_auto.specs.Recalled.{is_recalled}
 use Rattle.formula_auto.specs.Remembered.{IsRemembered, IsInterrupted}
@@ -14,12 +14,12 @@ use Rattle.formula_auto.specs.PartOf.{IsRememberedOn}
 use Rattle.formula_auto.specs.declared.chain.Extension.{Extension}
 use Rattle.formula_auto.specs.declared.chain.Link.{Link}
 use Rattle.formula_auto.specs.declared.chain.Link.TheVariants.{Made}
-use Rattle.formula_auto.specs.declared.course.Course.{Course}
-use Rattle.formula_auto.specs.declared.course.Recall.{Recall}
-use Rattle.formula_auto.specs.declared.course.Recall.TheVariants.{Plain, Nothing}
+use Rattle.formula_auto.specs.declared.standing.Standing.{Standing}
+use Rattle.formula_auto.specs.declared.standing.Recall.{Recall}
+use Rattle.formula_auto.specs.declared.standing.Recall.TheVariants.{Plain, Nothing}
 use Rattle.formula_auto.specs.declared.errors.CompileError.{CompileError}
 use Rattle.formula_auto.specs.declared.pair.Pair.{Pair}
-use Rattle.formula_auto.specs.declared.part.Remembered.{Remembered}
+use Rattle.formula_auto.specs.declared.part_auto.Remembered.{Remembered}
 use Rattle.formula_auto.proofs.WithMemo.{remembered_two, remembered_as, interrupted_left, interrupted_right, interrupted_at_two}
 
 abbrev pub as_pair : Extension → Pair
@@ -42,40 +42,40 @@ module _ (extension : Extension) (is : IsExtension extension) where
   outside : (r : Recall) → is_recalled r (and_of extension) ≡ false
   outside r = extension-outside r extension is
 
-  pub stopped_before : {course : Course} {m0 m1 : MemoState} {e : ℕ → SetOf} {why : CompileError} → IsInterrupted (tree_of extension.left.now) e course m0 m1 why
-      → IsInterrupted (and_of extension) e course m0 m1 why
-  stopped_before {course} h = interrupted_left (as_pair extension) (outside course.recall) tt h
+  pub stopped_before : {standing : Standing} {m0 m1 : MemoState} {e : ℕ → SetOf} {why : CompileError} → IsInterrupted (tree_of extension.left.now) e standing m0 m1 why
+      → IsInterrupted (and_of extension) e standing m0 m1 why
+  stopped_before {standing} h = interrupted_left (as_pair extension) (outside standing.recall) tt h
 
-  module _ {course : Course} {m0 m1 : MemoState} {e : ℕ → SetOf} {a : Automaton} {last : ℕ} (left : IsRemembered (tree_of extension.left.now) e course m0 m1 a last) where
-    pub stopped_beside : {m2 : MemoState} {why : CompileError} → IsInterrupted (tree_of extension.right.now) e (record course { before = last }) m1 m2 why
-        → IsInterrupted (and_of extension) e course m0 m2 why
-    stopped_beside h = interrupted_right (as_pair extension) (outside course.recall) tt left h
+  module _ {standing : Standing} {m0 m1 : MemoState} {e : ℕ → SetOf} {a : Automaton} {last : ℕ} (left : IsRemembered (tree_of extension.left.now) e standing m0 m1 a last) where
+    pub stopped_beside : {m2 : MemoState} {why : CompileError} → IsInterrupted (tree_of extension.right.now) e (record standing { before = last }) m1 m2 why
+        → IsInterrupted (and_of extension) e standing m0 m2 why
+    stopped_beside h = interrupted_right (as_pair extension) (outside standing.recall) tt left h
 
-    module _ {m2 : MemoState} {b : Automaton} {end : ℕ} (right : IsRemembered (tree_of extension.right.now) e (record course { before = last }) m1 m2 b end)
-        (l : LevelState) (before : Link) (link : IsLink (tree_of extension.left.now) e m2 l before) where
+    module _ {m2 : MemoState} {b : Automaton} {end : ℕ} (right : IsRemembered (tree_of extension.right.now) e (record standing { before = last }) m1 m2 b end)
+        (l : MeetState) (before : Link) (link : IsLink (tree_of extension.left.now) e m2 l before) where
       -- the formula was put to the chain before
-      pub linked : {l0 : LevelState} {made : Link} → tables l0.sets ≡ e → FitsAfter (tree_of extension.left.now) (tree_of extension.right.now)
-          → IsNextLink m2 l before (tree_of extension.right.now) (end + 1) made → IsLinkedOn (and_of extension) course m0 m2 l0 l made
+      pub linked : {l0 : MeetState} {made : Link} → tables l0.sets ≡ e → FitsAfter (tree_of extension.left.now) (tree_of extension.right.now)
+          → IsNextLink m2 l before (tree_of extension.right.now) (end + 1) made → IsLinkedOn (and_of extension) standing m0 m2 l0 l made
       linked {l0} {made} same fits next =
           let put = next.puts (tree_of extension.left.now) e fits link in
           record {
             auto = put.auto;
-            remembered = subst (λ d. IsRemembered (and_of extension) d course m0 m2 put.auto (link_done made)) (sym same)
-                (subst (λ n. IsRemembered (and_of extension) e course m0 m2 put.auto n) (sym next.done)
-                (remembered_two (as_pair extension) (outside course.recall) tt left right put.decides put.within));
+            remembered = subst (λ d. IsRemembered (and_of extension) d standing m0 m2 put.auto (link_done made)) (sym same)
+                (subst (λ n. IsRemembered (and_of extension) e standing m0 m2 put.auto n) (sym next.done)
+                (remembered_two (as_pair extension) (outside standing.recall) tt left right put.decides put.within));
             is = subst (λ d. IsLink (and_of extension) d m2 l made) (sym same) put.is;
           }
 
       -- or that step stopped
-      pub stopped_at : {why : CompileError} → IsNextStopped m2 l before (tree_of extension.right.now) (end + 1) why → IsInterrupted (and_of extension) e course m0 m2 why
+      pub stopped_at : {why : CompileError} → IsNextStopped m2 l before (tree_of extension.right.now) (end + 1) why → IsInterrupted (and_of extension) e standing m0 m2 why
       stopped_at stopped =
           let h = stopped (tree_of extension.left.now) e link in
-          subst (IsInterrupted (and_of extension) e course m0 m2) (sym h.is)
-          (interrupted_at_two (as_pair extension) (outside course.recall) tt left right h.cause h.over)
+          subst (IsInterrupted (and_of extension) e standing m0 m2) (sym h.is)
+          (interrupted_at_two (as_pair extension) (outside standing.recall) tt left right h.cause h.over)
 
-module _ {f : Tree} {course : Course} {old new : MemoState} {l k : LevelState} where
+module _ {f : Tree} {standing : Standing} {old new : MemoState} {l k : MeetState} where
   -- a chain begins with what is made
-  pub linked-made : {made : Remembered} → IsRememberedOn f course old new l k made → IsLinkedOn f course old new l k (Made made)
+  pub linked-made : {made : Remembered} → IsRememberedOn f standing old new l k made → IsLinkedOn f standing old new l k (Made made)
   linked-made part = record {
     auto = part.auto;
     remembered = part.remembered;
@@ -89,7 +89,7 @@ module _ {f : Tree} {course : Course} {old new : MemoState} {l k : LevelState} w
   }
 
   -- and is made at its end
-  pub made-linked : {link : Link} {made : Remembered} → IsLinkedOn f course old new l k link → IsMadeLink new k link made → IsRememberedOn f course old new l k made
+  pub made-linked : {link : Link} {made : Remembered} → IsLinkedOn f standing old new l k link → IsMadeLink new k link made → IsRememberedOn f standing old new l k made
   made-linked {link} {made} linked h =
       let part = h.is f (tables l.sets) linked.is in
       record {
@@ -97,5 +97,5 @@ module _ {f : Tree} {course : Course} {old new : MemoState} {l k : LevelState} w
         has = part.has;
         reached = part.reached;
         few = λ some. subst (λ b. length part.auto.accept ≤ b) linked.remembered.after.budget (part.few some);
-        remembered = subst (λ n. IsRemembered f (tables l.sets) course old new part.auto n) (sym h.done) (remembered_as linked.remembered part.decides);
+        remembered = subst (λ n. IsRemembered f (tables l.sets) standing old new part.auto n) (sym h.done) (remembered_as linked.remembered part.decides);
       }

@@ -25,7 +25,7 @@ use Rattle.formula_auto.specs.Saying.{SaysTheSame}
 use Rattle.formula_auto.specs.Step.{Exceeds}
 use Rattle.formula_auto.specs.StepError.{step_error}
 use Rattle.formula_auto.specs.MemoState.{MemoState, IsMemo, IsMemoAfter}
-use Rattle.formula_auto.specs.LevelState.{LevelState, LevelGrows}
+use Rattle.formula_auto.specs.MeetState.{MeetState, MeetsGrow}
 use Rattle.formula_auto.specs.Joints.{joint_part, IsJointOf, FitTogether, TogetherExceed}
 use Rattle.formula_auto.specs.Short.{IsShort, IsShortPart}
 use Rattle.formula_auto.specs.Chains.{IsPartOf, IsPending, IsLink, FitsAfter, IsPutTo, IsMadeLink, IsNextLink, IsStepStopped, HasStates, HasRoom}
@@ -37,9 +37,9 @@ use Rattle.formula_auto.specs.declared.errors.CompileError.{CompileError}
 use Rattle.formula_auto.specs.declared.errors.CompileError.TheVariants.{Memory}
 use Rattle.formula_auto.specs.declared.joint.Joint.{Joint}
 use Rattle.formula_auto.specs.declared.joint.Joint.TheVariants as joint
-use Rattle.formula_auto.specs.declared.part.Part.{Part}
-use Rattle.formula_auto.specs.declared.part.Part.TheVariants.{Fresh}
-use Rattle.formula_auto.specs.declared.part.Remembered.{Remembered}
+use Rattle.formula_auto.specs.declared.part_auto.PartAuto.{PartAuto}
+use Rattle.formula_auto.specs.declared.part_auto.PartAuto.TheVariants.{Fresh}
+use Rattle.formula_auto.specs.declared.part_auto.Remembered.{Remembered}
 use Rattle.formula_auto.proofs.Compiles.{made_two}
 use Rattle.formula_auto.proofs.Exceedings.{Exceeds-connect}
 use Rattle.formula_auto.proofs.FirstOvers.{FirstOver-from}
@@ -64,14 +64,14 @@ decided-within {f} {g} {e} {states} {budget} {d} whole valid decides room over =
     few_pairs whole.auto d whole.valid valid budget (subst (λ n. n * length d.accept ≤ budget) (sym whole.size) room)
     ((Exceeds-connect (members e) f g whole.auto d budget whole.decides decides And).1 over)
 
-module _ {g : Tree} {m : MemoState} {l : LevelState} {part : Part} (short : IsShortPart m l g part) where
+module _ {g : Tree} {m : MemoState} {l : MeetState} {part : PartAuto} (short : IsShortPart m l g part) where
   pub short-decides : (e : ℕ → SetOf) → Decides short.auto g (members e)
   short-decides e = (short.short.compiled e).made.decides
 
 abbrev rest_of : Pending → Tree
 rest_of pending = tree_of pending.rest.formula
 
-module _ {f : Tree} {e : ℕ → SetOf} {m : MemoState} {l : LevelState} {pending : Pending} (is : IsPending f e m l pending) where
+module _ {f : Tree} {e : ℕ → SetOf} {m : MemoState} {l : MeetState} {pending : Pending} (is : IsPending f e m l pending) where
   rest-decides : Decides is.rest.auto (rest_of pending) (members e)
   rest-decides = short-decides is.rest e
 
@@ -114,14 +114,14 @@ module _ {f : Tree} {e : ℕ → SetOf} {m : MemoState} {l : LevelState} {pendin
     decides = decides-says e is.same (pairs-decide is.base.auto is.rest.auto is.base_valid is.rest_valid is.left (rest_of pending) e is.base.decides rest-decides);
   }
 
-put_off : {f g : Tree} {e : ℕ → SetOf} {m : MemoState} {l : LevelState} {pending : Pending} → IsPending (tree.And f g) e m l pending → IsMemo m
+put_off : {f g : Tree} {e : ℕ → SetOf} {m : MemoState} {l : MeetState} {pending : Pending} → IsPending (tree.And f g) e m l pending → IsMemo m
     → (Exceeds (tree.And f g) (members e) m.budget → ⊥) → IsPutTo f g e m l (Waiting pending)
 put_off is memo within =
     let whole = pending-decided is memo in
     record { is = is; auto = whole.auto; decides = whole.decides; within = within }
 
-module _ {f : Tree} {e : ℕ → SetOf} {m : MemoState} {l : LevelState} {pending : Pending} (is : IsPending f e m l pending) where
-  module _ {g : Tree} {part : Part} (next : IsShortPart m l g part) (fits : FitsAfter f g) where
+module _ {f : Tree} {e : ℕ → SetOf} {m : MemoState} {l : MeetState} {pending : Pending} (is : IsPending f e m l pending) where
+  module _ {g : Tree} {part : PartAuto} (next : IsShortPart m l g part) (fits : FitsAfter f g) where
     next-decides : Decides next.auto g (members e)
     next-decides = short-decides next e
 
@@ -164,7 +164,7 @@ module _ {f : Tree} {e : ℕ → SetOf} {m : MemoState} {l : LevelState} {pendin
         (subst (λ n. n ≤ m.budget) (sym (mul_assoc (length is.base.auto.accept) (length is.rest.auto.accept) (length next.auto.accept))) all))
 
 -- a formula is put to one whose automaton is made
-module _ {f g : Tree} {e : ℕ → SetOf} {m : MemoState} {l : LevelState} {left part : Part} (is : IsPartOf f e m l left) (next : IsShortPart m l g part) where
+module _ {f g : Tree} {e : ℕ → SetOf} {m : MemoState} {l : MeetState} {left part : PartAuto} (is : IsPartOf f e m l left) (next : IsShortPart m l g part) where
   pub next-fits : FitsAfter f g → FitTogether m l left part
   next-fits fits =
       by_theirs And m l left part is.auto next.auto is.has next.has (λ a b. length (with_vars a.tracks b.tracks) ≤ MOST_TRACKS)
@@ -232,15 +232,15 @@ module _ {f g : Tree} {budget : ℕ} {a b : Automaton} (left : IsShort budget f 
         };
   }
 
-pub together-short : {f g : Tree} {m : MemoState} {l : LevelState} {left right : Part} {made : Automaton} → IsShortPart m l f left → IsShortPart m l g right
+pub together-short : {f g : Tree} {m : MemoState} {l : MeetState} {left right : PartAuto} {made : Automaton} → IsShortPart m l f left → IsShortPart m l g right
     → IsJointOf And m l left right (joint.Made made) → IsShortPart m l (tree.And f g) (Fresh made)
 together-short {made = made} first second joint =
     let h = joint first.auto second.auto first.has second.has in
     record { auto = made; has = refl; short = short-and first.short second.short h.0 h.1 }
 
--- what a link has, when the memo and the level have grown
-module _ {f : Tree} {e : ℕ → SetOf} {m n : MemoState} {l k : LevelState} {fs : List Tree} (after : IsMemoAfter m n fs) (grows : LevelGrows l k) where
-  abbrev part_of-after : (part : Part) → IsPartOf f e m l part → IsPartOf f e n k part
+-- what a link has, when the memo and the table of meets have grown
+module _ {f : Tree} {e : ℕ → SetOf} {m n : MemoState} {l k : MeetState} {fs : List Tree} (after : IsMemoAfter m n fs) (grows : MeetsGrow l k) where
+  abbrev part_of-after : (part : PartAuto) → IsPartOf f e m l part → IsPartOf f e n k part
   part_of-after part is = record {
     auto = is.auto;
     has = part-after part is.auto is.has after grows;
@@ -249,7 +249,7 @@ module _ {f : Tree} {e : ℕ → SetOf} {m n : MemoState} {l k : LevelState} {fs
     decides = is.decides;
   }
 
-pub link-after : (f : Tree) (e : ℕ → SetOf) {m n : MemoState} {l k : LevelState} {fs : List Tree} → IsMemoAfter m n fs → LevelGrows l k → (link : Link)
+pub link-after : (f : Tree) (e : ℕ → SetOf) {m n : MemoState} {l k : MeetState} {fs : List Tree} → IsMemoAfter m n fs → MeetsGrow l k → (link : Link)
     → IsLink f e m l link → IsLink f e n k link
 link-after f e after grows (Made made) is = part_of-after after grows made.part is
 link-after f e after grows (Waiting pending) is = record {
@@ -268,7 +268,7 @@ link-after f e after grows (Waiting pending) is = record {
 }
 
 -- what is put to a made chain is put to the chain
-pub next-after : {m : MemoState} {l : LevelState} {before : Link} {made : Remembered} {g : Tree} {step : ℕ} {link : Link} → IsMadeLink m l before made
+pub next-after : {m : MemoState} {l : MeetState} {before : Link} {made : Remembered} {g : Tree} {step : ℕ} {link : Link} → IsMadeLink m l before made
     → IsNextLink m l (Made made) g step link → IsNextLink m l before g step link
 next-after made next = record { done = next.done; puts = λ f e fits is. next.puts f e fits (made.is f e is) }
 

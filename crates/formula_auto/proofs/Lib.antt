@@ -16,7 +16,7 @@ pub mod NoSets
 pub mod PlainLemmas
 pub mod Connections
 pub mod Entries
-pub mod LevelLemmas
+pub mod MeetLemmas
 pub mod Accessible
 pub mod MemoLemmas
 pub mod WithMemo

@@ -18,9 +18,9 @@ use Rattle.formula_auto.specs.PlainParts.{is_plain, plain_within, plain_parts}
 use Rattle.formula_auto.specs.Recalled.{is_recalled, recalled_within, recalled_parts}
 use Rattle.formula_auto.specs.MemoState.{MemoState, IsEntry, IsMemo, IsEntryAt, known, counted, with_entry, IsMemoAfter}
 use Rattle.formula_auto.specs.Remembered.{IsStopped}
-use Rattle.formula_auto.specs.declared.course.Course.{Course}
-use Rattle.formula_auto.specs.declared.course.Recall.{Recall}
-use Rattle.formula_auto.specs.declared.course.Recall.TheVariants.{Plain, Nothing}
+use Rattle.formula_auto.specs.declared.standing.Standing.{Standing}
+use Rattle.formula_auto.specs.declared.standing.Recall.{Recall}
+use Rattle.formula_auto.specs.declared.standing.Recall.TheVariants.{Plain, Nothing}
 use Rattle.formula_auto.specs.declared.errors.CompileError.{CompileError}
 use Rattle.formula_auto.specs.declared.errors.CompileError.TheVariants.{Over, Memory}
 use Rattle.formula_auto.proofs.NoSets.{Decides-no_set, steps-no_set, FirstOver-no_set, FirstOver-number}
@@ -98,27 +98,27 @@ pub recalled-stepless : (r : Recall) (f : Tree) (n : ℕ) → steps f ≡ [] →
 recalled-stepless Plain f n none = stepless f n none
 recalled-stepless Nothing f n none = refl
 
-module _ {course : Course} {f : Tree} {old new : MemoState} where
+module _ {standing : Standing} {f : Tree} {old new : MemoState} where
   -- memory ran out before a step of the formula
-  pub stopped-memory : IsMemoAfter old new [] → IsStopped f course old new Memory
+  pub stopped-memory : IsMemoAfter old new [] → IsStopped f standing old new Memory
   stopped-memory after = record {
     done = 0;
     few = omega arith;
     number = λ step over. cc;
-    after = subst (IsMemoAfter old new) (sym (recalled-zero course.recall f)) after;
+    after = subst (IsMemoAfter old new) (sym (recalled-zero standing.recall f)) after;
   }
 
   -- it was to be entered, and nothing of its parts was looked up
-  pub stopped-inside : (e : ℕ → SetOf) {why : CompileError} → is_recalled course.recall f ≡ true → IsCompileError f e course.before old.budget why
-      → IsStopped f (record course { recall = Nothing }) old new why → IsStopped f course old new why
+  pub stopped-inside : (e : ℕ → SetOf) {why : CompileError} → is_recalled standing.recall f ≡ true → IsCompileError f e standing.before old.budget why
+      → IsStopped f (record standing { recall = Nothing }) old new why → IsStopped f standing old new why
   stopped-inside e {why = Over step} recalled error h =
-      let number = FirstOver-number (steps f) (members e) old.budget (course.before + 1) step error in
+      let number = FirstOver-number (steps f) (members e) old.budget (standing.before + 1) step error in
       let at = h.number step refl in
       record {
         done = h.done;
         few = h.few;
         number = h.number;
-        after = subst (IsMemoAfter old new) (sym (recalled-later course.recall f h.done recalled (omega (arith, number, at)))) h.after;
+        after = subst (IsMemoAfter old new) (sym (recalled-later standing.recall f h.done recalled (omega (arith, number, at)))) h.after;
       }
   stopped-inside e {why = Memory} recalled error h = stopped-memory h.after
 

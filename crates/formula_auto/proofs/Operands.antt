@@ -12,7 +12,7 @@ use Rattle.lin_formula.specs.SetOf.{SetOf, members}
 use Rattle.lin_formula.specs.TreeOf.{tree_of}
 use Rattle.formula_auto.specs.Connected.{connected}
 use Rattle.formula_auto.specs.Nodes.{IsStepWithin, DecidesBoth}
-use Rattle.formula_auto.specs.LevelState.{LevelState, LevelGrows}
+use Rattle.formula_auto.specs.MeetState.{MeetState, MeetsGrow}
 use Rattle.formula_auto.specs.MemoState.{MemoState}
 use Rattle.formula_auto.specs.Recalled.{is_recalled, MayBeOneStep}
 use Rattle.formula_auto.specs.PartOf.{IsPart, IsSamePlace, IsRememberedPart}
@@ -24,10 +24,10 @@ use Rattle.formula_auto.specs.Compiled.{IsAccessible}
 use Rattle.auto_bool.specs.declared.connective.Connective.{Connective}
 use Rattle.auto_bool.specs.declared.connective.Connective.TheVariants.{And, Or, AndNot}
 use Rattle.formula_auto.specs.declared.pair.Pair.{Pair}
-use Rattle.formula_auto.specs.declared.course.Course.{Course}
-use Rattle.formula_auto.specs.declared.part.Part.{Part}
-use Rattle.formula_auto.specs.declared.part.Part.TheVariants.{Fresh, Kept, Paired, Named, Shared}
-use Rattle.formula_auto.specs.declared.part.Remembered.{Remembered}
+use Rattle.formula_auto.specs.declared.standing.Standing.{Standing}
+use Rattle.formula_auto.specs.declared.part_auto.PartAuto.{PartAuto}
+use Rattle.formula_auto.specs.declared.part_auto.PartAuto.TheVariants.{Fresh, Kept, Paired, Named, Shared}
+use Rattle.formula_auto.specs.declared.part_auto.Remembered.{Remembered}
 use Rattle.formula_auto.specs.declared.shortcut.Shortcut.{Shortcut}
 use Rattle.formula_auto.specs.declared.shortcut.Shortcut.TheVariants as shortcut
 use Rattle.formula_auto.proofs.Parts.{Decides-And, Decides-Or, Decides-AndNot}
@@ -44,7 +44,7 @@ step-product : (connective : Connective) {a b m : Automaton} {budget : ℕ} → 
 step-product connective made = record { decides = decides-by connective made.tracks made.words; few = made.few; within = made.within }
 
 -- at one place stands one automaton
-part-same_place : (m : MemoState) (l : LevelState) (left right : Part) (b : Automaton) → IsSamePlace left right → IsPart m l right b → IsPart m l left b
+part-same_place : (m : MemoState) (l : MeetState) (left right : PartAuto) (b : Automaton) → IsSamePlace left right → IsPart m l right b → IsPart m l left b
 part-same_place m l (Fresh a) (Fresh c) b same has = absurd same
 part-same_place m l (Fresh a) (Kept place) b same has = absurd same
 part-same_place m l (Fresh a) (Paired place) b same has = absurd same
@@ -74,7 +74,7 @@ serves-itself And a budget both either neither = step-product And both
 serves-itself Or a budget both either neither = step-product Or either
 serves-itself AndNot a budget both either neither = λ n none. step-product AndNot (neither n none)
 
-module _ (connective : Connective) (m : MemoState) (l : LevelState) (left right : Part) (a b : Automaton) (has_left : IsPart m l left a) (has_right : IsPart m l right b) where
+module _ (connective : Connective) (m : MemoState) (l : MeetState) (left right : PartAuto) (a b : Automaton) (has_left : IsPart m l left a) (has_right : IsPart m l right b) where
   shortcut-serves : (shortcut : Shortcut) → Serves connective a b m.budget shortcut → IsShortcutOf connective m l left right shortcut
   shortcut-serves shortcut serves = λ p q is_p is_q.
       let first = one_automaton m l left a p has_left is_p in
@@ -99,7 +99,7 @@ module _ (connective : Connective) (m : MemoState) (l : LevelState) (left right 
       subst (λ y. (IsSamePlace left right × (length a.accept ≤ m.budget)) ⊎ ((operand : Operand) × IsAtHand a y connective m.budget operand)) second
       (subst (λ x. (IsSamePlace left right × (length x.accept ≤ m.budget)) ⊎ ((operand : Operand) × IsAtHand x is.second connective m.budget operand)) first is.seen)
 
-has-operand : (operand : Operand) (m : MemoState) (l : LevelState) (left right : Part) (a b : Automaton) → IsPart m l left a → IsPart m l right b
+has-operand : (operand : Operand) (m : MemoState) (l : MeetState) (left right : PartAuto) (a b : Automaton) → IsPart m l left a → IsPart m l right b
     → IsPart m l (operand_of operand left right) (operand_of operand a b)
 has-operand Left m l left right a b has_left has_right = has_left
 has-operand Right m l left right a b has_left has_right = has_right
@@ -109,13 +109,13 @@ reached-operand Left a b left right = left
 reached-operand Right a b left right = right
 
 -- the part has an automaton that serves as the step on two others, to each state of which words lead
-pub record IsJoined (connective : Connective) (a b : Automaton) (m : MemoState) (l : LevelState) (part : Part) : Type 0 where
+pub record IsJoined (connective : Connective) (a b : Automaton) (m : MemoState) (l : MeetState) (part : PartAuto) : Type 0 where
   pub auto : Automaton
   pub has : IsPart m l part auto
   pub reached : AllReached auto
   pub step : IsStepWithin connective a b m.budget auto
 
-module _ (connective : Connective) (m : MemoState) (l : LevelState) (left right : Part) (a b : Automaton) (has_left : IsPart m l left a) (has_right : IsPart m l right b)
+module _ (connective : Connective) (m : MemoState) (l : MeetState) (left right : PartAuto) (a b : Automaton) (has_left : IsPart m l left a) (has_right : IsPart m l right b)
     (a_reached : AllReached a) (b_reached : AllReached b) where
   -- what two parts make, put together
   pub joint-auto : (joint : Joint) → IsJointOf connective m l left right joint → IsJoined connective a b m l (joint_part joint left right)
@@ -130,12 +130,12 @@ module _ (connective : Connective) (m : MemoState) (l : LevelState) (left right 
       record { auto = c; has = refl; reached = made.1; step = made.0 }
 
 -- a part whose automaton serves is what the step makes
-module _ (pair : Pair) {e : ℕ → SetOf} {course : Course} {m0 m1 m2 : MemoState} {l k : LevelState} {left right : Remembered}
-    (outside : is_recalled course.recall (connected pair) ≡ false) (one : MayBeOneStep course.recall pair.connective (tree_of pair.right.now))
-    (first : IsRememberedPart (tree_of pair.left.now) e course m0 m1 l left)
-    (second : IsRememberedPart (tree_of pair.right.now) e (record course { before = left.done }) m1 m2 k right) where
-  part-made : (c : Automaton) (part : Part) → IsPart m2 k part c → AllReached c → IsStepWithin pair.connective first.auto second.auto m2.budget c
-      → IsRememberedPart (connected pair) e course m0 m2 k (record { part = part; done = right.done + 1 })
+module _ (pair : Pair) {e : ℕ → SetOf} {standing : Standing} {m0 m1 m2 : MemoState} {l k : MeetState} {left right : Remembered}
+    (outside : is_recalled standing.recall (connected pair) ≡ false) (one : MayBeOneStep standing.recall pair.connective (tree_of pair.right.now))
+    (first : IsRememberedPart (tree_of pair.left.now) e standing m0 m1 l left)
+    (second : IsRememberedPart (tree_of pair.right.now) e (record standing { before = left.done }) m1 m2 k right) where
+  part-made : (c : Automaton) (part : PartAuto) → IsPart m2 k part c → AllReached c → IsStepWithin pair.connective first.auto second.auto m2.budget c
+      → IsRememberedPart (connected pair) e standing m0 m2 k (record { part = part; done = right.done + 1 })
   part-made c part has reached made = record {
     auto = c;
     has = has;
@@ -145,15 +145,15 @@ module _ (pair : Pair) {e : ℕ → SetOf} {course : Course} {m0 m1 m2 : MemoSta
   }
 
   -- where it is one of the two, that one's automaton is not made again
-  pub part-joint : (joint : Joint) → LevelGrows l k → IsJointOf pair.connective m2 k left.part right.part joint
-      → IsRememberedPart (connected pair) e course m0 m2 k (record { part = joint_part joint left.part right.part; done = right.done + 1 })
+  pub part-joint : (joint : Joint) → MeetsGrow l k → IsJointOf pair.connective m2 k left.part right.part joint
+      → IsRememberedPart (connected pair) e standing m0 m2 k (record { part = joint_part joint left.part right.part; done = right.done + 1 })
   part-joint joint grows is =
       let still = part-after left.part first.auto first.has second.remembered.after grows in
       let made = joint-auto pair.connective m2 k left.part right.part first.auto second.auto still second.has first.reached second.reached joint is in
       part-made made.auto (joint_part joint left.part right.part) made.has made.reached made.step
 
 -- what two parts make by their automata
-module _ (connective : Connective) (m : MemoState) (l : LevelState) (left right : Part) (a b : Automaton) (has_left : IsPart m l left a) (has_right : IsPart m l right b) where
+module _ (connective : Connective) (m : MemoState) (l : MeetState) (left right : PartAuto) (a b : Automaton) (has_left : IsPart m l left a) (has_right : IsPart m l right b) where
   pub by_theirs : (P : Automaton → Automaton → Type 0) → P a b → (x y : Automaton) → IsPart m l left x → IsPart m l right y → P x y
   by_theirs P here x y is_x is_y =
       subst (λ z. P x z) (one_automaton m l right b y has_right is_y) (subst (λ z. P z b) (one_automaton m l left a x has_left is_x) here)

@@ -1,4 +1,4 @@
--- And of two sets, which a level remembers. No memo has it, for it names sets.
+-- And of two sets, which a table of meets remembers. No memo has it, for it names sets.
 use Rattle.std.proofs.Common.{◌≡◌, ℕ, ◌+◌, ◌≤◌, true, false, List, [], length, None, Some, refl, sym, ◌∙◌, subst, arith}
 use Rattle.std.specs.List.{slice_get}
 use Rattle.track_word.specs.declared.tracks.Var.{Var}
@@ -7,15 +7,15 @@ use Rattle.lin_formula.specs.Tree.{Tree, Among, And, steps}
 use Rattle.lin_formula.specs.declared.formula.Formula.{Formula}
 use Rattle.lin_formula.specs.SetOf.{SetOf, tables, members}
 use Rattle.formula_auto.specs.Step.{FirstOver}
-use Rattle.formula_auto.specs.LevelState.{LevelState, is_pair, IsPair, IsPairAt, LevelGrows}
+use Rattle.formula_auto.specs.MeetState.{MeetState, is_pair, IsPair, IsPairAt, MeetsGrow}
 use Rattle.formula_auto.specs.MemoState.{MemoState, IsMemoAfter}
 use Rattle.formula_auto.specs.Recalled.{is_recalled, recalled_parts}
 use Rattle.formula_auto.specs.PartOf.{IsPart, IsRememberedPart}
-use Rattle.formula_auto.specs.declared.course.Course.{Course}
-use Rattle.formula_auto.specs.declared.course.Recall.{Recall}
-use Rattle.formula_auto.specs.declared.course.Recall.TheVariants.{Plain, Nothing}
-use Rattle.formula_auto.specs.declared.part.Part.TheVariants.{Paired}
-use Rattle.formula_auto.specs.declared.part.Remembered.{Remembered}
+use Rattle.formula_auto.specs.declared.standing.Standing.{Standing}
+use Rattle.formula_auto.specs.declared.standing.Recall.{Recall}
+use Rattle.formula_auto.specs.declared.standing.Recall.TheVariants.{Plain, Nothing}
+use Rattle.formula_auto.specs.declared.part_auto.PartAuto.TheVariants.{Paired}
+use Rattle.formula_auto.specs.declared.part_auto.Remembered.{Remembered}
 use Rattle.formula_auto.proofs.FirstOvers.{FirstOver-from}
 use Rattle.formula_auto.proofs.PlainLemmas.{after-none}
 use Rattle.formula_auto.proofs.PartLemmas.{lent, lent-reached, lent-few}
@@ -53,9 +53,9 @@ module _ (f : Tree) (pair : is_pair f ≡ true) where
   pub pair_size : length (steps f) ≡ 1
   pair_size = subst (λ g. length (steps g) ≡ 1) (sym are.is) refl
 
-  module _ (course : Course) (m : MemoState) (l : LevelState) (same : l.budget ≡ m.budget) where
+  module _ (standing : Standing) (m : MemoState) (l : MeetState) (same : l.budget ≡ m.budget) where
     -- what was remembered serves again
-    pub part-paired : {place : ℕ} → IsPairAt l f place → IsRememberedPart f (tables l.sets) course m m l (record { part = Paired place; done = course.before + 1 })
+    pub part-paired : {place : ℕ} → IsPairAt l f place → IsRememberedPart f (tables l.sets) standing m m l (record { part = Paired place; done = standing.before + 1 })
     part-paired {place = place} at = record {
       auto = at.auto;
       has = (at.formula, at.there);
@@ -65,31 +65,31 @@ module _ (f : Tree) (pair : is_pair f ≡ true) where
         counts = omega (arith, pair_size);
         made = record {
           decides = at.pair.made.decides;
-          within = subst (λ b. FirstOver (steps f) (members (tables l.sets)) b (course.before + 1) None) same
-              (FirstOver-from (steps f) (members (tables l.sets)) l.budget 1 (course.before + 1) at.pair.made.within);
+          within = subst (λ b. FirstOver (steps f) (members (tables l.sets)) b (standing.before + 1) None) same
+              (FirstOver-from (steps f) (members (tables l.sets)) l.budget 1 (standing.before + 1) at.pair.made.within);
         };
-        after = subst (λ fs. IsMemoAfter m m fs) (sym (pair_parts course.recall)) (after-none m);
+        after = subst (λ fs. IsMemoAfter m m fs) (sym (pair_parts standing.recall)) (after-none m);
       };
     }
 
   -- what was made may be remembered
-  pub may_remember : {course : Course} {old new : MemoState} {l k : LevelState} {made : Remembered} {a : Automaton} → IsRememberedPart f (tables l.sets) course old new k made
-      → l.budget ≡ old.budget → LevelGrows l k → IsPart new k made.part a → IsPair k.sets k.budget f a
-  may_remember {course = course} {old = old} {l = l} {k = k} {a = a} part same grows has =
+  pub may_remember : {standing : Standing} {old new : MemoState} {l k : MeetState} {made : Remembered} {a : Automaton} → IsRememberedPart f (tables l.sets) standing old new k made
+      → l.budget ≡ old.budget → MeetsGrow l k → IsPart new k made.part a → IsPair k.sets k.budget f a
+  may_remember {standing = standing} {old = old} {l = l} {k = k} {a = a} part same grows has =
       let remembered = lent part has in
       let here : IsPair l.sets old.budget f a = record {
         pair = pair;
         made = record {
           decides = remembered.made.decides;
-          within = FirstOver-from (steps f) (members (tables l.sets)) old.budget (course.before + 1) 1 remembered.made.within;
+          within = FirstOver-from (steps f) (members (tables l.sets)) old.budget (standing.before + 1) 1 remembered.made.within;
         };
         accessible = record { reached = lent-reached part has; few = lent-few part a has (omega (arith, pair_size)) };
       } in
       subst (λ s. IsPair s k.budget f a) (sym grows.sets) (subst (λ b. IsPair l.sets b f a) (sym (grows.budget ∙ same)) here)
 
-  pub part-remembered : {course : Course} {old new : MemoState} {e : ℕ → SetOf} {l k : LevelState} {made : Remembered} {a : Automaton} {place : ℕ}
-      → IsRememberedPart f e course old new l made → IsPart new l made.part a → (g : Formula) × (slice_get k.pairs place ≡ Some (g, a))
-      → IsRememberedPart f e course old new k (record { part = Paired place; done = made.done })
+  pub part-remembered : {standing : Standing} {old new : MemoState} {e : ℕ → SetOf} {l k : MeetState} {made : Remembered} {a : Automaton} {place : ℕ}
+      → IsRememberedPart f e standing old new l made → IsPart new l made.part a → (g : Formula) × (slice_get k.pairs place ≡ Some (g, a))
+      → IsRememberedPart f e standing old new k (record { part = Paired place; done = made.done })
   part-remembered {a = a} part has there = record {
     auto = a;
     has = there;

@@ -12,16 +12,16 @@ use Rattle.formula_auto.specs.Decides.{Decides}
 use Rattle.formula_auto.specs.PlainParts.{is_plain}
 use Rattle.formula_auto.specs.Compiled.{IsCompiledOn}
 use Rattle.formula_auto.specs.Nodes.{AcceptSame}
-use Rattle.formula_auto.specs.LevelState.{LevelState, LevelGrows}
+use Rattle.formula_auto.specs.MeetState.{MeetState, MeetsGrow}
 use Rattle.formula_auto.specs.MemoState.{MemoState, IsEntryAt, IsMemoAfter, counted}
 use Rattle.formula_auto.specs.Recalled.{is_recalled, start}
-use Rattle.formula_auto.specs.declared.course.Recall.{Recall}
+use Rattle.formula_auto.specs.declared.standing.Recall.{Recall}
 use Rattle.formula_auto.specs.Remembered.{IsRemembered}
 use Rattle.formula_auto.specs.PartOf.{IsPart, IsRememberedPart}
-use Rattle.formula_auto.specs.declared.course.Course.{Course}
-use Rattle.formula_auto.specs.declared.part.Part.{Part}
-use Rattle.formula_auto.specs.declared.part.Part.TheVariants.{Fresh, Kept, Paired, Named, Shared}
-use Rattle.formula_auto.specs.declared.part.Remembered.{Remembered}
+use Rattle.formula_auto.specs.declared.standing.Standing.{Standing}
+use Rattle.formula_auto.specs.declared.part_auto.PartAuto.{PartAuto}
+use Rattle.formula_auto.specs.declared.part_auto.PartAuto.TheVariants.{Fresh, Kept, Paired, Named, Shared}
+use Rattle.formula_auto.specs.declared.part_auto.Remembered.{Remembered}
 use Rattle.formula_auto.proofs.MemoLemmas.{known-at}
 use Rattle.formula_auto.proofs.PlainLemmas.{some_step}
 use Rattle.formula_auto.proofs.WithMemo.{remembered_found, remembered_leaf, made_same}
@@ -32,7 +32,7 @@ get-append (y ∷ xs) ys zero x there = there
 get-append (y ∷ xs) ys (suc k) x there = get-append xs ys k x there
 
 -- a part has one automaton
-pub one_automaton : (m : MemoState) (l : LevelState) (part : Part) (a b : Automaton) → IsPart m l part a → IsPart m l part b → a ≡ b
+pub one_automaton : (m : MemoState) (l : MeetState) (part : PartAuto) (a b : Automaton) → IsPart m l part a → IsPart m l part b → a ≡ b
 one_automaton m l (Fresh c) a b left right = sym left ∙ right
 one_automaton m l (Kept place) a b left right =
     ap (λ (entry : Formula × Automaton). entry.1) (same_Some (left.0, a) (right.0, b) (sym left.1 ∙ right.1))
@@ -42,7 +42,7 @@ one_automaton m l (Named set) a b left right = same_Some a b (sym left ∙ right
 one_automaton m l (Shared auto) a b left right = sym left ∙ right
 
 -- entries are only added
-pub part-after : {old new : MemoState} {fs : List Tree} {l k : LevelState} (part : Part) (a : Automaton) → IsPart old l part a → IsMemoAfter old new fs → LevelGrows l k → IsPart new k part a
+pub part-after : {old new : MemoState} {fs : List Tree} {l k : MeetState} (part : PartAuto) (a : Automaton) → IsPart old l part a → IsMemoAfter old new fs → MeetsGrow l k → IsPart new k part a
 part-after {old} {new} {fs} {l} {k} (Fresh c) a has after grows = has
 part-after {old} {new} {fs} {l} {k} (Kept place) a has after grows = (
   has.0,
@@ -58,14 +58,14 @@ part-after {old} {new} {fs} {l} {k} (Shared auto) a has after grows = has
 pub same_few : {n m : ℕ} (a : Automaton) → n ≡ m → length a.accept ≤ n → length a.accept ≤ m
 same_few a same = subst (λ n. length a.accept ≤ n) same
 
-module _ {f : Tree} {e : ℕ → SetOf} {course : Course} {l : LevelState} where
+module _ {f : Tree} {e : ℕ → SetOf} {standing : Standing} {l : MeetState} where
   pub part-fresh : {old new : MemoState} {a : Automaton} {last : ℕ} {made : Remembered} → made ≡ record { part = Fresh a; done = last }
-      → AllReached a → (0 < length (steps f) → length a.accept ≤ old.budget) → IsRemembered f e course old new a last → IsRememberedPart f e course old new l made
+      → AllReached a → (0 < length (steps f) → length a.accept ≤ old.budget) → IsRemembered f e standing old new a last → IsRememberedPart f e standing old new l made
   part-fresh {old = old} {new = new} {a = a} is reached few remembered =
-      subst (IsRememberedPart f e course old new l) (sym is) (record { auto = a; has = refl; reached = reached; few = few; remembered = remembered })
+      subst (IsRememberedPart f e standing old new l) (sym is) (record { auto = a; has = refl; reached = reached; few = few; remembered = remembered })
 
-  pub part-whole : {m : MemoState} {a : Automaton} {part : Part} → IsPart m l part a → AllReached a → steps f ≡ [] → Decides a f (members e)
-      → IsRememberedPart f e course m m l (record { part = part; done = course.before })
+  pub part-whole : {m : MemoState} {a : Automaton} {part : PartAuto} → IsPart m l part a → AllReached a → steps f ≡ [] → Decides a f (members e)
+      → IsRememberedPart f e standing m m l (record { part = part; done = standing.before })
   part-whole {a = a} has reached none decides = record {
     auto = a;
     has = has;
@@ -74,12 +74,12 @@ module _ {f : Tree} {e : ℕ → SetOf} {course : Course} {l : LevelState} where
     remembered = remembered_leaf none decides;
   }
 
-  pub part-leaf : {m : MemoState} {a : Automaton} {made : Remembered} → made ≡ record { part = Fresh a; done = course.before } → AllReached a → steps f ≡ [] → Decides a f (members e)
-      → IsRememberedPart f e course m m l made
-  part-leaf {m = m} is reached none decides = subst (IsRememberedPart f e course m m l) (sym is) (part-whole refl reached none decides)
+  pub part-leaf : {m : MemoState} {a : Automaton} {made : Remembered} → made ≡ record { part = Fresh a; done = standing.before } → AllReached a → steps f ≡ [] → Decides a f (members e)
+      → IsRememberedPart f e standing m m l made
+  part-leaf {m = m} is reached none decides = subst (IsRememberedPart f e standing m m l) (sym is) (part-whole refl reached none decides)
 
-  pub part-found : {m : MemoState} {place last : ℕ} → is_recalled course.recall f ≡ true → last ≡ course.before + length (steps f) → IsEntryAt m f place
-      → IsRememberedPart f e course m (record m { found = counted m.found }) l (record { part = Kept place; done = last })
+  pub part-found : {m : MemoState} {place last : ℕ} → is_recalled standing.recall f ≡ true → last ≡ standing.before + length (steps f) → IsEntryAt m f place
+      → IsRememberedPart f e standing m (record m { found = counted m.found }) l (record { part = Kept place; done = last })
   part-found {m = m} {place = place} recalled counts at = record {
     auto = at.auto;
     has = (at.formula, at.there);
@@ -88,10 +88,10 @@ module _ {f : Tree} {e : ℕ → SetOf} {course : Course} {l : LevelState} where
     remembered = remembered_found recalled counts (known-at m f place at) at.entry;
   }
 
-  module _ {old new : MemoState} {made : Remembered} (part : IsRememberedPart f e course old new l made) where
-    -- the memo and the level have its automaton, and it is no other
-    pub lent : {a : Automaton} → IsPart new l made.part a → IsRemembered f e course old new a made.done
-    lent {a = a} has = subst (λ b. IsRemembered f e course old new b made.done) (one_automaton new l made.part part.auto a part.has has) part.remembered
+  module _ {old new : MemoState} {made : Remembered} (part : IsRememberedPart f e standing old new l made) where
+    -- the memo and the table of meets have its automaton, and it is no other
+    pub lent : {a : Automaton} → IsPart new l made.part a → IsRemembered f e standing old new a made.done
+    lent {a = a} has = subst (λ b. IsRemembered f e standing old new b made.done) (one_automaton new l made.part part.auto a part.has has) part.remembered
 
     pub lent-reached : {a : Automaton} → IsPart new l made.part a → AllReached a
     lent-reached {a = a} has = subst AllReached (one_automaton new l made.part part.auto a part.has has) part.reached
@@ -107,14 +107,14 @@ module _ {f : Tree} {e : ℕ → SetOf} {course : Course} {l : LevelState} where
         omega (arith, fewer, few)
 
     -- also when they have grown since
-    pub lent-later : {later : MemoState} {fs : List Tree} {k : LevelState} {a : Automaton} → IsMemoAfter new later fs → LevelGrows l k → IsPart later k made.part a
-        → IsRemembered f e course old new a made.done
+    pub lent-later : {later : MemoState} {fs : List Tree} {k : MeetState} {a : Automaton} → IsMemoAfter new later fs → MeetsGrow l k → IsPart later k made.part a
+        → IsRemembered f e standing old new a made.done
     lent-later {later = later} {fs = fs} {k = k} {a = a} after grows has =
         let still = part-after made.part part.auto part.has after grows in
-        subst (λ b. IsRemembered f e course old new b made.done) (one_automaton later k made.part part.auto a still has) part.remembered
+        subst (λ b. IsRemembered f e standing old new b made.done) (one_automaton later k made.part part.auto a still has) part.remembered
 
 -- made of a whole formula: as its last step made it, or reduced
-pub compiled_on : {f : Tree} {e : ℕ → SetOf} {r : Recall} {old new : MemoState} {l : LevelState} {made : Remembered} {a : Automaton}
+pub compiled_on : {f : Tree} {e : ℕ → SetOf} {r : Recall} {old new : MemoState} {l : MeetState} {made : Remembered} {a : Automaton}
     → IsRememberedPart f e (start r) old new l made → ((b : Automaton) → IsPart new l made.part b → AcceptSame b a)
     → (HasStep f → IsPart new l made.part a) → (length (steps f) ≤ 0 → IsReduced a) → IsCompiledOn f e 0 old.budget a
 compiled_on {f = f} {l = l} {a = a} part same as_it_is reduced = record {

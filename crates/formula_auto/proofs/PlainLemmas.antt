@@ -8,9 +8,9 @@ use Rattle.formula_auto.specs.Remembered.{IsStopped}
 use Rattle.formula_auto.specs.Connected.{connect}
 use Rattle.auto_bool.specs.declared.connective.Connective.{Connective}
 use Rattle.auto_bool.specs.declared.connective.Connective.TheVariants as connective
-use Rattle.formula_auto.specs.declared.course.Course.{Course}
-use Rattle.formula_auto.specs.declared.course.Recall.{Recall}
-use Rattle.formula_auto.specs.declared.course.Recall.TheVariants as recall
+use Rattle.formula_auto.specs.declared.standing.Standing.{Standing}
+use Rattle.formula_auto.specs.declared.standing.Recall.{Recall}
+use Rattle.formula_auto.specs.declared.standing.Recall.TheVariants as recall
 use Rattle.formula_auto.specs.declared.errors.CompileError.{CompileError}
 use Rattle.formula_auto.specs.declared.errors.CompileError.TheVariants.{Over}
 use Rattle.track_word.specs.declared.tracks.Var.{Var}
@@ -155,8 +155,8 @@ of_two recall.Nothing connective.And f g h one = record { parts = λ n. refl; si
 of_two recall.Nothing connective.Or f g h one = record { parts = λ n. refl; size = both_fit f g (Or f g) }
 of_two recall.Nothing connective.AndNot f g h one = record { parts = λ n. refl; size = both_fit f g (And f (Not g)) }
 
-module _ {course : Course} {h f : Tree} {a b : MemoState} {why : CompileError} (one : IsOfOne course.recall h f) where
-  pub stopped_one : IsStopped f course a b why → IsStopped h course a b why
+module _ {standing : Standing} {h f : Tree} {a b : MemoState} {why : CompileError} (one : IsOfOne standing.recall h f) where
+  pub stopped_one : IsStopped f standing a b why → IsStopped h standing a b why
   stopped_one part = record {
     done = part.done;
     few = omega (arith, part.few, one.size);
@@ -164,7 +164,7 @@ module _ {course : Course} {h f : Tree} {a b : MemoState} {why : CompileError} (
     after = subst (IsMemoAfter a b) (sym (one.parts part.done)) part.after;
   }
 
-  pub stopped_at_one : IsMemoAfter a b (recalled_parts course.recall f) → ((step : ℕ) → why ≡ Over step → step ≡ course.before + length (steps f) + 1) → IsStopped h course a b why
+  pub stopped_at_one : IsMemoAfter a b (recalled_parts standing.recall f) → ((step : ℕ) → why ≡ Over step → step ≡ standing.before + length (steps f) + 1) → IsStopped h standing a b why
   stopped_at_one after number = record {
     done = length (steps f);
     few = one.size;
@@ -204,8 +204,8 @@ module _ {r : Recall} {h f g : Tree} (two : IsOfTwo r h f g) where
     pub after_two : IsMemoAfter b c (recalled_parts r g) → IsMemoAfter a c (recalled_parts r h)
     after_two right = subst (IsMemoAfter a c) two_all (after-append left right)
 
-module _ {course : Course} {h f g : Tree} (two : IsOfTwo course.recall h f g) where
-  pub stopped_left : {a b : MemoState} {why : CompileError} → IsStopped f course a b why → IsStopped h course a b why
+module _ {standing : Standing} {h f g : Tree} (two : IsOfTwo standing.recall h f g) where
+  pub stopped_left : {a b : MemoState} {why : CompileError} → IsStopped f standing a b why → IsStopped h standing a b why
   stopped_left {a = a} {b = b} part = record {
     done = part.done;
     few = omega (arith, part.few, two.size);
@@ -213,8 +213,8 @@ module _ {course : Course} {h f g : Tree} (two : IsOfTwo course.recall h f g) wh
     after = subst (IsMemoAfter a b) (two_left two part.done part.few) part.after;
   }
 
-  module _ {a b c : MemoState} {why : CompileError} (left : IsMemoAfter a b (recalled_parts course.recall f)) where
-    pub stopped_right : {last : ℕ} → last ≡ course.before + length (steps f) → IsStopped g (record course { before = last }) b c why → IsStopped h course a c why
+  module _ {a b c : MemoState} {why : CompileError} (left : IsMemoAfter a b (recalled_parts standing.recall f)) where
+    pub stopped_right : {last : ℕ} → last ≡ standing.before + length (steps f) → IsStopped g (record standing { before = last }) b c why → IsStopped h standing a c why
     stopped_right counts part = record {
       done = length (steps f) + part.done;
       few = omega (arith, part.few, two.size);
@@ -222,8 +222,8 @@ module _ {course : Course} {h f g : Tree} (two : IsOfTwo course.recall h f g) wh
       after = after_some two left part.done part.after;
     }
 
-    pub stopped_at_two : IsMemoAfter b c (recalled_parts course.recall g)
-        → ((step : ℕ) → why ≡ Over step → step ≡ course.before + length (steps f) + length (steps g) + 1) → IsStopped h course a c why
+    pub stopped_at_two : IsMemoAfter b c (recalled_parts standing.recall g)
+        → ((step : ℕ) → why ≡ Over step → step ≡ standing.before + length (steps f) + length (steps g) + 1) → IsStopped h standing a c why
     stopped_at_two right number = record {
       done = length (steps f) + length (steps g);
       few = omega (arith, two.size);

@@ -8,15 +8,15 @@ use Rattle.formula_auto.specs.Compiled.{IsMade}
 use Rattle.formula_auto.specs.Nodes.{AcceptSame}
 use Rattle.formula_auto.specs.Recalled.{is_recalled, recalled_parts}
 use Rattle.formula_auto.specs.MemoState.{MemoState, IsMemoAfter}
-use Rattle.formula_auto.specs.LevelState.{LevelState}
+use Rattle.formula_auto.specs.MeetState.{MeetState}
 use Rattle.formula_auto.specs.PartOf.{IsRememberedPart}
 use Rattle.formula_auto.specs.Short.{is_short, IsShort, IsShortPart}
-use Rattle.formula_auto.specs.declared.course.Course.{Course}
-use Rattle.formula_auto.specs.declared.course.Recall.{Recall}
-use Rattle.formula_auto.specs.declared.course.Recall.TheVariants.{Plain, Nothing}
+use Rattle.formula_auto.specs.declared.standing.Standing.{Standing}
+use Rattle.formula_auto.specs.declared.standing.Recall.{Recall}
+use Rattle.formula_auto.specs.declared.standing.Recall.TheVariants.{Plain, Nothing}
 use Rattle.formula_auto.specs.declared.plain.TheConstants.{MOST_SHORT_STEPS}
-use Rattle.formula_auto.specs.declared.part.Part.{Part}
-use Rattle.formula_auto.specs.declared.part.Remembered.{Remembered}
+use Rattle.formula_auto.specs.declared.part_auto.PartAuto.{PartAuto}
+use Rattle.formula_auto.specs.declared.part_auto.Remembered.{Remembered}
 use Rattle.formula_auto.proofs.NoSets.{Decides-no_set, steps-no_set, FirstOver-no_set}
 use Rattle.formula_auto.proofs.FirstOvers.{FirstOver-from}
 use Rattle.formula_auto.proofs.MemoLemmas.{no_member, stepless}
@@ -61,9 +61,9 @@ short_same short same reached fewer = record {
       record { made = made_same same was.made; reached = reached; few = λ some. let few = was.few some in omega (arith, fewer, few) };
 }
 
-module _ {f : Tree} {course : Course} {old new : MemoState} {l : LevelState} {e : ℕ → SetOf} where
+module _ {f : Tree} {standing : Standing} {old new : MemoState} {l : MeetState} {e : ℕ → SetOf} where
   -- what compiling it made may be kept
-  pub short_part : {made : Remembered} → is_short f ≡ true → IsRememberedPart f e course old new l made → IsShortPart new l f made.part
+  pub short_part : {made : Remembered} → is_short f ≡ true → IsRememberedPart f e standing old new l made → IsShortPart new l f made.part
   short_part short part = record {
     auto = part.auto;
     has = part.has;
@@ -72,8 +72,8 @@ module _ {f : Tree} {course : Course} {old new : MemoState} {l : LevelState} {e 
   }
 
   -- and what is kept serves again
-  pub part-short : {part : Part} {last : ℕ} → IsShortPart new l f part → last ≡ course.before + length (steps f) → IsMemoAfter old new (recalled_parts course.recall f)
-      → IsRememberedPart f e course old new l (record { part = part; done = last })
+  pub part-short : {part : PartAuto} {last : ℕ} → IsShortPart new l f part → last ≡ standing.before + length (steps f) → IsMemoAfter old new (recalled_parts standing.recall f)
+      → IsRememberedPart f e standing old new l (record { part = part; done = last })
   part-short part counts after =
       let short : IsShort old.budget f part.auto = subst (λ b. IsShort b f part.auto) after.budget part.short in
       let was = short.compiled e in
@@ -86,7 +86,7 @@ module _ {f : Tree} {course : Course} {old new : MemoState} {l : LevelState} {e 
           counts = counts;
           made = record {
             decides = was.made.decides;
-            within = FirstOver-from (steps f) (members e) old.budget 1 (course.before + 1) was.made.within;
+            within = FirstOver-from (steps f) (members e) old.budget 1 (standing.before + 1) was.made.within;
           };
           after = after;
         };

@@ -22,9 +22,9 @@ use Rattle.formula_auto.specs.Step.{FirstOver, Exceeds}
 use Rattle.formula_auto.specs.MemoState.{MemoState, IsEntry, known, counted, IsMemoAfter, IsMemoStopped}
 use Rattle.formula_auto.specs.Remembered.{IsRemembered, IsStopped, IsInterrupted}
 use Rattle.formula_auto.specs.declared.pair.Pair.{Pair}
-use Rattle.formula_auto.specs.declared.course.Course.{Course}
-use Rattle.formula_auto.specs.declared.course.Recall.{Recall}
-use Rattle.formula_auto.specs.declared.course.Recall.TheVariants.{Plain, Nothing}
+use Rattle.formula_auto.specs.declared.standing.Standing.{Standing}
+use Rattle.formula_auto.specs.declared.standing.Recall.{Recall}
+use Rattle.formula_auto.specs.declared.standing.Recall.TheVariants.{Plain, Nothing}
 use Rattle.formula_auto.specs.declared.errors.CompileError.{CompileError}
 use Rattle.formula_auto.specs.declared.errors.CompileError.TheVariants.{Over, Memory}
 use Rattle.formula_auto.proofs.Compiles.{made_two, made_ex, step_two, step_ex, error_left, error_right, error_ex, error_not}
@@ -39,47 +39,47 @@ number_of : (step : ℕ) (why : Grown) (k : ℕ) → step_error step why ≡ Ove
 number_of step grown.Over k is = cc
 number_of step grown.Memory k is = absurd (cc)
 
-module _ {e : ℕ → SetOf} {course : Course} {f : Tree} {m0 m1 : MemoState} where
-  module _ (outside : is_recalled course.recall (Not f) ≡ false) where
-    pub interrupted_not : {why : CompileError} → IsInterrupted f e course m0 m1 why → IsInterrupted (Not f) e course m0 m1 why
+module _ {e : ℕ → SetOf} {standing : Standing} {f : Tree} {m0 m1 : MemoState} where
+  module _ (outside : is_recalled standing.recall (Not f) ≡ false) where
+    pub interrupted_not : {why : CompileError} → IsInterrupted f e standing m0 m1 why → IsInterrupted (Not f) e standing m0 m1 why
     interrupted_not {why = why} part = record {
-      error = error_not e m0.budget course.before f why part.error;
-      stopped = stopped_one (of_one-not course.recall f outside) part.stopped;
+      error = error_not e m0.budget standing.before f why part.error;
+      stopped = stopped_one (of_one-not standing.recall f outside) part.stopped;
     }
 
-    module _ {a : Automaton} {last : ℕ} (part : IsRemembered f e course m0 m1 a last) where
-      pub remembered_not : {c : Automaton} → DecidesNot a c → IsRemembered (Not f) e course m0 m1 c last
+    module _ {a : Automaton} {last : ℕ} (part : IsRemembered f e standing m0 m1 a last) where
+      pub remembered_not : {c : Automaton} → DecidesNot a c → IsRemembered (Not f) e standing m0 m1 c last
       remembered_not decides = record {
         counts = part.counts;
         made = record { decides = decides f e part.made.decides; within = part.made.within };
-        after = after_one (of_one-not course.recall f outside) part.after;
+        after = after_one (of_one-not standing.recall f outside) part.after;
       }
 
-      pub interrupted_at_not : {why : CompileError} → why ≡ Memory → IsInterrupted (Not f) e course m0 m1 why
+      pub interrupted_at_not : {why : CompileError} → why ≡ Memory → IsInterrupted (Not f) e standing m0 m1 why
       interrupted_at_not is =
-          let stopped : IsStopped (Not f) course m0 m1 Memory = stopped_at_one (of_one-not course.recall f outside) part.after (λ step over. absurd (cc)) in
-          subst (IsInterrupted (Not f) e course m0 m1) (sym is) (record { error = tt; stopped = stopped })
+          let stopped : IsStopped (Not f) standing m0 m1 Memory = stopped_at_one (of_one-not standing.recall f outside) part.after (λ step over. absurd (cc)) in
+          subst (IsInterrupted (Not f) e standing m0 m1) (sym is) (record { error = tt; stopped = stopped })
 
-  module _ {x : Var} (outside : is_recalled course.recall (Ex x f) ≡ false) where
-    pub interrupted_ex : {why : CompileError} → IsInterrupted f e course m0 m1 why → IsInterrupted (Ex x f) e course m0 m1 why
+  module _ {x : Var} (outside : is_recalled standing.recall (Ex x f) ≡ false) where
+    pub interrupted_ex : {why : CompileError} → IsInterrupted f e standing m0 m1 why → IsInterrupted (Ex x f) e standing m0 m1 why
     interrupted_ex {why = why} part = record {
-      error = error_ex e m0.budget course.before x f why part.error;
-      stopped = stopped_one (of_one-ex course.recall x f outside) part.stopped;
+      error = error_ex e m0.budget standing.before x f why part.error;
+      stopped = stopped_one (of_one-ex standing.recall x f outside) part.stopped;
     }
 
-    module _ {a : Automaton} {last : ℕ} (part : IsRemembered f e course m0 m1 a last) where
-      pub remembered_ex : {c : Automaton} → DecidesEx x a c → (ForgettingExceeds x a m1.budget → ⊥) → IsRemembered (Ex x f) e course m0 m1 c (last + 1)
+    module _ {a : Automaton} {last : ℕ} (part : IsRemembered f e standing m0 m1 a last) where
+      pub remembered_ex : {c : Automaton} → DecidesEx x a c → (ForgettingExceeds x a m1.budget → ⊥) → IsRemembered (Ex x f) e standing m0 m1 c (last + 1)
       remembered_ex {c = c} decides none = record {
         counts = omega (arith, part.counts, length-append (steps f) (Ex x f ∷ []));
-        made = made_ex e m0.budget course.before x f a part.made (decides f e part.made.decides)
+        made = made_ex e m0.budget standing.before x f a part.made (decides f e part.made.decides)
             (subst (λ b. ForgettingExceeds x a b → ⊥) part.after.budget none);
-        after = after_one (of_one-ex course.recall x f outside) part.after;
+        after = after_one (of_one-ex standing.recall x f outside) part.after;
       }
 
-      pub interrupted_at_ex : (why : Grown) → (why ≡ grown.Over → ForgettingExceeds x a m1.budget) → IsInterrupted (Ex x f) e course m0 m1 (step_error (last + 1) why)
+      pub interrupted_at_ex : (why : Grown) → (why ≡ grown.Over → ForgettingExceeds x a m1.budget) → IsInterrupted (Ex x f) e standing m0 m1 (step_error (last + 1) why)
       interrupted_at_ex why over = record {
-        error = step_ex e m0.budget course.before x f a part.made last why part.counts (subst (λ b. why ≡ grown.Over → ForgettingExceeds x a b) part.after.budget over);
-        stopped = stopped_at_one (of_one-ex course.recall x f outside) part.after
+        error = step_ex e m0.budget standing.before x f a part.made last why part.counts (subst (λ b. why ≡ grown.Over → ForgettingExceeds x a b) part.after.budget over);
+        stopped = stopped_at_one (of_one-ex standing.recall x f outside) part.after
             (λ step is. let at = number_of (last + 1) why step is in omega (arith, at, part.counts));
       }
 
@@ -96,23 +96,23 @@ right_of pair = tree_of pair.right.now
 of_pair : (r : Recall) (pair : Pair) → is_recalled r (connected pair) ≡ false → MayBeOneStep r pair.connective (right_of pair) → IsOfTwo r (connected pair) (left_of pair) (right_of pair)
 of_pair r pair outside one = of_two r pair.connective (left_of pair) (right_of pair) outside one
 
-module _ (pair : Pair) {e : ℕ → SetOf} {course : Course} {m0 m1 : MemoState} (outside : is_recalled course.recall (connected pair) ≡ false)
-    (one : MayBeOneStep course.recall pair.connective (right_of pair)) where
-  pub interrupted_left : {why : CompileError} → IsInterrupted (left_of pair) e course m0 m1 why → IsInterrupted (connected pair) e course m0 m1 why
+module _ (pair : Pair) {e : ℕ → SetOf} {standing : Standing} {m0 m1 : MemoState} (outside : is_recalled standing.recall (connected pair) ≡ false)
+    (one : MayBeOneStep standing.recall pair.connective (right_of pair)) where
+  pub interrupted_left : {why : CompileError} → IsInterrupted (left_of pair) e standing m0 m1 why → IsInterrupted (connected pair) e standing m0 m1 why
   interrupted_left {why = why} part = record {
-    error = error_left e m0.budget course.before pair.connective (left_of pair) (right_of pair) why part.error;
-    stopped = stopped_left (of_pair course.recall pair outside one) part.stopped;
+    error = error_left e m0.budget standing.before pair.connective (left_of pair) (right_of pair) why part.error;
+    stopped = stopped_left (of_pair standing.recall pair outside one) part.stopped;
   }
 
-  module _ {m2 : MemoState} {a : Automaton} {last : ℕ} (left : IsRemembered (left_of pair) e course m0 m1 a last) where
-    pub interrupted_right : {why : CompileError} → IsInterrupted (right_of pair) e (record course { before = last }) m1 m2 why → IsInterrupted (connected pair) e course m0 m2 why
+  module _ {m2 : MemoState} {a : Automaton} {last : ℕ} (left : IsRemembered (left_of pair) e standing m0 m1 a last) where
+    pub interrupted_right : {why : CompileError} → IsInterrupted (right_of pair) e (record standing { before = last }) m1 m2 why → IsInterrupted (connected pair) e standing m0 m2 why
     interrupted_right {why = why} part = record {
-      error = error_right e m0.budget course.before pair.connective (left_of pair) (right_of pair) a last left.counts left.made why
+      error = error_right e m0.budget standing.before pair.connective (left_of pair) (right_of pair) a last left.counts left.made why
           (subst (λ b. IsCompileError (right_of pair) e last b why) left.after.budget part.error);
-      stopped = stopped_right (of_pair course.recall pair outside one) left.after left.counts part.stopped;
+      stopped = stopped_right (of_pair standing.recall pair outside one) left.after left.counts part.stopped;
     }
 
-    module _ {b : Automaton} {end : ℕ} (right : IsRemembered (right_of pair) e (record course { before = last }) m1 m2 b end) where
+    module _ {b : Automaton} {end : ℕ} (right : IsRemembered (right_of pair) e (record standing { before = last }) m1 m2 b end) where
       same_budget : m2.budget ≡ m0.budget
       same_budget = right.after.budget ∙ left.after.budget
 
@@ -120,20 +120,20 @@ module _ (pair : Pair) {e : ℕ → SetOf} {course : Course} {m0 m1 : MemoState}
       right_made = subst (λ n. IsMade (right_of pair) e last n b) left.after.budget right.made
 
       pub remembered_two : {c : Automaton} → Decides c (connected pair) (members e) → (Exceeds (connected pair) (members e) m2.budget → ⊥)
-          → IsRemembered (connected pair) e course m0 m2 c (end + 1)
+          → IsRemembered (connected pair) e standing m0 m2 c (end + 1)
       remembered_two {c = c} decides none = record {
         counts = omega (arith, left.counts, right.counts, size-connect pair.connective (left_of pair) (right_of pair));
-        made = made_two e m0.budget course.before pair.connective (left_of pair) (right_of pair) a last left.counts left.made b end right.counts right_made
+        made = made_two e m0.budget standing.before pair.connective (left_of pair) (right_of pair) a last left.counts left.made b end right.counts right_made
             decides (subst (λ n. Exceeds (connected pair) (members e) n → ⊥) same_budget none);
-        after = after_two (of_pair course.recall pair outside one) left.after right.after;
+        after = after_two (of_pair standing.recall pair outside one) left.after right.after;
       }
 
       pub interrupted_at_two : (why : Grown) → (why ≡ grown.Over → Exceeds (connected pair) (members e) m2.budget)
-          → IsInterrupted (connected pair) e course m0 m2 (step_error (end + 1) why)
+          → IsInterrupted (connected pair) e standing m0 m2 (step_error (end + 1) why)
       interrupted_at_two why over = record {
-        error = step_two e m0.budget course.before pair.connective (left_of pair) (right_of pair) a last left.counts left.made b end right.counts right_made why
+        error = step_two e m0.budget standing.before pair.connective (left_of pair) (right_of pair) a last left.counts left.made b end right.counts right_made why
             (subst (λ n. why ≡ grown.Over → Exceeds (connected pair) (members e) n) same_budget over);
-        stopped = stopped_at_two (of_pair course.recall pair outside one) left.after right.after
+        stopped = stopped_at_two (of_pair standing.recall pair outside one) left.after right.after
             (λ step is. let at = number_of (end + 1) why step is in omega (arith, at, left.counts, right.counts));
       }
 
@@ -141,64 +141,64 @@ module _ (pair : Pair) {e : ℕ → SetOf} {course : Course} {m0 m1 : MemoState}
       on_theirs : StepExceeds a b m2.budget ↔ Exceeds (connected pair) (members e) m2.budget
       on_theirs = Exceeds-connect (members e) (left_of pair) (right_of pair) a b m2.budget left.made.decides right.made.decides pair.connective
 
-      pub remembered_both : {c : Automaton} → DecidesBoth pair.connective a b c → (StepExceeds a b m2.budget → ⊥) → IsRemembered (connected pair) e course m0 m2 c (end + 1)
+      pub remembered_both : {c : Automaton} → DecidesBoth pair.connective a b c → (StepExceeds a b m2.budget → ⊥) → IsRemembered (connected pair) e standing m0 m2 c (end + 1)
       remembered_both decides none = remembered_two (decides (left_of pair) (right_of pair) e left.made.decides right.made.decides) (λ over. none (on_theirs.1 over))
 
-      pub interrupted_at_both : (why : Grown) → (why ≡ grown.Over → StepExceeds a b m2.budget) → IsInterrupted (connected pair) e course m0 m2 (step_error (end + 1) why)
+      pub interrupted_at_both : (why : Grown) → (why ≡ grown.Over → StepExceeds a b m2.budget) → IsInterrupted (connected pair) e standing m0 m2 (step_error (end + 1) why)
       interrupted_at_both why over = interrupted_at_two why (λ is. on_theirs.0 (over is))
 
 -- another automaton that decides the formula serves as well
-pub remembered_as : {f : Tree} {e : ℕ → SetOf} {course : Course} {m0 m1 : MemoState} {a c : Automaton} {last : ℕ} → IsRemembered f e course m0 m1 a last
-    → Decides c f (members e) → IsRemembered f e course m0 m1 c last
+pub remembered_as : {f : Tree} {e : ℕ → SetOf} {standing : Standing} {m0 m1 : MemoState} {a c : Automaton} {last : ℕ} → IsRemembered f e standing m0 m1 a last
+    → Decides c f (members e) → IsRemembered f e standing m0 m1 c last
 remembered_as made decides = record {
   counts = made.counts;
   made = record { decides = decides; within = made.made.within };
   after = made.after;
 }
 
-module _ {e : ℕ → SetOf} {course : Course} {f : Tree} {m : MemoState} where
+module _ {e : ℕ → SetOf} {standing : Standing} {f : Tree} {m : MemoState} where
   -- without a step nothing is entered and nothing taken
-  pub remembered_leaf : {a : Automaton} → steps f ≡ [] → Decides a f (members e) → IsRemembered f e course m m a course.before
+  pub remembered_leaf : {a : Automaton} → steps f ≡ [] → Decides a f (members e) → IsRemembered f e standing m m a standing.before
   remembered_leaf none decides = record {
     counts = (let size : length (steps f) ≡ 0 = ap length none in omega (arith, size));
-    made = record { decides = decides; within = subst (λ fs. FirstOver fs (members e) m.budget (course.before + 1) None) (sym none) refl };
-    after = subst (IsMemoAfter m m) (sym (recalled-stepless course.recall f (length (steps f)) none)) (after-none m);
+    made = record { decides = decides; within = subst (λ fs. FirstOver fs (members e) m.budget (standing.before + 1) None) (sym none) refl };
+    after = subst (IsMemoAfter m m) (sym (recalled-stepless standing.recall f (length (steps f)) none)) (after-none m);
   }
 
-  pub interrupted_memory : {why : CompileError} → why ≡ Memory → IsInterrupted f e course m m why
-  interrupted_memory is = subst (IsInterrupted f e course m m) (sym is) (record { error = tt; stopped = stopped-memory (after-none m) })
+  pub interrupted_memory : {why : CompileError} → why ≡ Memory → IsInterrupted f e standing m m why
+  interrupted_memory is = subst (IsInterrupted f e standing m m) (sym is) (record { error = tt; stopped = stopped-memory (after-none m) })
 
-  pub remembered_found : {a : Automaton} {last : ℕ} → is_recalled course.recall f ≡ true → last ≡ course.before + length (steps f) → Contains (known m) f → IsEntry m.budget f a
-      → IsRemembered f e course m (record m { found = counted m.found }) a last
+  pub remembered_found : {a : Automaton} {last : ℕ} → is_recalled standing.recall f ≡ true → last ≡ standing.before + length (steps f) → Contains (known m) f → IsEntry m.budget f a
+      → IsRemembered f e standing m (record m { found = counted m.found }) a last
   remembered_found {a = a} recalled counts there entry = record {
     counts = counts;
-    made = made-of_entry f e course.before m.budget a entry;
-    after = subst (IsMemoAfter m (record m { found = counted m.found })) (sym (recalled-itself course.recall f recalled)) (after-known m f there);
+    made = made-of_entry f e standing.before m.budget a entry;
+    after = subst (IsMemoAfter m (record m { found = counted m.found })) (sym (recalled-itself standing.recall f recalled)) (after-known m f there);
   }
 
   -- memory ran out after the last step
-  pub interrupted_last : {m1 : MemoState} {a : Automaton} {last : ℕ} {why : CompileError} → IsRemembered f e course m m1 a last → why ≡ Memory → IsInterrupted f e course m m1 why
+  pub interrupted_last : {m1 : MemoState} {a : Automaton} {last : ℕ} {why : CompileError} → IsRemembered f e standing m m1 a last → why ≡ Memory → IsInterrupted f e standing m m1 why
   interrupted_last {m1 = m1} made is =
-      let stopped : IsStopped f course m m1 Memory = record { done = length (steps f); few = omega arith; number = λ step over. absurd (cc); after = made.after } in
-      subst (IsInterrupted f e course m m1) (sym is) (record { error = tt; stopped = stopped })
+      let stopped : IsStopped f standing m m1 Memory = record { done = length (steps f); few = omega arith; number = λ step over. absurd (cc); after = made.after } in
+      subst (IsInterrupted f e standing m m1) (sym is) (record { error = tt; stopped = stopped })
 
 -- nothing of its parts was looked up, and it is to be entered
-module _ (course : Course) {e : ℕ → SetOf} {f : Tree} {m m1 : MemoState} (recalled : is_recalled course.recall f ≡ true) where
-  pub interrupted_inside : {why : CompileError} → IsInterrupted f e (record course { recall = Nothing }) m m1 why → IsInterrupted f e course m m1 why
+module _ (standing : Standing) {e : ℕ → SetOf} {f : Tree} {m m1 : MemoState} (recalled : is_recalled standing.recall f ≡ true) where
+  pub interrupted_inside : {why : CompileError} → IsInterrupted f e (record standing { recall = Nothing }) m m1 why → IsInterrupted f e standing m m1 why
   interrupted_inside {why = why} part = record { error = part.error; stopped = stopped-inside e recalled part.error part.stopped }
 
-  module _ {a : Automaton} {last : ℕ} (made : IsRemembered f e (record course { recall = Nothing }) m m1 a last) where
-    pub remembered_entered : {new : MemoState} {c : Automaton} → AcceptSame a c → IsMemoAfter m1 new (f ∷ []) → IsRemembered f e course m new c last
+  module _ {a : Automaton} {last : ℕ} (made : IsRemembered f e (record standing { recall = Nothing }) m m1 a last) where
+    pub remembered_entered : {new : MemoState} {c : Automaton} → AcceptSame a c → IsMemoAfter m1 new (f ∷ []) → IsRemembered f e standing m new c last
     remembered_entered {new = new} same entered = record {
       counts = made.counts;
       made = made_same same made.made;
-      after = subst (IsMemoAfter m new) (sym (recalled-itself course.recall f recalled)) (after-append made.after entered);
+      after = subst (IsMemoAfter m new) (sym (recalled-itself standing.recall f recalled)) (after-append made.after entered);
     }
 
     pub may_enter : {c : Automaton} → AcceptSame a c → IsReduced c → length c.accept ≤ m.budget → IsEntry m1.budget f c
     may_enter {c = c} same reduced few =
         subst (λ b. IsEntry b f c) (sym made.after.budget)
-        (entry_of-made f e course.before m.budget c (recalled-plain course.recall f recalled) reduced few (made_same same made.made))
+        (entry_of-made f e standing.before m.budget c (recalled-plain standing.recall f recalled) reduced few (made_same same made.made))
 
     pub unknown_still : (Contains (known m) f → ⊥) → Contains (known m1) f → ⊥
     unknown_still unknown there = unknown (subst (λ fs. Contains fs f) made.after.passes.0 there)

@@ -14,7 +14,7 @@ use Rattle.formula_auto.specs.Saying.{SaysTheSame}
 use Rattle.formula_auto.specs.Step.{Exceeds}
 use Rattle.formula_auto.specs.StepError.{step_error}
 use Rattle.formula_auto.specs.MemoState.{MemoState}
-use Rattle.formula_auto.specs.LevelState.{LevelState}
+use Rattle.formula_auto.specs.MeetState.{MeetState}
 use Rattle.formula_auto.specs.PartOf.{IsPart}
 use Rattle.formula_auto.specs.Remembered.{IsRemembered}
 use Rattle.formula_auto.specs.Short.{is_short, IsShortPart}
@@ -23,14 +23,14 @@ use Rattle.formula_auto.specs.declared.chain.Link.{Link}
 use Rattle.formula_auto.specs.declared.chain.Link.TheVariants.{Made, Waiting}
 use Rattle.formula_auto.specs.declared.chain.Pending.{Pending}
 use Rattle.formula_auto.specs.declared.chain.ShortPart.{ShortPart}
-use Rattle.formula_auto.specs.declared.course.Course.{Course}
+use Rattle.formula_auto.specs.declared.standing.Standing.{Standing}
 use Rattle.formula_auto.specs.declared.errors.CompileError.{CompileError}
-use Rattle.formula_auto.specs.declared.part.Part.{Part}
-use Rattle.formula_auto.specs.declared.part.Remembered.{Remembered}
+use Rattle.formula_auto.specs.declared.part_auto.PartAuto.{PartAuto}
+use Rattle.formula_auto.specs.declared.part_auto.Remembered.{Remembered}
 
 -- the part has an automaton that decides the formula; words lead to each state, and where the formula has a step, there
 -- are no more states than the budget
-pub record IsPartOf (f : Tree) (e : ℕ → SetOf) (m : MemoState) (l : LevelState) (part : Part) : Type 0 where
+pub record IsPartOf (f : Tree) (e : ℕ → SetOf) (m : MemoState) (l : MeetState) (part : PartAuto) : Type 0 where
   pub auto : Automaton
   pub has : IsPart m l part auto
   pub reached : AllReached auto
@@ -39,7 +39,7 @@ pub record IsPartOf (f : Tree) (e : ℕ → SetOf) (m : MemoState) (l : LevelSta
 
 -- the formula says what that of the base and the rest say together, and the budget has room for all pairs of states of
 -- their automata
-pub record IsPending (f : Tree) (e : ℕ → SetOf) (m : MemoState) (l : LevelState) (pending : Pending) : Type 0 where
+pub record IsPending (f : Tree) (e : ℕ → SetOf) (m : MemoState) (l : MeetState) (pending : Pending) : Type 0 where
   pub left : Tree
   pub base : IsPartOf left e m l pending.base
   pub rest : IsShortPart m l (tree_of pending.rest.formula) pending.rest.part
@@ -50,7 +50,7 @@ pub record IsPending (f : Tree) (e : ℕ → SetOf) (m : MemoState) (l : LevelSt
   pub room : length base.auto.accept * length rest.auto.accept ≤ m.budget
 
 -- what the link has is of the formula
-abbrev pub IsLink : Tree → (ℕ → SetOf) → MemoState → LevelState → Link → Type 0
+abbrev pub IsLink : Tree → (ℕ → SetOf) → MemoState → MeetState → Link → Type 0
 IsLink f e m l (Made made) = IsPartOf f e m l made.part
 IsLink f e m l (Waiting pending) = IsPending f e m l pending
 
@@ -59,14 +59,14 @@ abbrev pub FitsAfter : Tree → Tree → Type 0
 FitsAfter f g = length (free_vars (And f g)) ≤ MOST_TRACKS
 
 -- the link is of a formula to which this one may be put
-pub record TakesNext (m : MemoState) (l : LevelState) (link : Link) (g : Tree) : Type 0 where
+pub record TakesNext (m : MemoState) (l : MeetState) (link : Link) (g : Tree) : Type 0 where
   pub left : Tree
   pub sets : ℕ → SetOf
   pub is : IsLink left sets m l link
   pub fits : FitsAfter left g
 
 -- And of the two is no step past the budget, and the link is of it; some automaton decides it, though none may be made
-pub record IsPutTo (f g : Tree) (e : ℕ → SetOf) (m : MemoState) (l : LevelState) (link : Link) : Type 0 where
+pub record IsPutTo (f g : Tree) (e : ℕ → SetOf) (m : MemoState) (l : MeetState) (link : Link) : Type 0 where
   pub is : IsLink (And f g) e m l link
   pub auto : Automaton
   pub decides : Decides auto (And f g) (members e)
@@ -77,16 +77,16 @@ link_done (Made made) = made.done
 link_done (Waiting pending) = pending.done
 
 -- the part is of each formula that the pending And may be of
-abbrev pub IsMadePart : MemoState → LevelState → Pending → Part → Type 0
+abbrev pub IsMadePart : MemoState → MeetState → Pending → PartAuto → Type 0
 IsMadePart m l pending part = (f : Tree) (e : ℕ → SetOf) → IsPending f e m l pending → IsPartOf f e m l part
 
 -- what was made of a link, after as many steps
-pub record IsMadeLink (m : MemoState) (l : LevelState) (link : Link) (made : Remembered) : Type 0 where
+pub record IsMadeLink (m : MemoState) (l : MeetState) (link : Link) (made : Remembered) : Type 0 where
   pub done : made.done ≡ link_done link
   pub is : (f : Tree) (e : ℕ → SetOf) → IsLink f e m l link → IsPartOf f e m l made.part
 
 -- after the step of this number the formula is put to each that the link before may be of
-pub record IsNextLink (m : MemoState) (l : LevelState) (before : Link) (g : Tree) (step : ℕ) (link : Link) : Type 0
+pub record IsNextLink (m : MemoState) (l : MeetState) (before : Link) (g : Tree) (step : ℕ) (link : Link) : Type 0
   where
     pub done : link_done link ≡ step
     pub puts : (f : Tree) (e : ℕ → SetOf) → FitsAfter f g → IsLink f e m l before → IsPutTo f g e m l link
@@ -97,18 +97,18 @@ pub record IsStepStopped (f g : Tree) (e : ℕ → SetOf) (budget step : ℕ) (w
   pub is : why ≡ step_error step cause
   pub over : cause ≡ grown.Over → Exceeds (And f g) (members e) budget
 
-abbrev pub IsNextStopped : MemoState → LevelState → Link → Tree → ℕ → CompileError → Type 0
+abbrev pub IsNextStopped : MemoState → MeetState → Link → Tree → ℕ → CompileError → Type 0
 IsNextStopped m l before g step why =
     (f : Tree) (e : ℕ → SetOf) → IsLink f e m l before → IsStepStopped f g e m.budget step why
 
 -- with this rest in place of its own, whatever the number of the step, the formula is put to what waits
-abbrev pub IsLonger : MemoState → LevelState → Pending → Tree → ShortPart → Type 0
+abbrev pub IsLonger : MemoState → MeetState → Pending → Tree → ShortPart → Type 0
 IsLonger m l pending g rest =
     (f : Tree) (e : ℕ → SetOf) (step : ℕ) → FitsAfter f g → IsPending f e m l pending
     → IsPutTo f g e m l (Waiting (record { base = pending.base; rest = rest; done = step }))
 
 -- the link waits with the short formula as its rest
-pub record IsBegunWith (base : Part) (g : Tree) (part : Part) (step : ℕ) (link : Link) : Type 0 where
+pub record IsBegunWith (base : PartAuto) (g : Tree) (part : PartAuto) (step : ℕ) (link : Link) : Type 0 where
   pub formula : Formula
   pub same : tree_of formula ≡ g
   pub is :
@@ -126,15 +126,15 @@ pub record HasRoom (a b : Automaton) (budget : ℕ) : Type 0 where
   pub room : length a.accept * length b.accept ≤ budget
 
 -- that of the automata of two parts
-abbrev pub HaveRoom : MemoState → LevelState → Part → Part → Type 0
+abbrev pub HaveRoom : MemoState → MeetState → PartAuto → PartAuto → Type 0
 HaveRoom m l left right = (a b : Automaton) → IsPart m l left a → IsPart m l right b → HasRoom a b m.budget
 
 -- no step of the formula exceeds the budget, the memo has passed it, and the link is of it
-pub record IsLinkedOn (f : Tree) (course : Course) (old new : MemoState) (level new_level : LevelState)
+pub record IsLinkedOn (f : Tree) (standing : Standing) (old new : MemoState) (meets new_meets : MeetState)
     (link : Link) : Type 0 where
   pub auto : Automaton
-  pub remembered : IsRemembered f (tables level.sets) course old new auto (link_done link)
-  pub is : IsLink f (tables level.sets) new new_level link
+  pub remembered : IsRemembered f (tables meets.sets) standing old new auto (link_done link)
+  pub is : IsLink f (tables meets.sets) new new_meets link
 
 abbrev pub and_of : Extension → Tree
 and_of extension = And (tree_of extension.left.now) (tree_of extension.right.now)

@@ -1,4 +1,4 @@
--- How the logic stores what a memo and a level keep.
+-- How the logic stores what a memo and a table of meets keep.
 use Rattle.std.specs.Prelude.{ℕ, List, refl}
 use Rattle.std.specs.Coded.{Coded, code_by, coded×, coded_ℕ, coded_list}
 use Rattle.auto_core.specs.Automaton.{Automaton}
@@ -6,7 +6,7 @@ use Rattle.auto_core.specs.contracts.auto.Auto as auto
 use Rattle.lin_formula.specs.declared.formula.Formula.{Formula}
 use Rattle.lin_formula.specs.contracts.formula.Formula as formula
 use Rattle.formula_auto.specs.MemoState.{MemoState}
-use Rattle.formula_auto.specs.LevelState.{LevelState}
+use Rattle.formula_auto.specs.MeetState.{MeetState}
 
 abbrev pub coded_state : Coded MemoState
 coded_state =
@@ -14,8 +14,8 @@ coded_state =
     (coded× coded_ℕ (coded× (coded_list (coded× formula.the_row.coded auto.the_row.coded)) coded_ℕ))
     (λ m. (m.budget, (m.entries, m.found))) (λ p. record { budget = p.0; entries = p.1.0; found = p.1.1 }) (λ _. refl)
 
-abbrev pub coded_level : Coded LevelState
-coded_level =
+abbrev pub coded_meets : Coded MeetState
+coded_meets =
     code_by (List Automaton × (ℕ × List (Formula × Automaton)))
     (coded× (coded_list auto.the_row.coded)
     (coded× coded_ℕ (coded_list (coded× formula.the_row.coded auto.the_row.coded))))

@@ -8,16 +8,16 @@ use Rattle.auto_bool.specs.Words.{StepExceeds}
 use Rattle.auto_bool.specs.declared.connective.Connective.{Connective}
 use Rattle.auto_bool.specs.Operands.{operand_of}
 use Rattle.formula_auto.specs.MemoState.{MemoState}
-use Rattle.formula_auto.specs.LevelState.{LevelState}
+use Rattle.formula_auto.specs.MeetState.{MeetState}
 use Rattle.formula_auto.specs.Nodes.{IsStepWithin}
 use Rattle.formula_auto.specs.PartOf.{IsPart}
-use Rattle.formula_auto.specs.declared.part.Part.{Part}
-use Rattle.formula_auto.specs.declared.part.Part.TheVariants.{Fresh}
+use Rattle.formula_auto.specs.declared.part_auto.PartAuto.{PartAuto}
+use Rattle.formula_auto.specs.declared.part_auto.PartAuto.TheVariants.{Fresh}
 use Rattle.formula_auto.specs.declared.joint.Joint.{Joint}
 use Rattle.formula_auto.specs.declared.joint.Joint.TheVariants as joint
 
 -- one of the two parts, or one of its own
-abbrev pub joint_part : Joint → Part → Part → Part
+abbrev pub joint_part : Joint → PartAuto → PartAuto → PartAuto
 joint_part (joint.Operand operand) left right = operand_of operand left right
 joint_part (joint.Made auto) left right = Fresh auto
 
@@ -27,16 +27,16 @@ Joins connective a b budget (joint.Operand operand) = IsStepWithin connective a 
 Joins connective a b budget (joint.Made c) = IsStepWithin connective a b budget c × AllReached c
 
 -- that of the automata of two parts, within the memo's budget
-abbrev pub IsJointOf : Connective → MemoState → LevelState → Part → Part → Joint → Type 0
+abbrev pub IsJointOf : Connective → MemoState → MeetState → PartAuto → PartAuto → Joint → Type 0
 IsJointOf connective m l left right joint =
     (a b : Automaton) → IsPart m l left a → IsPart m l right b → Joins connective a b m.budget joint
 
 -- their automata have few tracks together
-abbrev pub FitTogether : MemoState → LevelState → Part → Part → Type 0
+abbrev pub FitTogether : MemoState → MeetState → PartAuto → PartAuto → Type 0
 FitTogether m l left right =
     (a b : Automaton) → IsPart m l left a → IsPart m l right b → length (with_vars a.tracks b.tracks) ≤ MOST_TRACKS
 
 -- the step on their automata exceeds the memo's budget
-abbrev pub TogetherExceed : MemoState → LevelState → Part → Part → Type 0
+abbrev pub TogetherExceed : MemoState → MeetState → PartAuto → PartAuto → Type 0
 TogetherExceed m l left right =
     (a b : Automaton) → IsPart m l left a → IsPart m l right b → StepExceeds a b m.budget

@@ -26,7 +26,7 @@ pub mod PartOf
 pub mod Shortcuts
 pub mod Joints
 pub mod EntryOf
-pub mod LevelState
+pub mod MeetState
 pub mod Short
 pub mod ShortTable
 pub mod Saying

@@ -1,4 +1,4 @@
--- The automaton of a part of a formula, of its own, in a memo or in a level.
+-- The automaton of a part of a formula, of its own, in a memo or in a table of meets.
 use Rattle.std.specs.Prelude.{◌≡◌, ◌≤◌, ℕ, Some, slice_get, List, length}
 use Rattle.auto_core.specs.Automaton.{Automaton}
 use Rattle.auto_core.specs.Reduced.{AllReached}
@@ -8,24 +8,24 @@ use Rattle.lin_formula.specs.declared.formula.Formula.{Formula}
 use Rattle.lin_formula.specs.SetOf.{SetOf, members, tables}
 use Rattle.formula_auto.specs.Decides.{Decides}
 use Rattle.formula_auto.specs.MemoState.{MemoState}
-use Rattle.formula_auto.specs.LevelState.{LevelState}
+use Rattle.formula_auto.specs.MeetState.{MeetState}
 use Rattle.formula_auto.specs.Remembered.{IsRemembered, IsInterrupted}
-use Rattle.formula_auto.specs.declared.course.Course.{Course}
+use Rattle.formula_auto.specs.declared.standing.Standing.{Standing}
 use Rattle.formula_auto.specs.declared.errors.CompileError.{CompileError}
-use Rattle.formula_auto.specs.declared.part.Part.{Part}
-use Rattle.formula_auto.specs.declared.part.Part.TheVariants.{Fresh, Kept, Paired, Named, Shared}
-use Rattle.formula_auto.specs.declared.part.Remembered.{Remembered}
+use Rattle.formula_auto.specs.declared.part_auto.PartAuto.{PartAuto}
+use Rattle.formula_auto.specs.declared.part_auto.PartAuto.TheVariants.{Fresh, Kept, Paired, Named, Shared}
+use Rattle.formula_auto.specs.declared.part_auto.Remembered.{Remembered}
 
--- the part's own automaton, or a shared one, that at its place in the memo or in the level, or that of a name
-abbrev pub IsPart : MemoState → LevelState → Part → Automaton → Type 0
+-- the part's own automaton, or a shared one, that at its place in the memo or in the table of meets, or that of a name
+abbrev pub IsPart : MemoState → MeetState → PartAuto → Automaton → Type 0
 IsPart m l (Fresh a) b = a ≡ b
 IsPart m l (Kept place) b = (f : Formula) × (slice_get m.entries place ≡ Some (f, b))
 IsPart m l (Paired place) b = (f : Formula) × (slice_get l.pairs place ≡ Some (f, b))
 IsPart m l (Named set) b = slice_get l.sets set.0 ≡ Some b
 IsPart m l (Shared auto) b = auto.value ≡ b
 
--- the same entry of the memo, the same pair of the level or the same set of the table
-abbrev pub IsSamePlace : Part → Part → Type 0
+-- the same entry of the memo, the same pair of the table of meets or the same set of the table
+abbrev pub IsSamePlace : PartAuto → PartAuto → Type 0
 IsSamePlace (Kept place) (Kept other) = place ≡ other
 IsSamePlace (Paired place) (Paired other) = place ≡ other
 IsSamePlace (Named set) (Named other) = set.0 ≡ other.0
@@ -33,7 +33,7 @@ IsSamePlace _ _ = ⊥
 
 -- the part has an automaton that decides whether these variables are in the set of a number, to each state of which
 -- words lead
-pub record IsMembership (l : LevelState) (number : ℕ) (vars : List Var) (part : Part) : Type 0 where
+pub record IsMembership (l : MeetState) (number : ℕ) (vars : List Var) (part : PartAuto) : Type 0 where
   pub auto : Automaton
   pub has : (m : MemoState) → IsPart m l part auto
   pub reached : AllReached auto
@@ -41,19 +41,19 @@ pub record IsMembership (l : LevelState) (number : ℕ) (vars : List Var) (part 
 
 -- the part has the automaton that compiling it makes; words lead to each state, and where the part has a step, there
 -- are no more states than the budget
-pub record IsRememberedPart (f : Tree) (e : ℕ → SetOf) (course : Course) (old new : MemoState)
-    (level : LevelState) (made : Remembered) : Type 0 where
+pub record IsRememberedPart (f : Tree) (e : ℕ → SetOf) (standing : Standing) (old new : MemoState)
+    (meets : MeetState) (made : Remembered) : Type 0 where
   pub auto : Automaton
-  pub has : IsPart new level made.part auto
+  pub has : IsPart new meets made.part auto
   pub reached : AllReached auto
   pub few : HasStep f → length auto.accept ≤ old.budget
-  pub remembered : IsRemembered f e course old new auto made.done
+  pub remembered : IsRemembered f e standing old new auto made.done
 
--- the part has the automaton that compiling it on a level makes
-abbrev pub IsRememberedOn : Tree → Course → MemoState → MemoState → LevelState → LevelState → Remembered → Type 0
-IsRememberedOn f course old new level new_level made =
-    IsRememberedPart f (tables level.sets) course old new new_level made
+-- the part has the automaton that compiling it on a table of meets makes
+abbrev pub IsRememberedOn : Tree → Standing → MemoState → MemoState → MeetState → MeetState → Remembered → Type 0
+IsRememberedOn f standing old new meets new_meets made =
+    IsRememberedPart f (tables meets.sets) standing old new new_meets made
 
--- why a part has no automaton on a level, and the memo then
-abbrev pub IsInterruptedOn : Tree → Course → MemoState → MemoState → LevelState → CompileError → Type 0
-IsInterruptedOn f course old new level why = IsInterrupted f (tables level.sets) course old new why
+-- why a part has no automaton on a table of meets, and the memo then
+abbrev pub IsInterruptedOn : Tree → Standing → MemoState → MemoState → MeetState → CompileError → Type 0
+IsInterruptedOn f standing old new meets why = IsInterrupted f (tables meets.sets) standing old new why

@@ -5,9 +5,9 @@ use Rattle.lin_formula.specs.Tree.{Tree, symbols, steps}
 use Rattle.lin_formula.specs.SetOf.{SetOf}
 use Rattle.formula_auto.specs.Compiled.{IsCompiledOn}
 use Rattle.formula_auto.specs.MemoState.{MemoState}
-use Rattle.formula_auto.specs.LevelState.{LevelState}
+use Rattle.formula_auto.specs.MeetState.{MeetState}
 use Rattle.formula_auto.specs.PartOf.{IsPart}
-use Rattle.formula_auto.specs.declared.part.Part.{Part}
+use Rattle.formula_auto.specs.declared.part_auto.PartAuto.{PartAuto}
 use Rattle.formula_auto.specs.declared.plain.TheConstants.{MOST_SHORT_STEPS}
 
 -- has few steps, or none, and names no set
@@ -20,7 +20,7 @@ pub record IsShort (budget : ℕ) (f : Tree) (a : Automaton) : Type 0 where
   pub compiled : (e : ℕ → SetOf) → IsCompiledOn f e 0 budget a
 
 -- the part has such an automaton
-pub record IsShortPart (m : MemoState) (l : LevelState) (f : Tree) (part : Part) : Type 0 where
+pub record IsShortPart (m : MemoState) (l : MeetState) (f : Tree) (part : PartAuto) : Type 0 where
   pub auto : Automaton
   pub has : IsPart m l part auto
   pub short : IsShort m.budget f auto

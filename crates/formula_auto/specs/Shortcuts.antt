@@ -7,10 +7,10 @@ use Rattle.auto_bool.specs.declared.operand.Operand.{Operand}
 use Rattle.auto_bool.specs.declared.operand.Operand.TheVariants.{Left}
 use Rattle.auto_bool.specs.Operands.{operand_of, IsAtHand, IsNoneOf}
 use Rattle.formula_auto.specs.MemoState.{MemoState}
-use Rattle.formula_auto.specs.LevelState.{LevelState}
+use Rattle.formula_auto.specs.MeetState.{MeetState}
 use Rattle.formula_auto.specs.Nodes.{IsStepWithin}
 use Rattle.formula_auto.specs.PartOf.{IsPart, IsSamePlace}
-use Rattle.formula_auto.specs.declared.part.Part.{Part}
+use Rattle.formula_auto.specs.declared.part_auto.PartAuto.{PartAuto}
 use Rattle.formula_auto.specs.declared.shortcut.Shortcut.{Shortcut}
 use Rattle.formula_auto.specs.declared.shortcut.Shortcut.TheVariants as shortcut
 
@@ -27,13 +27,13 @@ with_itself Or = shortcut.Operand Left
 with_itself AndNot = shortcut.Nothing
 
 -- it is what the connective makes of the automata of two parts, within the memo's budget
-abbrev pub IsShortcutOf : Connective → MemoState → LevelState → Part → Part → Shortcut → Type 0
+abbrev pub IsShortcutOf : Connective → MemoState → MeetState → PartAuto → PartAuto → Shortcut → Type 0
 IsShortcutOf connective m l left right shortcut =
     (a b : Automaton) → IsPart m l left a → IsPart m l right b → Serves connective a b m.budget shortcut
 
 -- two parts are at one place, where the memo's budget has room for the states; or their product is one of them, as it is
 -- of an automaton that accepts all words or none, by a single state
-pub record IsSeen (connective : Connective) (m : MemoState) (l : LevelState) (left right : Part) : Type 0 where
+pub record IsSeen (connective : Connective) (m : MemoState) (l : MeetState) (left right : PartAuto) : Type 0 where
   pub first : Automaton
   pub second : Automaton
   pub has_first : IsPart m l left first

@@ -3,7 +3,7 @@ ghost use Rattle.std.specs.Prelude.{◌≡◌, IfSome};
 ghost use Rattle.lin_formula.specs.TreeOf.{tree_of};
 ghost use Rattle.formula_auto.specs.Chains.{IsExtension, and_of, link_done};
 
-use crate::part::{Part, Remembered};
+use crate::part_auto::{PartAuto, Remembered};
 use crate::plain::{is_short, names_set};
 use lin_formula::Formula;
 
@@ -11,13 +11,13 @@ use lin_formula::Formula;
 #[derive(Drop)]
 pub struct ShortPart {
     pub formula: Formula,
-    pub part: Part,
+    pub part: PartAuto,
 }
 
 /// And of a part and of short formulas that are put together already, which is not made yet, and the number of its last step.
 #[derive(Drop)]
 pub struct Pending {
-    pub base: Part,
+    pub base: PartAuto,
     pub rest: ShortPart,
     pub done: u32,
 }
@@ -47,7 +47,7 @@ impl Link {
 #[derive(Drop)]
 pub struct Next<'a> {
     pub formula: &'a Formula,
-    pub part: Part,
+    pub part: PartAuto,
     pub step: u32,
 }
 

@@ -15,9 +15,9 @@ ghost use Rattle.formula_auto.specs.Joints.{FitTogether, IsJointOf};
 use crate::chain::{Link, Next, Pending, ShortPart};
 use crate::errors::CompileError;
 use crate::joint::Joint;
-use crate::level::Level;
+use crate::meet_table::MeetTable;
 use crate::memo::Memo;
-use crate::part::{Part, Remembered};
+use crate::part_auto::{PartAuto, Remembered};
 use crate::steps::joined;
 use auto_bool::Connective;
 use auto_core::Auto;
@@ -36,17 +36,17 @@ impl Memo {
     pub(crate) fn closed(
         &self,
         alloc: Global,
-        level: &Level,
+        meets: &MeetTable,
         link: Link,
     ) -> Result<Remembered, AllocError>
-        requires { (f : Tree) × (e : ℕ → SetOf) × IsLink f e self.now level.now link }
-        ensures { IfOk result (IsMadeLink self.now level.now link) }
+        requires { (f : Tree) × (e : ℕ → SetOf) × IsLink f e self.now meets.now link }
+        ensures { IfOk result (IsMadeLink self.now meets.now link) }
     {
         match link {
             Link::Made(made) => Ok(made),
             Link::Waiting(pending) => {
                 let done = pending.done;
-                let part = self.put_to_base(alloc, level, pending)?;
+                let part = self.put_to_base(alloc, meets, pending)?;
                 Ok(Remembered { part, done })
             }
         }
@@ -56,14 +56,14 @@ impl Memo {
     fn put_to_base(
         &self,
         alloc: Global,
-        level: &Level,
+        meets: &MeetTable,
         pending: Pending,
-    ) -> Result<Part, AllocError>
-        requires { (f : Tree) × (e : ℕ → SetOf) × IsPending f e self.now level.now pending }
-        ensures { IfOk result (IsMadePart self.now level.now pending) }
+    ) -> Result<PartAuto, AllocError>
+        requires { (f : Tree) × (e : ℕ → SetOf) × IsPending f e self.now meets.now pending }
+        ensures { IfOk result (IsMadePart self.now meets.now pending) }
     {
         let parts = (&pending.base, &pending.rest.part);
-        match self.put_together(alloc, level, Connective::And, parts) {
+        match self.put_together(alloc, meets, Connective::And, parts) {
             Ok(joint) => Ok(joint.of(pending.base, pending.rest.part)),
             Err(Grown::Memory) => Err(AllocError),
             Err(Grown::Over) => unreachable!(),
@@ -74,21 +74,21 @@ impl Memo {
     pub(crate) fn lengthened(
         &mut self,
         alloc: Global,
-        level: &Level,
+        meets: &MeetTable,
         left: Link,
         next: Next,
     ) -> Result<Link, CompileError>
-        requires left { TakesNext self.old level.now left (tree_of next.formula.now) }
-        requires short { IsShortPart self.old level.now (tree_of next.formula.now) next.part }
+        requires left { TakesNext self.old meets.now left (tree_of next.formula.now) }
+        requires short { IsShortPart self.old meets.now (tree_of next.formula.now) next.part }
         ensures same { self.new ≡ self.old }
         ensures ok { IfOk result
-            (IsNextLink self.old level.now left (tree_of next.entry.formula.now) next.entry.step) }
+            (IsNextLink self.old meets.now left (tree_of next.entry.formula.now) next.entry.step) }
         ensures err { IfErr result
-            (IsNextStopped self.old level.now left (tree_of next.entry.formula.now) next.entry.step) }
+            (IsNextStopped self.old meets.now left (tree_of next.entry.formula.now) next.entry.step) }
     {
         match left {
-            Link::Made(made) => self.put_next(alloc, level, made, next),
-            Link::Waiting(pending) => self.prolonged(alloc, level, pending, next),
+            Link::Made(made) => self.put_next(alloc, meets, made, next),
+            Link::Waiting(pending) => self.prolonged(alloc, meets, pending, next),
         }
     }
 
@@ -96,27 +96,27 @@ impl Memo {
     fn prolonged(
         &mut self,
         alloc: Global,
-        level: &Level,
+        meets: &MeetTable,
         pending: Pending,
         next: Next,
     ) -> Result<Link, CompileError>
-        requires left { TakesNext self.old level.now (Link.Waiting pending) (tree_of next.formula.now) }
-        requires short { IsShortPart self.old level.now (tree_of next.formula.now) next.part }
+        requires left { TakesNext self.old meets.now (Link.Waiting pending) (tree_of next.formula.now) }
+        requires short { IsShortPart self.old meets.now (tree_of next.formula.now) next.part }
         ensures same { self.new ≡ self.old }
         ensures ok { IfOk result
-            (IsNextLink self.old level.now (Link.Waiting pending) (tree_of next.entry.formula.now) next.entry.step) }
+            (IsNextLink self.old meets.now (Link.Waiting pending) (tree_of next.entry.formula.now) next.entry.step) }
         ensures err { IfErr result
-            (IsNextStopped self.old level.now (Link.Waiting pending) (tree_of next.entry.formula.now) next.entry.step) }
+            (IsNextStopped self.old meets.now (Link.Waiting pending) (tree_of next.entry.formula.now) next.entry.step) }
     {
-        match self.longer(alloc, level, &pending, &next)? {
+        match self.longer(alloc, meets, &pending, &next)? {
             Some(rest) => Ok(Link::Waiting(Pending {
                 base: pending.base,
                 rest,
                 done: next.step,
             })),
             None => {
-                let made = self.closed(alloc, level, Link::Waiting(pending))?;
-                self.put_next(alloc, level, made, next)
+                let made = self.closed(alloc, meets, Link::Waiting(pending))?;
+                self.put_next(alloc, meets, made, next)
             }
         }
     }
@@ -125,46 +125,46 @@ impl Memo {
     fn put_next(
         &self,
         alloc: Global,
-        level: &Level,
+        meets: &MeetTable,
         left: Remembered,
         next: Next,
     ) -> Result<Link, CompileError>
-        requires left { TakesNext self.now level.now (Link.Made left) (tree_of next.formula.now) }
-        requires short { IsShortPart self.now level.now (tree_of next.formula.now) next.part }
+        requires left { TakesNext self.now meets.now (Link.Made left) (tree_of next.formula.now) }
+        requires short { IsShortPart self.now meets.now (tree_of next.formula.now) next.part }
         ensures ok { IfOk result
-            (IsNextLink self.now level.now (Link.Made left) (tree_of next.entry.formula.now) next.entry.step) }
+            (IsNextLink self.now meets.now (Link.Made left) (tree_of next.entry.formula.now) next.entry.step) }
         ensures err { IfErr result
-            (IsNextStopped self.now level.now (Link.Made left) (tree_of next.entry.formula.now) next.entry.step) }
+            (IsNextStopped self.now meets.now (Link.Made left) (tree_of next.entry.formula.now) next.entry.step) }
     {
-        let base = self.states_of(level, &left.part);
-        let own = self.states_of(level, &next.part);
+        let base = self.states_of(meets, &left.part);
+        let own = self.states_of(meets, &next.part);
         if self.pays(base, own) {
             return Ok(begun_with(alloc, left.part, next)?);
         }
-        self.put_at_once(alloc, level, left, next)
+        self.put_at_once(alloc, meets, left, next)
     }
 
     /// The step is taken now.
     fn put_at_once(
         &self,
         alloc: Global,
-        level: &Level,
+        meets: &MeetTable,
         left: Remembered,
         next: Next,
     ) -> Result<Link, CompileError>
-        requires left { TakesNext self.now level.now (Link.Made left) (tree_of next.formula.now) }
-        requires short { IsShortPart self.now level.now (tree_of next.formula.now) next.part }
+        requires left { TakesNext self.now meets.now (Link.Made left) (tree_of next.formula.now) }
+        requires short { IsShortPart self.now meets.now (tree_of next.formula.now) next.part }
         ensures ok { IfOk result
-            (IsNextLink self.now level.now (Link.Made left) (tree_of next.entry.formula.now) next.entry.step) }
+            (IsNextLink self.now meets.now (Link.Made left) (tree_of next.entry.formula.now) next.entry.step) }
         ensures err { IfErr result
-            (IsNextStopped self.now level.now (Link.Made left) (tree_of next.entry.formula.now) next.entry.step) }
+            (IsNextStopped self.now meets.now (Link.Made left) (tree_of next.entry.formula.now) next.entry.step) }
     {
         let Next {
             formula: _,
             part,
             step,
         } = next;
-        match self.put_together(alloc, level, Connective::And, (&left.part, &part)) {
+        match self.put_together(alloc, meets, Connective::And, (&left.part, &part)) {
             Ok(joint) => Ok(Link::Made(Remembered {
                 part: joint.of(left.part, part),
                 done: step,
@@ -177,24 +177,24 @@ impl Memo {
     fn longer(
         &mut self,
         alloc: Global,
-        level: &Level,
+        meets: &MeetTable,
         pending: &Pending,
         next: &Next,
     ) -> Result<Option<ShortPart>, AllocError>
-        requires left { TakesNext self.old level.now (Link.Waiting pending.now) (tree_of next.now.formula.now) }
-        requires short { IsShortPart self.old level.now (tree_of next.now.formula.now) next.now.part }
+        requires left { TakesNext self.old meets.now (Link.Waiting pending.now) (tree_of next.now.formula.now) }
+        requires short { IsShortPart self.old meets.now (tree_of next.now.formula.now) next.now.part }
         ensures same { self.new ≡ self.old }
         ensures longer { IfOk result
-            (λ some. IfSome some (IsLonger self.old level.now pending.now (tree_of next.now.formula.now))) }
+            (λ some. IfSome some (IsLonger self.old meets.now pending.now (tree_of next.now.formula.now))) }
     {
-        let base = self.states_of(level, &pending.base);
-        let few = self.states_of(level, &pending.rest.part);
-        let own = few * self.states_of(level, &next.part);
+        let base = self.states_of(meets, &pending.base);
+        let few = self.states_of(meets, &pending.rest.part);
+        let own = few * self.states_of(meets, &next.part);
         if !self.pays(base, own) {
             return Ok(None);
         }
-        let rest = self.together(alloc, level, &pending.rest, next)?;
-        let own = self.states_of(level, &rest.part);
+        let rest = self.together(alloc, meets, &pending.rest, next)?;
+        let own = self.states_of(meets, &rest.part);
         if !self.pays(base, own) {
             return Ok(None);
         }
@@ -205,26 +205,26 @@ impl Memo {
     fn together(
         &mut self,
         alloc: Global,
-        level: &Level,
+        meets: &MeetTable,
         rest: &ShortPart,
         next: &Next,
     ) -> Result<ShortPart, AllocError>
-        requires rest { IsShortPart self.old level.now (tree_of rest.now.formula) rest.now.part }
-        requires short { IsShortPart self.old level.now (tree_of next.now.formula.now) next.now.part }
-        requires fits { FitTogether self.old level.now rest.now.part next.now.part }
-        requires room { HaveRoom self.old level.now rest.now.part next.now.part }
+        requires rest { IsShortPart self.old meets.now (tree_of rest.now.formula) rest.now.part }
+        requires short { IsShortPart self.old meets.now (tree_of next.now.formula.now) next.now.part }
+        requires fits { FitTogether self.old meets.now rest.now.part next.now.part }
+        requires room { HaveRoom self.old meets.now rest.now.part next.now.part }
         ensures same { self.new ≡ self.old }
         ensures formula { IfOk result
             (λ made. tree_of made.formula ≡ tree.And (tree_of rest.now.formula) (tree_of next.now.formula.now)) }
-        ensures short { IfOk result (λ made. IsShortPart self.new level.now (tree_of made.formula) made.part) }
+        ensures short { IfOk result (λ made. IsShortPart self.new meets.now (tree_of made.formula) made.part) }
     {
         let formula = and_copied(alloc, &rest.formula, next.formula)?;
         if let Some(auto) = self.find_short(&formula) {
-            let part = Part::Shared(auto);
+            let part = PartAuto::Shared(auto);
             return Ok(ShortPart { formula, part });
         }
-        let auto = self.all_pairs(alloc, level, &rest.part, &next.part)?;
-        let part = self.keep_short(alloc, &formula, level, Part::Fresh(auto))?;
+        let auto = self.all_pairs(alloc, meets, &rest.part, &next.part)?;
+        let part = self.keep_short(alloc, &formula, meets, PartAuto::Fresh(auto))?;
         Ok(ShortPart { formula, part })
     }
 
@@ -232,17 +232,17 @@ impl Memo {
     fn all_pairs(
         &self,
         alloc: Global,
-        level: &Level,
-        left: &Part,
-        right: &Part,
+        meets: &MeetTable,
+        left: &PartAuto,
+        right: &PartAuto,
     ) -> Result<Auto, AllocError>
-        requires left { (a : Automaton) × IsPart self.now level.now left.now a }
-        requires right { (b : Automaton) × IsPart self.now level.now right.now b }
-        requires fits { FitTogether self.now level.now left.now right.now }
-        requires room { HaveRoom self.now level.now left.now right.now }
-        ensures { IfOk result (λ c. IsJointOf Connective.And self.now level.now left.now right.now (Joint.Made c)) }
+        requires left { (a : Automaton) × IsPart self.now meets.now left.now a }
+        requires right { (b : Automaton) × IsPart self.now meets.now right.now b }
+        requires fits { FitTogether self.now meets.now left.now right.now }
+        requires room { HaveRoom self.now meets.now left.now right.now }
+        ensures { IfOk result (λ c. IsJointOf Connective.And self.now meets.now left.now right.now (Joint.Made c)) }
     {
-        let (a, b) = self.automata(level, left, right);
+        let (a, b) = self.automata(meets, left, right);
         match joined(alloc, Connective::And, a, b, self.budget()) {
             Ok(auto) => Ok(auto),
             Err(Grown::Memory) => Err(AllocError),
@@ -251,12 +251,12 @@ impl Memo {
     }
 
     /// How many states the automaton of a part has.
-    fn states_of(&self, level: &Level, part: &Part) -> u64
-        requires { (a : Automaton) × IsPart self.now level.now part.now a }
-        ensures is { (a : Automaton) → IsPart self.now level.now part.now a → HasStates a result }
+    fn states_of(&self, meets: &MeetTable, part: &PartAuto) -> u64
+        requires { (a : Automaton) × IsPart self.now meets.now part.now a }
+        ensures is { (a : Automaton) → IsPart self.now meets.now part.now a → HasStates a result }
         ensures few { result < 2 ^ 31 }
     {
-        u64::from(self.automaton(level, part).states())
+        u64::from(self.automaton(meets, part).states())
     }
 
     /// Whether it pays to put off And with an automaton of so many states: they are few, beside the base's too, and the budget has
@@ -272,7 +272,7 @@ impl Memo {
 }
 
 /// The chain that begins with a formula whose automaton is made and a short one.
-fn begun_with(alloc: Global, base: Part, next: Next) -> Result<Link, AllocError>
+fn begun_with(alloc: Global, base: PartAuto, next: Next) -> Result<Link, AllocError>
     ensures { IfOk result (λ link. IsBegunWith base (tree_of next.entry.formula.now) next.entry.part next.entry.step link) }
 {
     let rest = ShortPart {

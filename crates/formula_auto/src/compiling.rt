@@ -1,5 +1,5 @@
 //! The way down a formula and up again, a step at a time. What was made of a plain formula once is taken from the memo, and what was
-//! made of And of two sets from the level.
+//! made of And of two sets from the table of meets.
 ghost use Rattle.std.specs.Prelude.{◌≡◌, ◌+◌, ◌<◌, ◌≤◌, ◌^◌, length, IfOk, IfErr, OnOk, Err, true, false};
 ghost use Rattle.auto_core.specs.Automaton.{Automaton};
 ghost use Rattle.auto_core.specs.Integers.{DecidesIntegers};
@@ -16,8 +16,8 @@ ghost use Rattle.formula_auto.specs.Compiled.{IsCompilable, IsCompiled, IsCompil
 ghost use Rattle.formula_auto.specs.Ready.{IsReady};
 ghost use Rattle.formula_auto.specs.PlainParts.{plain_parts};
 ghost use Rattle.formula_auto.specs.Recalled.{is_recalled, recalled_parts, start, MayBeOneStep};
-ghost use Rattle.formula_auto.specs.LevelState.{LevelGrows};
-ghost use Rattle.formula_auto.specs.LevelState as level_state;
+ghost use Rattle.formula_auto.specs.MeetState.{MeetsGrow};
+ghost use Rattle.formula_auto.specs.MeetState as meet_state;
 ghost use Rattle.formula_auto.specs.Short as short;
 ghost use Rattle.formula_auto.specs.MemoState.{IsMemoAfter, IsMemoStopped, IsKnown};
 ghost use Rattle.formula_auto.specs.PartOf.{IsPart, IsRememberedOn, IsInterruptedOn};
@@ -25,15 +25,15 @@ ghost use Rattle.formula_auto.specs.Joints.{IsJointOf, FitTogether, TogetherExce
 ghost use Rattle.formula_auto.specs.Chains.{IsExtension, and_of, IsLinkedOn};
 
 use crate::chain::{Extension, Link, Next, as_extension};
-use crate::course::{Course, Recall};
 use crate::errors::CompileError;
 use crate::joint::Joint;
-use crate::level::Level;
+use crate::meet_table::MeetTable;
 use crate::memo::Memo;
 use crate::pair::Pair;
-use crate::part::{Part, Remembered};
+use crate::part_auto::{PartAuto, Remembered};
 use crate::plain::{has_step, is_pair, is_plain, is_short, steps_of};
 use crate::shortcut::Shortcut;
+use crate::standing::{Recall, Standing};
 use crate::steps::{comparison, complement, joined, projection, value_of};
 use crate::table::SetTable;
 use auto_bool::{Connective, none_of};
@@ -61,8 +61,8 @@ pub fn compile(
     ensures over { IfErr result (IsCompileError (tree_of f.now) (tables sets.now) 0 budget) }
 {
     let mut memo = Memo::new(alloc, budget);
-    let mut level = memo.level(alloc, sets);
-    memo.whole(alloc, f, &mut level, Recall::Nothing)
+    let mut meets = memo.meets(alloc, sets);
+    memo.whole(alloc, f, &mut meets, Recall::Nothing)
 }
 
 /// Whether the formula itself is to be looked up.
@@ -111,34 +111,34 @@ impl Memo {
         ensures after { OnOk result (IsMemoAfter self.old self.new (plain_parts (tree_of f.now))) }
         ensures stopped { IfErr result (IsMemoStopped self.old self.new (tree_of f.now)) }
     {
-        let mut level = self.level(alloc, sets);
-        self.whole(alloc, f, &mut level, Recall::Plain)
+        let mut meets = self.meets(alloc, sets);
+        self.whole(alloc, f, &mut meets, Recall::Plain)
     }
 
-    /// As `Memo::compile` over the table of the level, for those who go on with the automaton: what the last step made is not reduced.
-    /// And of two sets is made once for all formulas that are compiled on the level.
+    /// As `Memo::compile` over the table of the table of meets, for those who go on with the automaton: what the last step made is not reduced.
+    /// And of two sets is made once for all formulas that are compiled on the table of meets.
     pub fn compile_on(
         &mut self,
         alloc: Global,
         f: &Formula,
-        level: &mut Level,
+        meets: &mut MeetTable,
     ) -> Result<Auto, CompileError>
-        requires compilable { IsCompilable (tree_of f.now) level.old.sets }
+        requires compilable { IsCompilable (tree_of f.now) meets.old.sets }
         requires few_steps { length (steps (tree_of f.now)) < 2 ^ 31 }
-        requires same_budget { level.old.budget ≡ self.old.budget }
+        requires same_budget { meets.old.budget ≡ self.old.budget }
         ensures reached { IfOk result AllReached }
         ensures few { IfOk result (λ a. HasStep (tree_of f.now) → length a.accept ≤ self.old.budget) }
-        ensures decides { IfOk result (λ a. Decides a (tree_of f.now) (members (tables level.old.sets))) }
+        ensures decides { IfOk result (λ a. Decides a (tree_of f.now) (members (tables meets.old.sets))) }
         ensures integers { IfOk result DecidesIntegers }
-        ensures within { OnOk result (StaysWithin (tree_of f.now) (members (tables level.old.sets)) self.old.budget) }
-        ensures over { IfErr result (IsCompileError (tree_of f.now) (tables level.old.sets) 0 self.old.budget) }
+        ensures within { OnOk result (StaysWithin (tree_of f.now) (members (tables meets.old.sets)) self.old.budget) }
+        ensures over { IfErr result (IsCompileError (tree_of f.now) (tables meets.old.sets) 0 self.old.budget) }
         ensures budget { self.new.budget ≡ self.old.budget }
         ensures after { OnOk result (IsMemoAfter self.old self.new (plain_parts (tree_of f.now))) }
         ensures stopped { IfErr result (IsMemoStopped self.old self.new (tree_of f.now)) }
-        ensures same_sets { level.new.sets ≡ level.old.sets }
-        ensures level_budget { level.new.budget ≡ level.old.budget }
+        ensures same_sets { meets.new.sets ≡ meets.old.sets }
+        ensures meets_budget { meets.new.budget ≡ meets.old.budget }
     {
-        self.whole_on(alloc, f, level)
+        self.whole_on(alloc, f, meets)
     }
 
     /// The automaton of a whole formula, reduced, to keep.
@@ -146,18 +146,18 @@ impl Memo {
         &mut self,
         alloc: Global,
         f: &Formula,
-        level: &mut Level,
+        meets: &mut MeetTable,
         recall: Recall,
     ) -> Result<Auto, CompileError>
-        requires compilable { IsCompilable (tree_of f.now) level.old.sets }
+        requires compilable { IsCompilable (tree_of f.now) meets.old.sets }
         requires few_steps { length (steps (tree_of f.now)) < 2 ^ 31 }
-        requires same_budget { level.old.budget ≡ self.old.budget }
-        ensures compiled { IfOk result (IsCompiled (tree_of f.now) (tables level.old.sets) 0 self.old.budget) }
+        requires same_budget { meets.old.budget ≡ self.old.budget }
+        ensures compiled { IfOk result (IsCompiled (tree_of f.now) (tables meets.old.sets) 0 self.old.budget) }
         ensures after { OnOk result (IsMemoAfter self.old self.new (recalled_parts recall (tree_of f.now))) }
-        ensures err { IfErr result (IsInterruptedOn (tree_of f.now) (start recall) self.old self.new level.old) }
+        ensures err { IfErr result (IsInterruptedOn (tree_of f.now) (start recall) self.old self.new meets.old) }
     {
-        let made = self.compiled(alloc, f, level, Course { before: 0, recall })?;
-        Ok(self.taken(alloc, level, made.part)?)
+        let made = self.compiled(alloc, f, meets, Standing { before: 0, recall })?;
+        Ok(self.taken(alloc, meets, made.part)?)
     }
 
     /// The automaton of a whole formula, to keep.
@@ -165,22 +165,22 @@ impl Memo {
         &mut self,
         alloc: Global,
         f: &Formula,
-        level: &mut Level,
+        meets: &mut MeetTable,
     ) -> Result<Auto, CompileError>
-        requires compilable { IsCompilable (tree_of f.now) level.old.sets }
+        requires compilable { IsCompilable (tree_of f.now) meets.old.sets }
         requires few_steps { length (steps (tree_of f.now)) < 2 ^ 31 }
-        requires same_budget { level.old.budget ≡ self.old.budget }
-        ensures compiled { IfOk result (IsCompiledOn (tree_of f.now) (tables level.old.sets) 0 self.old.budget) }
+        requires same_budget { meets.old.budget ≡ self.old.budget }
+        ensures compiled { IfOk result (IsCompiledOn (tree_of f.now) (tables meets.old.sets) 0 self.old.budget) }
         ensures after { OnOk result (IsMemoAfter self.old self.new (plain_parts (tree_of f.now))) }
-        ensures err { IfErr result (IsInterruptedOn (tree_of f.now) (start Recall.Plain) self.old self.new level.old) }
-        ensures grows { LevelGrows level.old level.new }
+        ensures err { IfErr result (IsInterruptedOn (tree_of f.now) (start Recall.Plain) self.old self.new meets.old) }
+        ensures grows { MeetsGrow meets.old meets.new }
     {
-        let course = Course {
+        let standing = Standing {
             before: 0,
             recall: Recall::Plain,
         };
-        let made = self.compiled(alloc, f, level, course)?;
-        Ok(self.finished(alloc, f, level, made.part)?)
+        let made = self.compiled(alloc, f, meets, standing)?;
+        Ok(self.finished(alloc, f, meets, made.part)?)
     }
 
     /// The automaton of a part that is a whole formula. One that no step made is reduced.
@@ -188,18 +188,18 @@ impl Memo {
         &self,
         alloc: Global,
         f: &Formula,
-        level: &Level,
-        part: Part,
+        meets: &MeetTable,
+        part: PartAuto,
     ) -> Result<Auto, AllocError>
-        requires { (a : Automaton) × IsPart self.now level.now part a }
-        ensures same { IfOk result (λ made. (a : Automaton) → IsPart self.now level.now part a → AcceptSame a made) }
-        ensures as_it_is { IfOk result (λ made. HasStep (tree_of f.now) → IsPart self.now level.now part made) }
+        requires { (a : Automaton) × IsPart self.now meets.now part a }
+        ensures same { IfOk result (λ made. (a : Automaton) → IsPart self.now meets.now part a → AcceptSame a made) }
+        ensures as_it_is { IfOk result (λ made. HasStep (tree_of f.now) → IsPart self.now meets.now part made) }
         ensures reduced { IfOk result (λ made. length (steps (tree_of f.now)) ≤ 0 → IsReduced made) }
     {
         if has_step(f) {
-            return self.given(level, part);
+            return self.given(meets, part);
         }
-        self.taken(alloc, level, part)
+        self.taken(alloc, meets, part)
     }
 
     /// An automaton of a part of a formula. Only that of a memo's entry is reduced.
@@ -208,29 +208,29 @@ impl Memo {
         &mut self,
         alloc: Global,
         f: &Formula,
-        level: &mut Level,
-        course: Course,
+        meets: &mut MeetTable,
+        standing: Standing,
     ) -> Result<Remembered, CompileError>
-        requires same_budget { level.old.budget ≡ self.old.budget }
-        requires ready { IsReady (tree_of f.now) level.old.sets }
-        requires room { course.before + length (steps (tree_of f.now)) < 2 ^ 32 }
-        ensures ok { IfOk result (IsRememberedOn (tree_of f.now) course self.old self.new level.old level.new) }
-        ensures err { IfErr result (IsInterruptedOn (tree_of f.now) course self.old self.new level.old) }
-        ensures grows { LevelGrows level.old level.new }
+        requires same_budget { meets.old.budget ≡ self.old.budget }
+        requires ready { IsReady (tree_of f.now) meets.old.sets }
+        requires room { standing.before + length (steps (tree_of f.now)) < 2 ^ 32 }
+        ensures ok { IfOk result (IsRememberedOn (tree_of f.now) standing self.old self.new meets.old meets.new) }
+        ensures err { IfErr result (IsInterruptedOn (tree_of f.now) standing self.old self.new meets.old) }
+        ensures grows { MeetsGrow meets.old meets.new }
     {
-        if is_looked_up(f, course.recall) {
-            return self.recalled(alloc, f, level, course);
+        if is_looked_up(f, standing.recall) {
+            return self.recalled(alloc, f, meets, standing);
         }
         if is_short(f) {
-            return self.shared(alloc, f, level, course);
+            return self.shared(alloc, f, meets, standing);
         }
         if is_pair(f) {
-            return self.paired(alloc, f, level, course);
+            return self.paired(alloc, f, meets, standing);
         }
         if let Some(extension) = as_extension(f) {
-            return self.chained(alloc, extension, level, course);
+            return self.chained(alloc, extension, meets, standing);
         }
-        self.from_parts(alloc, f, level, course)
+        self.from_parts(alloc, f, meets, standing)
     }
 
     /// The automaton of a plain formula: lent by the table, or made and entered.
@@ -239,26 +239,26 @@ impl Memo {
         &mut self,
         alloc: Global,
         f: &Formula,
-        level: &mut Level,
-        course: Course,
+        meets: &mut MeetTable,
+        standing: Standing,
     ) -> Result<Remembered, CompileError>
-        requires recalled { is_recalled course.recall (tree_of f.now) ≡ true }
-        requires same_budget { level.old.budget ≡ self.old.budget }
-        requires ready { IsReady (tree_of f.now) level.old.sets }
-        requires room { course.before + length (steps (tree_of f.now)) < 2 ^ 32 }
-        ensures ok { IfOk result (IsRememberedOn (tree_of f.now) course self.old self.new level.old level.new) }
-        ensures err { IfErr result (IsInterruptedOn (tree_of f.now) course self.old self.new level.old) }
-        ensures grows { LevelGrows level.old level.new }
+        requires recalled { is_recalled standing.recall (tree_of f.now) ≡ true }
+        requires same_budget { meets.old.budget ≡ self.old.budget }
+        requires ready { IsReady (tree_of f.now) meets.old.sets }
+        requires room { standing.before + length (steps (tree_of f.now)) < 2 ^ 32 }
+        ensures ok { IfOk result (IsRememberedOn (tree_of f.now) standing self.old self.new meets.old meets.new) }
+        ensures err { IfErr result (IsInterruptedOn (tree_of f.now) standing self.old self.new meets.old) }
+        ensures grows { MeetsGrow meets.old meets.new }
     {
         match self.find(f) {
             Some(place) => {
                 self.count();
                 Ok(Remembered {
-                    part: Part::Kept(place),
-                    done: course.before + steps_of(f),
+                    part: PartAuto::Kept(place),
+                    done: standing.before + steps_of(f),
                 })
             }
-            None => self.entered(alloc, f, level, course),
+            None => self.entered(alloc, f, meets, standing),
         }
     }
 
@@ -268,24 +268,24 @@ impl Memo {
         &mut self,
         alloc: Global,
         f: &Formula,
-        level: &mut Level,
-        course: Course,
+        meets: &mut MeetTable,
+        standing: Standing,
     ) -> Result<Remembered, CompileError>
-        requires recalled { is_recalled course.recall (tree_of f.now) ≡ true }
+        requires recalled { is_recalled standing.recall (tree_of f.now) ≡ true }
         requires unknown { ¬ IsKnown self.old (tree_of f.now) }
-        requires same_budget { level.old.budget ≡ self.old.budget }
-        requires ready { IsReady (tree_of f.now) level.old.sets }
-        requires room { course.before + length (steps (tree_of f.now)) < 2 ^ 32 }
-        ensures ok { IfOk result (IsRememberedOn (tree_of f.now) course self.old self.new level.old level.new) }
-        ensures err { IfErr result (IsInterruptedOn (tree_of f.now) course self.old self.new level.old) }
-        ensures grows { LevelGrows level.old level.new }
+        requires same_budget { meets.old.budget ≡ self.old.budget }
+        requires ready { IsReady (tree_of f.now) meets.old.sets }
+        requires room { standing.before + length (steps (tree_of f.now)) < 2 ^ 32 }
+        ensures ok { IfOk result (IsRememberedOn (tree_of f.now) standing self.old self.new meets.old meets.new) }
+        ensures err { IfErr result (IsInterruptedOn (tree_of f.now) standing self.old self.new meets.old) }
+        ensures grows { MeetsGrow meets.old meets.new }
     {
-        let alone = Course {
+        let alone = Standing {
             recall: Recall::Nothing,
-            ..course
+            ..standing
         };
-        let made = self.from_parts(alloc, f, level, alone)?;
-        let auto = self.taken(alloc, level, made.part)?;
+        let made = self.from_parts(alloc, f, meets, alone)?;
+        let auto = self.taken(alloc, meets, made.part)?;
         let part = self.enter(alloc, f, auto)?;
         Ok(Remembered {
             part,
@@ -299,60 +299,60 @@ impl Memo {
         &mut self,
         alloc: Global,
         f: &Formula,
-        level: &mut Level,
-        course: Course,
+        meets: &mut MeetTable,
+        standing: Standing,
     ) -> Result<Remembered, CompileError>
-        requires not_recalled { is_recalled course.recall (tree_of f.now) ≡ false }
+        requires not_recalled { is_recalled standing.recall (tree_of f.now) ≡ false }
         requires short { short.is_short (tree_of f.now) ≡ true }
-        requires same_budget { level.old.budget ≡ self.old.budget }
-        requires ready { IsReady (tree_of f.now) level.old.sets }
-        requires room { course.before + length (steps (tree_of f.now)) < 2 ^ 32 }
-        ensures ok { IfOk result (IsRememberedOn (tree_of f.now) course self.old self.new level.old level.new) }
-        ensures err { IfErr result (IsInterruptedOn (tree_of f.now) course self.old self.new level.old) }
-        ensures grows { LevelGrows level.old level.new }
+        requires same_budget { meets.old.budget ≡ self.old.budget }
+        requires ready { IsReady (tree_of f.now) meets.old.sets }
+        requires room { standing.before + length (steps (tree_of f.now)) < 2 ^ 32 }
+        ensures ok { IfOk result (IsRememberedOn (tree_of f.now) standing self.old self.new meets.old meets.new) }
+        ensures err { IfErr result (IsInterruptedOn (tree_of f.now) standing self.old self.new meets.old) }
+        ensures grows { MeetsGrow meets.old meets.new }
     {
         if let Some(auto) = self.find_short(f) {
             return Ok(Remembered {
-                part: Part::Shared(auto),
-                done: course.before + steps_of(f),
+                part: PartAuto::Shared(auto),
+                done: standing.before + steps_of(f),
             });
         }
-        let made = self.from_parts(alloc, f, level, course)?;
-        let part = self.keep_short(alloc, f, level, made.part)?;
+        let made = self.from_parts(alloc, f, meets, standing)?;
+        let part = self.keep_short(alloc, f, meets, made.part)?;
         Ok(Remembered {
             part,
             done: made.done,
         })
     }
 
-    /// The automaton of And of two sets: lent by the level, or made and remembered there. No memo has it, since it names sets.
+    /// The automaton of And of two sets: lent by the table of meets, or made and remembered there. No memo has it, since it names sets.
     #[cycle(compiled)]
     fn paired(
         &mut self,
         alloc: Global,
         f: &Formula,
-        level: &mut Level,
-        course: Course,
+        meets: &mut MeetTable,
+        standing: Standing,
     ) -> Result<Remembered, CompileError>
-        requires pair { level_state.is_pair (tree_of f.now) ≡ true }
-        requires same_budget { level.old.budget ≡ self.old.budget }
-        requires ready { IsReady (tree_of f.now) level.old.sets }
-        requires room { course.before + length (steps (tree_of f.now)) < 2 ^ 32 }
-        ensures ok { IfOk result (IsRememberedOn (tree_of f.now) course self.old self.new level.old level.new) }
-        ensures err { IfErr result (IsInterruptedOn (tree_of f.now) course self.old self.new level.old) }
-        ensures grows { LevelGrows level.old level.new }
+        requires pair { meet_state.is_pair (tree_of f.now) ≡ true }
+        requires same_budget { meets.old.budget ≡ self.old.budget }
+        requires ready { IsReady (tree_of f.now) meets.old.sets }
+        requires room { standing.before + length (steps (tree_of f.now)) < 2 ^ 32 }
+        ensures ok { IfOk result (IsRememberedOn (tree_of f.now) standing self.old self.new meets.old meets.new) }
+        ensures err { IfErr result (IsInterruptedOn (tree_of f.now) standing self.old self.new meets.old) }
+        ensures grows { MeetsGrow meets.old meets.new }
     {
-        if let Some(place) = level.find(f) {
+        if let Some(place) = meets.find(f) {
             return Ok(Remembered {
-                part: Part::Paired(place),
-                done: course.before + 1,
+                part: PartAuto::Paired(place),
+                done: standing.before + 1,
             });
         }
-        let made = self.from_parts(alloc, f, level, course)?;
-        let auto = self.given(level, made.part)?;
-        let place = level.remember(alloc, f, auto)?;
+        let made = self.from_parts(alloc, f, meets, standing)?;
+        let auto = self.given(meets, made.part)?;
+        let place = meets.remember(alloc, f, auto)?;
         Ok(Remembered {
-            part: Part::Paired(place),
+            part: PartAuto::Paired(place),
             done: made.done,
         })
     }
@@ -363,41 +363,41 @@ impl Memo {
         &mut self,
         alloc: Global,
         f: &Formula,
-        level: &mut Level,
-        course: Course,
+        meets: &mut MeetTable,
+        standing: Standing,
     ) -> Result<Remembered, CompileError>
-        requires not_recalled { is_recalled course.recall (tree_of f.now) ≡ false }
-        requires same_budget { level.old.budget ≡ self.old.budget }
-        requires ready { IsReady (tree_of f.now) level.old.sets }
-        requires room { course.before + length (steps (tree_of f.now)) < 2 ^ 32 }
-        ensures ok { IfOk result (IsRememberedOn (tree_of f.now) course self.old self.new level.old level.new) }
-        ensures err { IfErr result (IsInterruptedOn (tree_of f.now) course self.old self.new level.old) }
-        ensures grows { LevelGrows level.old level.new }
+        requires not_recalled { is_recalled standing.recall (tree_of f.now) ≡ false }
+        requires same_budget { meets.old.budget ≡ self.old.budget }
+        requires ready { IsReady (tree_of f.now) meets.old.sets }
+        requires room { standing.before + length (steps (tree_of f.now)) < 2 ^ 32 }
+        ensures ok { IfOk result (IsRememberedOn (tree_of f.now) standing self.old self.new meets.old meets.new) }
+        ensures err { IfErr result (IsInterruptedOn (tree_of f.now) standing self.old self.new meets.old) }
+        ensures grows { MeetsGrow meets.old meets.new }
     {
         match f {
             Formula::Lin { terms, rel, bound } => {
                 let auto = comparison(alloc, terms.as_slice(), *rel, *bound)?;
-                Ok(Remembered::fresh(auto, course.before))
+                Ok(Remembered::fresh(auto, standing.before))
             }
             Formula::Value { var, value } => {
                 let auto = value_of(alloc, *var, *value)?;
-                Ok(Remembered::fresh(auto, course.before))
+                Ok(Remembered::fresh(auto, standing.before))
             }
             Formula::Among { set, vars } => {
-                let part = level.membership(alloc, *set, vars.as_slice())?;
+                let part = meets.membership(alloc, *set, vars.as_slice())?;
                 Ok(Remembered {
                     part,
-                    done: course.before,
+                    done: standing.before,
                 })
             }
             Formula::Not(g) => {
-                let inner = self.compiled(alloc, g, level, course)?;
-                let auto = complement(alloc, self.automaton(level, &inner.part))?;
+                let inner = self.compiled(alloc, g, meets, standing)?;
+                let auto = complement(alloc, self.automaton(meets, &inner.part))?;
                 Ok(Remembered::fresh(auto, inner.done))
             }
             Formula::And(left, right) => {
-                let pair = conjunction(left, right, course.recall);
-                self.both(alloc, pair, level, course)
+                let pair = conjunction(left, right, standing.recall);
+                self.both(alloc, pair, meets, standing)
             }
             Formula::Or(left, right) => {
                 let connective = Connective::Or;
@@ -406,12 +406,12 @@ impl Memo {
                     left,
                     right,
                 };
-                self.both(alloc, pair, level, course)
+                self.both(alloc, pair, meets, standing)
             }
             Formula::Ex { var, body } => {
-                let inner = self.compiled(alloc, body, level, course)?;
+                let inner = self.compiled(alloc, body, meets, standing)?;
                 let step = inner.done + 1;
-                let auto = self.automaton(level, &inner.part);
+                let auto = self.automaton(meets, &inner.part);
                 match projection(alloc, *var, auto, self.budget()) {
                     Ok(auto) => Ok(Remembered::fresh(auto, step)),
                     Err(why) => Err(CompileError::at(step, why)),
@@ -426,27 +426,27 @@ impl Memo {
         &mut self,
         alloc: Global,
         pair: Pair,
-        level: &mut Level,
-        course: Course,
+        meets: &mut MeetTable,
+        standing: Standing,
     ) -> Result<Remembered, CompileError>
-        requires not_recalled { is_recalled course.recall (connected pair) ≡ false }
-        requires one_step { MayBeOneStep course.recall pair.connective (tree_of pair.right.now) }
-        requires same_budget { level.old.budget ≡ self.old.budget }
-        requires ready { IsReady (connected pair) level.old.sets }
-        requires room { course.before + length (steps (connected pair)) < 2 ^ 32 }
-        ensures ok { IfOk result (IsRememberedOn (connected pair.entry) course self.old self.new level.old level.new) }
-        ensures err { IfErr result (IsInterruptedOn (connected pair.entry) course self.old self.new level.old) }
-        ensures grows { LevelGrows level.old level.new }
+        requires not_recalled { is_recalled standing.recall (connected pair) ≡ false }
+        requires one_step { MayBeOneStep standing.recall pair.connective (tree_of pair.right.now) }
+        requires same_budget { meets.old.budget ≡ self.old.budget }
+        requires ready { IsReady (connected pair) meets.old.sets }
+        requires room { standing.before + length (steps (connected pair)) < 2 ^ 32 }
+        ensures ok { IfOk result (IsRememberedOn (connected pair.entry) standing self.old self.new meets.old meets.new) }
+        ensures err { IfErr result (IsInterruptedOn (connected pair.entry) standing self.old self.new meets.old) }
+        ensures grows { MeetsGrow meets.old meets.new }
     {
-        let left = self.compiled(alloc, pair.left, level, course)?;
-        let after_left = Course {
+        let left = self.compiled(alloc, pair.left, meets, standing)?;
+        let after_left = Standing {
             before: left.done,
-            ..course
+            ..standing
         };
-        let right = self.compiled(alloc, pair.right, level, after_left)?;
+        let right = self.compiled(alloc, pair.right, meets, after_left)?;
         let step = right.done + 1;
         let parts = (&left.part, &right.part);
-        match self.put_together(alloc, level, pair.connective, parts) {
+        match self.put_together(alloc, meets, pair.connective, parts) {
             Ok(joint) => Ok(Remembered {
                 part: joint.of(left.part, right.part),
                 done: step,
@@ -461,19 +461,19 @@ impl Memo {
         &mut self,
         alloc: Global,
         extension: Extension,
-        level: &mut Level,
-        course: Course,
+        meets: &mut MeetTable,
+        standing: Standing,
     ) -> Result<Remembered, CompileError>
         requires extension { IsExtension extension }
-        requires same_budget { level.old.budget ≡ self.old.budget }
-        requires ready { IsReady (and_of extension) level.old.sets }
-        requires room { course.before + length (steps (and_of extension)) < 2 ^ 32 }
-        ensures ok { IfOk result (IsRememberedOn (and_of extension.entry) course self.old self.new level.old level.new) }
-        ensures err { IfErr result (IsInterruptedOn (and_of extension.entry) course self.old self.new level.old) }
-        ensures grows { LevelGrows level.old level.new }
+        requires same_budget { meets.old.budget ≡ self.old.budget }
+        requires ready { IsReady (and_of extension) meets.old.sets }
+        requires room { standing.before + length (steps (and_of extension)) < 2 ^ 32 }
+        ensures ok { IfOk result (IsRememberedOn (and_of extension.entry) standing self.old self.new meets.old meets.new) }
+        ensures err { IfErr result (IsInterruptedOn (and_of extension.entry) standing self.old self.new meets.old) }
+        ensures grows { MeetsGrow meets.old meets.new }
     {
-        let link = self.linked(alloc, extension, level, course)?;
-        let made = self.closed(alloc, level, link)?;
+        let link = self.linked(alloc, extension, meets, standing)?;
+        let made = self.closed(alloc, meets, link)?;
         Ok(made)
     }
 
@@ -483,29 +483,29 @@ impl Memo {
         &mut self,
         alloc: Global,
         extension: Extension,
-        level: &mut Level,
-        course: Course,
+        meets: &mut MeetTable,
+        standing: Standing,
     ) -> Result<Link, CompileError>
         requires extension { IsExtension extension }
-        requires same_budget { level.old.budget ≡ self.old.budget }
-        requires ready { IsReady (and_of extension) level.old.sets }
-        requires room { course.before + length (steps (and_of extension)) < 2 ^ 32 }
-        ensures ok { IfOk result (IsLinkedOn (and_of extension.entry) course self.old self.new level.old level.new) }
-        ensures err { IfErr result (IsInterruptedOn (and_of extension.entry) course self.old self.new level.old) }
-        ensures grows { LevelGrows level.old level.new }
+        requires same_budget { meets.old.budget ≡ self.old.budget }
+        requires ready { IsReady (and_of extension) meets.old.sets }
+        requires room { standing.before + length (steps (and_of extension)) < 2 ^ 32 }
+        ensures ok { IfOk result (IsLinkedOn (and_of extension.entry) standing self.old self.new meets.old meets.new) }
+        ensures err { IfErr result (IsInterruptedOn (and_of extension.entry) standing self.old self.new meets.old) }
+        ensures grows { MeetsGrow meets.old meets.new }
     {
-        let left = self.begun(alloc, extension.left, level, course)?;
-        let after_left = Course {
+        let left = self.begun(alloc, extension.left, meets, standing)?;
+        let after_left = Standing {
             before: left.done(),
-            ..course
+            ..standing
         };
-        let right = self.compiled(alloc, extension.right, level, after_left)?;
+        let right = self.compiled(alloc, extension.right, meets, after_left)?;
         let next = Next {
             formula: extension.right,
             part: right.part,
             step: right.done + 1,
         };
-        let link = self.lengthened(alloc, level, left, next)?;
+        let link = self.lengthened(alloc, meets, left, next)?;
         Ok(link)
     }
 
@@ -515,20 +515,20 @@ impl Memo {
         &mut self,
         alloc: Global,
         f: &Formula,
-        level: &mut Level,
-        course: Course,
+        meets: &mut MeetTable,
+        standing: Standing,
     ) -> Result<Link, CompileError>
-        requires same_budget { level.old.budget ≡ self.old.budget }
-        requires ready { IsReady (tree_of f.now) level.old.sets }
-        requires room { course.before + length (steps (tree_of f.now)) < 2 ^ 32 }
-        ensures ok { IfOk result (IsLinkedOn (tree_of f.now) course self.old self.new level.old level.new) }
-        ensures err { IfErr result (IsInterruptedOn (tree_of f.now) course self.old self.new level.old) }
-        ensures grows { LevelGrows level.old level.new }
+        requires same_budget { meets.old.budget ≡ self.old.budget }
+        requires ready { IsReady (tree_of f.now) meets.old.sets }
+        requires room { standing.before + length (steps (tree_of f.now)) < 2 ^ 32 }
+        ensures ok { IfOk result (IsLinkedOn (tree_of f.now) standing self.old self.new meets.old meets.new) }
+        ensures err { IfErr result (IsInterruptedOn (tree_of f.now) standing self.old self.new meets.old) }
+        ensures grows { MeetsGrow meets.old meets.new }
     {
         if let Some(extension) = as_extension(f) {
-            return self.linked(alloc, extension, level, course);
+            return self.linked(alloc, extension, meets, standing);
         }
-        let made = self.compiled(alloc, f, level, course)?;
+        let made = self.compiled(alloc, f, meets, standing)?;
         Ok(Link::Made(made))
     }
 
@@ -536,25 +536,25 @@ impl Memo {
     pub(crate) fn put_together(
         &self,
         alloc: Global,
-        level: &Level,
+        meets: &MeetTable,
         connective: Connective,
-        parts: (&Part, &Part),
+        parts: (&PartAuto, &PartAuto),
     ) -> Result<Joint, Grown>
-        requires left { (a : Automaton) × IsPart self.now level.now parts.0.now a }
-        requires right { (b : Automaton) × IsPart self.now level.now parts.1.now b }
-        requires room { FitTogether self.now level.now parts.0.now parts.1.now }
-        ensures ok { IfOk result (IsJointOf connective self.now level.now parts.entry.0.now parts.entry.1.now) }
-        ensures over { result ≡ Err Grown.Over → TogetherExceed self.now level.now parts.entry.0.now parts.entry.1.now }
+        requires left { (a : Automaton) × IsPart self.now meets.now parts.0.now a }
+        requires right { (b : Automaton) × IsPart self.now meets.now parts.1.now b }
+        requires room { FitTogether self.now meets.now parts.0.now parts.1.now }
+        ensures ok { IfOk result (IsJointOf connective self.now meets.now parts.entry.0.now parts.entry.1.now) }
+        ensures over { result ≡ Err Grown.Over → TogetherExceed self.now meets.now parts.entry.0.now parts.entry.1.now }
     {
         let (left, right) = parts;
-        match self.shortcut(level, connective, left, right) {
+        match self.shortcut(meets, connective, left, right) {
             Some(Shortcut::Operand(operand)) => Ok(Joint::Operand(operand)),
             Some(Shortcut::Nothing) => {
-                let nothing = none_of(alloc, self.automaton(level, left))?;
+                let nothing = none_of(alloc, self.automaton(meets, left))?;
                 Ok(Joint::Made(nothing))
             }
             None => {
-                let (a, b) = self.automata(level, left, right);
+                let (a, b) = self.automata(meets, left, right);
                 let auto = joined(alloc, connective, a, b, self.budget())?;
                 Ok(Joint::Made(auto))
             }

@@ -2,7 +2,7 @@
 ghost use Rattle.std.specs.Prelude.{◌≡◌};
 ghost use Rattle.formula_auto.specs.Joints.{joint_part};
 
-use crate::part::Part;
+use crate::part_auto::PartAuto;
 use auto_bool::Operand;
 use auto_core::Auto;
 
@@ -17,12 +17,12 @@ pub enum Joint {
 
 impl Joint {
     /// What was made of the two as a part. The one of them that it is not is let go, or both are.
-    pub fn of(self, left: Part, right: Part) -> Part
+    pub fn of(self, left: PartAuto, right: PartAuto) -> PartAuto
         ensures { result ≡ joint_part self left right }
     {
         match self {
             Joint::Operand(operand) => operand.of(left, right),
-            Joint::Made(auto) => Part::Fresh(auto),
+            Joint::Made(auto) => PartAuto::Fresh(auto),
         }
     }
 }

@@ -4,15 +4,15 @@ ghost use Rattle.auto_core.specs.Automaton.{Automaton};
 ghost use Rattle.auto_core.specs.Reduced.{IsReduced};
 ghost use Rattle.lin_formula.specs.TreeOf.{tree_of};
 ghost use Rattle.formula_auto.specs.MemoState.{IsMemo, IsMemoAfter, IsEntry, IsEntryAt, IsKnown, counted};
-ghost use Rattle.formula_auto.specs.LevelState.{LevelState};
+ghost use Rattle.formula_auto.specs.MeetState.{MeetState};
 ghost use Rattle.formula_auto.specs.PartOf.{IsPart};
 ghost use Rattle.formula_auto.specs.Short.{IsShort, IsShortPart};
 ghost use Rattle.formula_auto.specs.Shortcuts.{IsShortcutOf, IsSeen};
 ghost use Rattle.formula_auto.specs.Nodes.{AcceptSame, IsNoLarger};
 
 use crate::entry::{Entry, place_of};
-use crate::level::Level;
-use crate::part::{Part, same_place};
+use crate::meet_table::MeetTable;
+use crate::part_auto::{PartAuto, same_place};
 use crate::short_table::ShortTable;
 use crate::shortcut::Shortcut;
 use crate::steps::reduced;
@@ -88,11 +88,11 @@ impl Memo {
     }
 
     /// A table of sets, lent, for what is compiled over it one formula after another.
-    pub fn level<'a>(&self, alloc: Global, sets: &'a SetTable) -> Level<'a>
+    pub fn meets<'a>(&self, alloc: Global, sets: &'a SetTable) -> MeetTable<'a>
         ensures sets { result.sets ≡ sets.now }
         ensures budget { result.budget ≡ self.now.budget }
     {
-        Level::new(alloc, sets, self.budget())
+        MeetTable::new(alloc, sets, self.budget())
     }
 
     /// The place of the entry of a formula.
@@ -104,49 +104,49 @@ impl Memo {
     }
 
     /// The automaton of a part, lent.
-    pub(crate) fn automaton<'a>(&'a self, level: &'a Level, part: &'a Part) -> &'a Auto
-        requires { (a : Automaton) × IsPart self.now level.now part.now a }
-        ensures { IsPart self.now level.now part.now result.now }
+    pub(crate) fn automaton<'a>(&'a self, meets: &'a MeetTable, part: &'a PartAuto) -> &'a Auto
+        requires { (a : Automaton) × IsPart self.now meets.now part.now a }
+        ensures { IsPart self.now meets.now part.now result.now }
     {
         match part {
-            Part::Fresh(auto) => auto,
-            Part::Kept(place) => &self.entries[*place].auto,
-            Part::Paired(place) => level.automaton(*place),
-            Part::Named(set) => level.named(*set),
-            Part::Shared(auto) => auto.as_ref(),
+            PartAuto::Fresh(auto) => auto,
+            PartAuto::Kept(place) => &self.entries[*place].auto,
+            PartAuto::Paired(place) => meets.automaton(*place),
+            PartAuto::Named(set) => meets.named(*set),
+            PartAuto::Shared(auto) => auto.as_ref(),
         }
     }
 
     /// The automata of two parts, lent.
     pub(crate) fn automata<'a>(
         &'a self,
-        level: &'a Level,
-        left: &'a Part,
-        right: &'a Part,
+        meets: &'a MeetTable,
+        left: &'a PartAuto,
+        right: &'a PartAuto,
     ) -> (&'a Auto, &'a Auto)
-        requires left { (a : Automaton) × IsPart self.now level.now left.now a }
-        requires right { (a : Automaton) × IsPart self.now level.now right.now a }
-        ensures left { IsPart self.now level.now left.now result.0.now }
-        ensures right { IsPart self.now level.now right.now result.1.now }
+        requires left { (a : Automaton) × IsPart self.now meets.now left.now a }
+        requires right { (a : Automaton) × IsPart self.now meets.now right.now a }
+        ensures left { IsPart self.now meets.now left.now result.0.now }
+        ensures right { IsPart self.now meets.now right.now result.1.now }
     {
-        (self.automaton(level, left), self.automaton(level, right))
+        (self.automaton(meets, left), self.automaton(meets, right))
     }
 
     /// What the connective makes of two parts, if that is seen at once and the budget has room: both are at one place, or
     /// one of them accepts all words or none.
     pub(crate) fn shortcut(
         &self,
-        level: &Level,
+        meets: &MeetTable,
         connective: Connective,
-        left: &Part,
-        right: &Part,
+        left: &PartAuto,
+        right: &PartAuto,
     ) -> Option<Shortcut>
-        requires left { (a : Automaton) × IsPart self.now level.now left.now a }
-        requires right { (a : Automaton) × IsPart self.now level.now right.now a }
-        ensures is { IfSome result (IsShortcutOf connective self.now level.now left.now right.now) }
-        ensures found { IsSeen connective self.now level.now left.now right.now → IsSome result }
+        requires left { (a : Automaton) × IsPart self.now meets.now left.now a }
+        requires right { (a : Automaton) × IsPart self.now meets.now right.now a }
+        ensures is { IfSome result (IsShortcutOf connective self.now meets.now left.now right.now) }
+        ensures found { IsSeen connective self.now meets.now left.now right.now → IsSome result }
     {
-        let (a, b) = self.automata(level, left, right);
+        let (a, b) = self.automata(meets, left, right);
         let most = self.budget();
         if same_place(left, right) && fits_with_itself(a, most) {
             return Some(Shortcut::with_itself(connective));
@@ -155,32 +155,37 @@ impl Memo {
     }
 
     /// The automaton of a part as it is, to keep.
-    pub(crate) fn given(&self, level: &Level, part: Part) -> Result<Auto, AllocError>
-        requires { (a : Automaton) × IsPart self.now level.now part a }
-        ensures { IfOk result (IsPart self.now level.now part) }
+    pub(crate) fn given(&self, meets: &MeetTable, part: PartAuto) -> Result<Auto, AllocError>
+        requires { (a : Automaton) × IsPart self.now meets.now part a }
+        ensures { IfOk result (IsPart self.now meets.now part) }
     {
         match part {
-            Part::Fresh(auto) => Ok(auto),
-            Part::Kept(place) => self.entries[place].auto.copy(),
-            Part::Paired(place) => level.automaton(place).copy(),
-            Part::Named(set) => level.named(set).copy(),
-            Part::Shared(auto) => auto.as_ref().copy(),
+            PartAuto::Fresh(auto) => Ok(auto),
+            PartAuto::Kept(place) => self.entries[place].auto.copy(),
+            PartAuto::Paired(place) => meets.automaton(place).copy(),
+            PartAuto::Named(set) => meets.named(set).copy(),
+            PartAuto::Shared(auto) => auto.as_ref().copy(),
         }
     }
 
     /// The automaton of a part, reduced, to keep. That of an entry is reduced already.
-    pub(crate) fn taken(&self, alloc: Global, level: &Level, part: Part) -> Result<Auto, AllocError>
-        requires { (a : Automaton) × IsPart self.now level.now part a }
+    pub(crate) fn taken(
+        &self,
+        alloc: Global,
+        meets: &MeetTable,
+        part: PartAuto,
+    ) -> Result<Auto, AllocError>
+        requires { (a : Automaton) × IsPart self.now meets.now part a }
         ensures reduced { IfOk result IsReduced }
-        ensures same { IfOk result (λ taken. (a : Automaton) → IsPart self.now level.now part a → AcceptSame a taken) }
-        ensures fewer { IfOk result (λ taken. (a : Automaton) → IsPart self.now level.now part a → IsNoLarger taken a) }
+        ensures same { IfOk result (λ taken. (a : Automaton) → IsPart self.now meets.now part a → AcceptSame a taken) }
+        ensures fewer { IfOk result (λ taken. (a : Automaton) → IsPart self.now meets.now part a → IsNoLarger taken a) }
     {
         match part {
-            Part::Fresh(auto) => reduced(alloc, &auto),
-            Part::Kept(place) => self.entries[place].auto.copy(),
-            Part::Paired(place) => reduced(alloc, level.automaton(place)),
-            Part::Named(set) => reduced(alloc, level.named(set)),
-            Part::Shared(auto) => reduced(alloc, auto.as_ref()),
+            PartAuto::Fresh(auto) => reduced(alloc, &auto),
+            PartAuto::Kept(place) => self.entries[place].auto.copy(),
+            PartAuto::Paired(place) => reduced(alloc, meets.automaton(place)),
+            PartAuto::Named(set) => reduced(alloc, meets.named(set)),
+            PartAuto::Shared(auto) => reduced(alloc, auto.as_ref()),
         }
     }
 
@@ -197,23 +202,23 @@ impl Memo {
         alloc: Global,
         f: &Formula,
         auto: Auto,
-    ) -> Result<Part, AllocError>
+    ) -> Result<PartAuto, AllocError>
         requires entry { IsEntry self.old.budget (tree_of f.now) auto }
         requires unknown { ¬ IsKnown self.old (tree_of f.now) }
         ensures ok { OnOk result (IsMemoAfter self.old self.new (tree_of f.now ∷ [])) }
-        ensures part { IfOk result (λ part. (level : LevelState) → IsPart self.new level part auto) }
+        ensures part { IfOk result (λ part. (meets : MeetState) → IsPart self.new meets part auto) }
         ensures err { OnErr result (self.new ≡ self.old) }
     {
         let kept = self.kept();
         if kept == u32::MAX {
-            return Ok(Part::Fresh(auto));
+            return Ok(PartAuto::Fresh(auto));
         }
         let entry = Entry {
             formula: copy(alloc, f)?,
             auto,
         };
         self.entries.push(entry)?;
-        Ok(Part::Kept(kept as usize))
+        Ok(PartAuto::Kept(kept as usize))
     }
 
     /// The automaton of a short formula, if the table of these has it.
@@ -228,17 +233,17 @@ impl Memo {
         &mut self,
         alloc: Global,
         f: &Formula,
-        level: &Level,
-        part: Part,
-    ) -> Result<Part, AllocError>
-        requires { IsShortPart self.old level.now (tree_of f.now) part }
+        meets: &MeetTable,
+        part: PartAuto,
+    ) -> Result<PartAuto, AllocError>
+        requires { IsShortPart self.old meets.now (tree_of f.now) part }
         ensures same { self.new ≡ self.old }
-        ensures kept { IfOk result (IsShortPart self.new level.now (tree_of f.now)) }
+        ensures kept { IfOk result (IsShortPart self.new meets.now (tree_of f.now)) }
     {
-        let auto = self.settled(alloc, f, level, part)?;
+        let auto = self.settled(alloc, f, meets, part)?;
         let shared = Rc::new(alloc, auto)?;
         self.shorts.put(alloc, f, shared.clone()?)?;
-        Ok(Part::Shared(shared))
+        Ok(PartAuto::Shared(shared))
     }
 
     /// The automaton of a short formula, to keep. That of Ex is reduced, since projections leave the most states too many.
@@ -246,15 +251,15 @@ impl Memo {
         &self,
         alloc: Global,
         f: &Formula,
-        level: &Level,
-        part: Part,
+        meets: &MeetTable,
+        part: PartAuto,
     ) -> Result<Auto, AllocError>
-        requires { IsShortPart self.now level.now (tree_of f.now) part }
+        requires { IsShortPart self.now meets.now (tree_of f.now) part }
         ensures { IfOk result (IsShort self.now.budget (tree_of f.now)) }
     {
         match f {
-            Formula::Ex { .. } => self.taken(alloc, level, part),
-            _ => self.given(level, part),
+            Formula::Ex { .. } => self.taken(alloc, meets, part),
+            _ => self.given(meets, part),
         }
     }
 }

@@ -4,7 +4,7 @@ ghost use Rattle.std.specs.Prelude.{◌≡◌, ◌-◌, ◌<◌, ◌^◌, nat_lt
 ghost use Rattle.lin_formula.specs.Tree.{steps, symbols};
 ghost use Rattle.lin_formula.specs.TreeOf.{tree_of};
 ghost use Rattle.formula_auto.specs.PlainParts as plain_parts;
-ghost use Rattle.formula_auto.specs.LevelState as level_state;
+ghost use Rattle.formula_auto.specs.MeetState as meet_state;
 ghost use Rattle.formula_auto.specs.Short as short;
 
 use lin_formula::Formula;
@@ -67,7 +67,7 @@ pub fn has_step(f: &Formula) -> bool
 
 /// Whether a formula is And of two sets.
 pub fn is_pair(f: &Formula) -> bool
-    ensures { result ≡ level_state.is_pair (tree_of f.now) }
+    ensures { result ≡ meet_state.is_pair (tree_of f.now) }
 {
     match f {
         Formula::And(g, h) => is_among(g) && is_among(h),
@@ -76,7 +76,7 @@ pub fn is_pair(f: &Formula) -> bool
 }
 
 fn is_among(f: &Formula) -> bool
-    ensures { result ≡ level_state.is_among (tree_of f.now) }
+    ensures { result ≡ meet_state.is_among (tree_of f.now) }
 {
     matches!(f, Formula::Among { .. })
 }

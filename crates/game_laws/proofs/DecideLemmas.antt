@@ -4,7 +4,7 @@ use Rattle.std.specs.Prelude.{IsSomeAnd}
 use Rattle.std.proofs.lemmas.Option.{slice_get-get_or, get_or_from_slice_get, same_Some}
 use Rattle.std.proofs.lemmas.Bool.Decides.{eqb_tells}
 use Rattle.std.specs.List.{All, Any, slice_get}
-use Rattle.game_rules.specs.Game.{Position, Attacked, Bears, Goes, GoesAs, IsHeldBy, InCheck, IsAfter, IsBetween, IsDiagonal, IsEmptySquare, IsLeap, IsLeftBy, IsLiveAnd, IsOpen, IsStraight, Legal, StandsOn, forward, man_at, other, square_of}
+use Rattle.game_rules.specs.Game.{Position, Attacked, Bears, Goes, GoesAs, IsOccupiedBy, InCheck, IsAfter, IsBetween, IsDiagonal, IsEmptySquare, IsLeap, IsLeftBy, IsLiveAnd, IsOpen, IsStraight, Legal, StandsOn, forward, man_at, other, square_of}
 use Rattle.game_rules.specs.declared.men.Kind.{Kind}
 use Rattle.game_rules.specs.declared.men.Kind.TheVariants.{King, Queen, Rook, Bishop, Knight, Pawn, Chancellor, Archbishop, Amazon, Nightrider}
 use Rattle.game_rules.specs.declared.men.Man.{Man}
@@ -169,7 +169,7 @@ bears p m z =
 pub attacked : (p : Position) (s : Side) (z : Square) → Decided (Attacked p s z)
 attacked p s z = any_decided (λ m. (m.side ≡ s) × Bears p m z) (λ m. both _ _ (side_same m.side s) (bears p m z)) p.men
 
-pub holds : (p : Position) (s : Side) (z : Square) → Decided (IsHeldBy p s z)
+pub holds : (p : Position) (s : Side) (z : Square) → Decided (IsOccupiedBy p s z)
 holds p s z = any_decided (λ m. (m.side ≡ s) × StandsOn m z) (λ m. both _ _ (side_same m.side s) (stands_or_not m z)) p.men
 
 pub is_empty : (p : Position) (z : Square) → Decided (IsEmptySquare p z)
@@ -281,7 +281,7 @@ module _ (p : Position) (j : ℕ) (z : Square) (m : Man) (is : slice_get p.men j
   his_man l = same_Some l.step.man m (sym l.step.is_man ∙ is)
 
   abbrev Parts : Type 0
-  Parts = (m.side ≡ p.turn) × (IsHeldBy p p.turn z → ⊥) × Goes p m z × (InCheck (position_after p j z) p.turn → ⊥)
+  Parts = (m.side ≡ p.turn) × (IsOccupiedBy p p.turn z → ⊥) × Goes p m z × (InCheck (position_after p j z) p.turn → ⊥)
 
   parts_of : CanGo p (suc j) z → Parts
   parts_of (q, l) = (
@@ -297,7 +297,7 @@ module _ (p : Position) (j : ℕ) (z : Square) (m : Man) (is : slice_get p.men j
 
   parts_decided : Decided Parts
   parts_decided =
-      map_decided (((m.side ≡ p.turn) × (IsHeldBy p p.turn z → ⊥)) × (Goes p m z × (InCheck (position_after p j z) p.turn → ⊥))) Parts
+      map_decided (((m.side ≡ p.turn) × (IsOccupiedBy p p.turn z → ⊥)) × (Goes p m z × (InCheck (position_after p j z) p.turn → ⊥))) Parts
       (λ h. (h.0.0, h.0.1, h.1.0, h.1.1)) (λ h. ((h.0, h.1), (h.2, h.3)))
       (both _ _ (both _ _ (side_same m.side p.turn) (not_decided _ (holds p p.turn z))) (both _ _ (goes m.kind p m z) (not_decided _ (in_check (position_after p j z) p.turn))))
 

@@ -8,7 +8,7 @@ use Rattle.game_rules.specs.declared.men.Man.{Man}
 use Rattle.game_rules.specs.declared.men.Ray.{Ray}
 use Rattle.game_rules.specs.declared.men.Side.{Side}
 use Rattle.game_rules.specs.declared.men.Square.{Square}
-use Rattle.game_rules.specs.Game.{Position, Bears, GoesAs, IsDirection, IsHeldBy, IsEmptySquare, IsLiveAnd, IsOpen, StandsOn, Step, after_steps, forward, other, square_of}
+use Rattle.game_rules.specs.Game.{Position, Bears, GoesAs, IsDirection, IsOccupiedBy, IsEmptySquare, IsLiveAnd, IsOpen, StandsOn, Step, after_steps, forward, other, square_of}
 use Rattle.game_rules.specs.Rays.{IsAt, leap, ray_of, serves_captures, serves_moves}
 use Rattle.game_laws.specs.Reach.{HasReach}
 use Rattle.game_laws.specs.OnRay.{IsBorneAlong, IsOnOneRay, IsOnRay}
@@ -103,13 +103,13 @@ borne_bears p m z h =
     (live_at m w.0 (λ a. HasReach m.side m.kind (z.x -ℤ a.x) (z.y -ℤ a.y) × IsOpen p a z) w.1 (reach_at m.side m.kind b.number b.is_ray b.serves b.along.1, clear))
 
 -- a square is not both held and empty
-held_empty : (p : Position) (s : Side) (z : Square) → IsHeldBy p s z → IsEmptySquare p z → ⊥
+held_empty : (p : Position) (s : Side) (z : Square) → IsOccupiedBy p s z → IsEmptySquare p z → ⊥
 held_empty p s z (k, m, within, is, h) none = none k m within (subst (λ n. StandsOn n z) (sym is) h.1)
 
 -- a man goes along one ray, which serves what he does
 module _ (p : Position) (m : Man) (a z : Square) where
   on_one : (n k : ℕ) (on : IsOnRay m a z n k) → (IsTrue on.ray.far → IsOpen p a z) → (IsEmptySquare p z → IsTrue (serves_moves m.kind n))
-      → (IsHeldBy p (other m.side) z → IsTrue (serves_captures m.kind n)) → IsOnOneRay p m a z
+      → (IsOccupiedBy p (other m.side) z → IsTrue (serves_captures m.kind n)) → IsOnOneRay p m a z
   on_one n k on clear move capture =
       record { number = n; distance = k; on = on; only = λ i j also. one_ray m a z n k i j on also; clear = clear; move = move; capture = capture }
 

@@ -4,7 +4,7 @@ use Rattle.std.specs.Prelude.{IsSomeAnd}
 use Rattle.std.specs.List.{All, Any, slice_get}
 use Rattle.std.proofs.lemmas.List.{length-map}
 use Rattle.std.proofs.lemmas.Option.{get_or_from_slice_get, same_Some, slice_get-get_or, slice_get_within}
-use Rattle.game_rules.specs.Game.{Position, Attacked, Bears, GoesAs, HasOneKing, InCheck, IsAfter, IsApart, IsBetween, IsEmptySquare, IsHeldBy, IsLeftBy, IsLiveAnd, IsOpen, Legal, LostInto, Mate, Sound, StandsOn, Step, Value, Win, forward, man_at, other, place_square}
+use Rattle.game_rules.specs.Game.{Position, Attacked, Bears, GoesAs, HasOneKing, InCheck, IsAfter, IsApart, IsBetween, IsEmptySquare, IsOccupiedBy, IsLeftBy, IsLiveAnd, IsOpen, Legal, LostInto, Mate, Sound, StandsOn, Step, Value, Win, forward, man_at, other, place_square}
 use Rattle.game_rules.specs.declared.men.Kind.{Kind}
 use Rattle.game_rules.specs.declared.men.Kind.TheVariants.{King, Queen, Rook, Bishop, Knight, Pawn, Chancellor, Archbishop, Amazon, Nightrider}
 use Rattle.game_rules.specs.declared.men.Man.{Man}
@@ -161,12 +161,12 @@ module _ (f g : BoardMap) (u : IsUndone f g) where
       any_to f p (λ m. (m.side ≡ s) × Bears p m z) (λ m. (m.side ≡ f.side s) × Bears (mapped f p) m (f.square z))
       (λ m h. (ap f.side h.0, bears_to p m z h.1)) h
 
-  held_to : (p : Position) (s : Side) (z : Square) → IsHeldBy p s z → IsHeldBy (mapped f p) (f.side s) (f.square z)
+  held_to : (p : Position) (s : Side) (z : Square) → IsOccupiedBy p s z → IsOccupiedBy (mapped f p) (f.side s) (f.square z)
   held_to p s z h =
       any_to f p (λ m. (m.side ≡ s) × StandsOn m z) (λ m. (m.side ≡ f.side s) × StandsOn m (f.square z))
       (λ m h. (ap f.side h.0, stands_to f m z h.1)) h
 
-  held_from : (p : Position) (s : Side) (z : Square) → IsHeldBy (mapped f p) (f.side s) (f.square z) → IsHeldBy p s z
+  held_from : (p : Position) (s : Side) (z : Square) → IsOccupiedBy (mapped f p) (f.side s) (f.square z) → IsOccupiedBy p s z
   held_from p s z h =
       any_from f p (λ m. (m.side ≡ s) × StandsOn m z) (λ m. (m.side ≡ f.side s) × StandsOn m (f.square z))
       (λ m h. (side_one m.side s h.0, stands_from m z h.1)) h
@@ -186,7 +186,7 @@ module _ (f g : BoardMap) (u : IsUndone f g) where
   goes_to Amazon p m z h = bears_to p m z h
   goes_to Nightrider p m z h = bears_to p m z h
   goes_to Pawn p m z (inl h) =
-      inl (bears_to p m z h.0, subst (λ s. IsHeldBy (mapped f p) s (f.square z)) (u.carrier.opponent m.side) (held_to p (other m.side) z h.1))
+      inl (bears_to p m z h.0, subst (λ s. IsOccupiedBy (mapped f p) s (f.square z)) (u.carrier.opponent m.side) (held_to p (other m.side) z h.1))
   goes_to Pawn p m z (inr h) =
       inr (subst (StandsOn (mapped_man f m)) (u.carrier.behind m.side z) (stands_to f m (record { x = z.x; y = z.y -ℤ forward m.side }) h.0), empty_to p z h.1)
 

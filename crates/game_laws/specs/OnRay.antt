@@ -1,6 +1,6 @@
 -- What it is to step, and to bear, along a ray of the table.
 use Rattle.std.specs.Prelude.{◌≡◌, ℕ, Some, IsTrue}
-use Rattle.game_rules.specs.Game.{Position, IsHeldBy, IsEmptySquare, IsOpen, other}
+use Rattle.game_rules.specs.Game.{Position, IsOccupiedBy, IsEmptySquare, IsOpen, other}
 use Rattle.game_rules.specs.Rays.{IsAlong, IsAt, ray_of, serves_captures, serves_moves}
 use Rattle.game_rules.specs.declared.men.Man.{Man}
 use Rattle.game_rules.specs.declared.men.Ray.{Ray}
@@ -21,7 +21,7 @@ pub record IsOnOneRay (p : Position) (m : Man) (a z : Square) : Type 0 where
   pub only : (n k : ℕ) → IsOnRay m a z n k → (n ≡ number) × (k ≡ distance)
   pub clear : IsTrue on.ray.far → IsOpen p a z
   pub move : IsEmptySquare p z → IsTrue (serves_moves m.kind number)
-  pub capture : IsHeldBy p (other m.side) z → IsTrue (serves_captures m.kind number)
+  pub capture : IsOccupiedBy p (other m.side) z → IsTrue (serves_captures m.kind number)
 
 -- a ray of the man that serves captures leads from a to z, over no man
 pub record IsBorneAlong (p : Position) (m : Man) (a z : Square) : Type 0 where

@@ -10,12 +10,12 @@ use Rattle.mate_plan.specs.Claim.{Claim, IsClaimed}
 use Rattle.winning_sets.specs.Claimed.{claim_of}
 use Rattle.winning_sets.specs.declared.origin.Origin.{Origin}
 use Rattle.winning_sets.specs.declared.origin.Origin.TheVariants.{Claim as Claimed}
-use Rattle.game_session.specs.Choice.{Leads, Pick}
-use Rattle.game_session.specs.declared.choice.Choice.{Choice}
-use Rattle.white_player.specs.Game.{Game}
+use Rattle.move_choice.specs.Choice.{Leads, Pick}
+use Rattle.move_choice.specs.declared.choice.Choice.{Choice}
+use Rattle.game_session.specs.Game.{Game}
 use Rattle.game_report.specs.Laws.{seen, strategy_by}
-use Rattle.game_report.specs.Report.{AtLine, AtLines, AtLoser, AtTyped, AtWinner, ByClaim, IsReport, Match, Report, Unless, most_lines}
-use Rattle.game_session.specs.Squares.{all_squares}
+use Rattle.game_report.specs.GameReport.{AtLine, AtLines, AtLoser, AtTyped, AtWinner, ByClaim, IsReport, Match, GameReport, Unless, most_lines}
+use Rattle.move_choice.specs.Squares.{all_squares}
 
 -- the game, where the winner plays by the claim
 abbrev pub by_claim : Claim → Match → Match
@@ -34,7 +34,7 @@ seen_claim g is =
     }) is
 
 -- the report, where he plays by it
-abbrev pub report_by : Claim → Report → Report
+abbrev pub report_by : Claim → GameReport → GameReport
 report_by c r = record { text = r.text; games = map (by_claim c) r.games; ending = r.ending; left = r.left }
 
 module _ (S T : Position → Type 0) (same : (q : Position) → S q ↔ T q) (f : Frame) (p : Position) where
@@ -61,12 +61,12 @@ pick_alike S T same f p (Some c) h = record {
 }
 
 module _ (c d : Claim) (same : (ply : ℕ) (q : Position) → IsClaimed c ply q ↔ IsClaimed d ply q) where
-  module _ (On Off : Match → Report → Type 0) (go : (g : Match) (r : Report) → On (by_claim c g) r → Off (by_claim d g) (report_by d r)) where
-    loser_alike : (left : Lines) (g : Match) (r : Report) → AtLoser On left (by_claim c g) r → AtLoser Off left (by_claim d g) (report_by d r)
+  module _ (On Off : Match → GameReport → Type 0) (go : (g : Match) (r : GameReport) → On (by_claim c g) r → Off (by_claim d g) (report_by d r)) where
+    loser_alike : (left : Lines) (g : Match) (r : GameReport) → AtLoser On left (by_claim c g) r → AtLoser Off left (by_claim d g) (report_by d r)
     loser_alike left g r (inl (mate, is)) = inl (mate, ap (report_by d) is)
     loser_alike left g r (inr (none, on)) = inr (none, go g r on)
 
-    winner_alike : (left : Lines) (g : Match) (r : Report) → AtWinner On left (by_claim c g) r → AtWinner Off left (by_claim d g) (report_by d r)
+    winner_alike : (left : Lines) (g : Match) (r : GameReport) → AtWinner On left (by_claim c g) r → AtWinner Off left (by_claim d g) (report_by d r)
     winner_alike left g r (inl (none, is)) =
         inl (pick_alike (IsClaimed c (suc g.ply)) (IsClaimed d (suc g.ply)) (same (suc g.ply)) all_squares g.position None none, ap (report_by d) is)
     winner_alike left g r (inr (choice, q, later, pick, legal, goes, is)) =
@@ -81,7 +81,7 @@ module _ (c d : Claim) (same : (ply : ℕ) (q : Position) → IsClaimed c ply q 
           ap (report_by d) is,
         )
 
-    typed_alike : (left : Lines) (g : Match) (r : Report) (reply : Option Typed) → AtTyped On left (by_claim c g) r reply → AtTyped Off left (by_claim d g) (report_by d r) reply
+    typed_alike : (left : Lines) (g : Match) (r : GameReport) (reply : Option Typed) → AtTyped On left (by_claim c g) r reply → AtTyped Off left (by_claim d g) (report_by d r) reply
     typed_alike left g r None (later, on, is) = (report_by d later, go g later on, ap (report_by d) is)
     typed_alike left g r (Some typed.Quit) is = ap (report_by d) is
     typed_alike left g r (Some (typed.Move mv)) (inl (later, none, on, is)) = inl (report_by d later, none, go g later on, ap (report_by d) is)
@@ -89,14 +89,14 @@ module _ (c d : Claim) (same : (ply : ℕ) (q : Position) → IsClaimed c ply q 
         let next : Match = record { winner = g.winner; start = g.start; moves = g.moves; strategy = g.strategy; position = q; ply = suc g.ply } in
         inr (q, legal, winner_alike left next r goes)
 
-    line_alike : (line : List ℕ) (left : Lines) (g : Match) (r : Report) → AtLine On line left (by_claim c g) r → AtLine Off line left (by_claim d g) (report_by d r)
+    line_alike : (line : List ℕ) (left : Lines) (g : Match) (r : GameReport) → AtLine On line left (by_claim c g) r → AtLine Off line left (by_claim d g) (report_by d r)
     line_alike line left g r (reply, is, goes) = (reply, is, typed_alike left g r reply goes)
 
-  unless : (stop : Bool) (left : Lines) (r : Report) (A B : Type 0) → (A → B) → Unless stop left r A → Unless stop left (report_by d r) B
+  unless : (stop : Bool) (left : Lines) (r : GameReport) (A B : Type 0) → (A → B) → Unless stop left r A → Unless stop left (report_by d r) B
   unless true left r A B each h = ap (report_by d) h
   unless false left r A B each h = each h
 
-  lines_alike : (before read : ℕ) (lines : Lines) (g : Match) (r : Report) → AtLines before read lines (by_claim c g) r → AtLines before read lines (by_claim d g) (report_by d r)
+  lines_alike : (before read : ℕ) (lines : Lines) (g : Match) (r : GameReport) → AtLines before read lines (by_claim c g) r → AtLines before read lines (by_claim d g) (report_by d r)
   lines_alike before read (full line rest) g r h =
       unless (read == most_lines) (full line rest) r _ _
       (line_alike (AtLines before (read + 1) rest) (AtLines before (read + 1) rest) (λ next x. lines_alike before (read + 1) rest next x) line rest g r) h
@@ -104,7 +104,7 @@ module _ (c d : Claim) (same : (ply : ℕ) (q : Position) → IsClaimed c ply q 
   lines_alike before read (cut front) g r h = unless (read == most_lines) (cut front) r _ _ (ap (report_by d)) h
   lines_alike before read long g r h = unless (read == most_lines) long r _ _ (ap (report_by d)) h
 
-  pub report_alike : (before : ℕ) (lines : Lines) (g : Match) (r : Report) → IsReport before lines (by_claim c g) r → IsReport before lines (by_claim d g) (report_by d r)
+  pub report_alike : (before : ℕ) (lines : Lines) (g : Match) (r : GameReport) → IsReport before lines (by_claim c g) r → IsReport before lines (by_claim d g) (report_by d r)
   report_alike before lines g r (inl (turn, goes)) =
       inl (turn, winner_alike (AtLines before 0 lines) (AtLines before 0 lines) (λ next x. lines_alike before 0 lines next x) lines g r goes)
   report_alike before lines g r (inr (turn, goes)) =

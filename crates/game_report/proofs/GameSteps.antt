@@ -20,7 +20,7 @@ use Rattle.chess_text.specs.PositionText.{text_of_lines}
 use Rattle.desk_text.proofs.TextSteps.{with_line}
 use Rattle.game_report.specs.Laws.{last_game}
 use Rattle.game_report.specs.Played.{IsDue, IsPlayed, IsSettled, Ports, StopsAt, is_short, ports}
-use Rattle.game_report.specs.Report.{AtLine, AtLines, IsReport, Match, Report, Unless, ends, most_lines}
+use Rattle.game_report.specs.GameReport.{AtLine, AtLines, IsReport, Match, GameReport, Unless, ends, most_lines}
 use Rattle.game_report.specs.Turns.{AtStart, Comes, EndsAt, IsLosersTurn, Never}
 use Rattle.game_report.specs.declared.play.Ending.{Ending}
 use Rattle.game_report.specs.declared.play.Ending.TheVariants.{CutAt, LongAt, Many, NoLine}
@@ -62,11 +62,11 @@ last_joined : (g : Match) (games more : List Match) → last_game g (games ++ mo
 last_joined g [] more = refl
 last_joined g (next ∷ games) more = last_joined next games more
 
-unless_false : (stop : Bool) (left : Lines) (r : Report) (P : Type 0) → stop ≡ false → P → Unless stop left r P
+unless_false : (stop : Bool) (left : Lines) (r : GameReport) (P : Type 0) → stop ≡ false → P → Unless stop left r P
 unless_false true left r P is h = absurd (cc)
 unless_false false left r P is h = h
 
-unless_true : (stop : Bool) (left : Lines) (r : Report) (P : Type 0) → stop ≡ true → r ≡ ends Many [] left → Unless stop left r P
+unless_true : (stop : Bool) (left : Lines) (r : GameReport) (P : Type 0) → stop ≡ true → r ≡ ends Many [] left → Unless stop left r P
 unless_true true left r P is h = h
 unless_true false left r P is h = absurd (cc)
 
@@ -74,11 +74,11 @@ not_most : (read : ℕ) → read < most_lines → (read == most_lines) ≡ false
 not_most read low = grind arith
 
 -- the report of what was told, and of what comes later
-abbrev pub told_before : List ℕ → List Match → Report → Report
+abbrev pub told_before : List ℕ → List Match → GameReport → GameReport
 told_before text games later = record { text = text ++ later.text; games = games ++ later.games; ending = later.ending; left = later.left }
 
 -- A game that began as `g` stands at `now`, after so many lines. What `At` says of the lines behind them is the rest of its report.
-pub record SoFar (At : Lines → Report → Type 0) (before read : ℕ) (g now : Match) (old new : Ports) : Type 0 where
+pub record SoFar (At : Lines → GameReport → Type 0) (before read : ℕ) (g now : Match) (old new : Ports) : Type 0 where
   pub lines : List (List ℕ)
   pub count : length lines ≡ read
   pub are_lines : All IsLine lines
@@ -90,18 +90,18 @@ pub record SoFar (At : Lines → Report → Type 0) (before read : ℕ) (g now :
   pub games : List Match
   pub written : Appends old.written new.written text
   pub last : last_game g games ≡ now
-  pub goes : (more : Lines) (later : Report) → At more later → IsReport before (with_lines lines more) g (told_before text games later)
+  pub goes : (more : Lines) (later : GameReport) → At more later → IsReport before (with_lines lines more) g (told_before text games later)
 
 -- what is to come where a line is due
-abbrev pub AtDue : ℕ → ℕ → Match → Lines → Report → Type 0
+abbrev pub AtDue : ℕ → ℕ → Match → Lines → GameReport → Type 0
 AtDue before read now more later = AtLines before read more now later
 
 -- and what is to come of a line
-abbrev pub AtRead : ℕ → ℕ → List ℕ → Match → Lines → Report → Type 0
+abbrev pub AtRead : ℕ → ℕ → List ℕ → Match → Lines → GameReport → Type 0
 AtRead before read line now more later = AtLine (AtLines before read more) line more now later
 
 -- what is to come at the start
-abbrev pub AtFirst : ℕ → Match → Lines → Report → Type 0
+abbrev pub AtFirst : ℕ → Match → Lines → GameReport → Type 0
 AtFirst before g more later = AtStart (AtLines before 0 more) more g later
 
 pub at_first : (before : ℕ) (g : Match) (pending : List ℕ) (left written : Option (List ℕ)) → SoFar (AtFirst before g) before 0 g g (ports pending left written) (ports pending left written)
@@ -120,7 +120,7 @@ at_first before g pending left written = record {
   goes = λ more later at. at;
 }
 
-module _ (At : Lines → Report → Type 0) (before read : ℕ) (g now : Match) (old : Ports) (pending : List ℕ) (left written : Option (List ℕ))
+module _ (At : Lines → GameReport → Type 0) (before read : ℕ) (g now : Match) (old : Ports) (pending : List ℕ) (left written : Option (List ℕ))
     (so_far : SoFar At before read g now old (ports pending left written)) where
   -- the lines of all that was taken, and others behind them
   lines_held : (more : List ℕ) → lines_of ((old.pending ++ so_far.bytes) ++ more) ≡ with_lines so_far.lines (lines_of (pending ++ more))
@@ -128,14 +128,14 @@ module _ (At : Lines → Report → Type 0) (before read : ℕ) (g now : Match) 
       ap (λ bytes. lines_of (bytes ++ more)) so_far.held
       ∙ (ap lines_of (append_assoc (text_of_lines so_far.lines) pending more) ∙ lines_with so_far.lines (pending ++ more) so_far.are_lines)
 
-  reported : (more : List ℕ) (later : Report) → At (lines_of (pending ++ more)) later
+  reported : (more : List ℕ) (later : GameReport) → At (lines_of (pending ++ more)) later
       → IsReport before (lines_of (old.pending ++ (so_far.bytes ++ more))) g (told_before so_far.text so_far.games later)
   reported more later at =
       let P : List ℕ → Type 0 = λ bytes. IsReport before (lines_of bytes) g (told_before so_far.text so_far.games later) in
       let L : Lines → Type 0 = λ lines. IsReport before lines g (told_before so_far.text so_far.games later) in
       subst P (append_assoc old.pending so_far.bytes more) (subst L (sym (lines_held more)) (so_far.goes (lines_of (pending ++ more)) later at))
 
-  reported_taken : (later : Report) → At (lines_of pending) later → IsReport before (lines_of (old.pending ++ so_far.bytes)) g (told_before so_far.text so_far.games later)
+  reported_taken : (later : GameReport) → At (lines_of pending) later → IsReport before (lines_of (old.pending ++ so_far.bytes)) g (told_before so_far.text so_far.games later)
   reported_taken later at =
       let P : List ℕ → Type 0 = λ bytes. IsReport before (lines_of (old.pending ++ bytes)) g (told_before so_far.text so_far.games later) in
       let Q : List ℕ → Type 0 = λ bytes. At (lines_of bytes) later in
@@ -151,7 +151,7 @@ module _ (At : Lines → Report → Type 0) (before read : ℕ) (g now : Match) 
 
   module _ (few : length pending ≤ 256) (after : Match) (last : Option (List ℕ)) where
     -- the game ends as its report does
-    pub ends_so : (rest : List ℕ) → IfSome left (λ told. told ≡ rest) → (r : Report) (ending : Ending) → At (lines_of (pending ++ rest)) r
+    pub ends_so : (rest : List ℕ) → IfSome left (λ told. told ≡ rest) → (r : GameReport) (ending : Ending) → At (lines_of (pending ++ rest)) r
         → r.left ≡ lines_of (pending ++ rest) → r.ending ≡ ending → Appends written last r.text → StopsAt (last_game now r.games) r.ending after
         → IsPlayed (Ok ending) before g after old (ports pending left last)
     ends_so rest told r ending at is_left is_ending wrote stops = record {
@@ -168,7 +168,7 @@ module _ (At : Lines → Report → Type 0) (before read : ℕ) (g now : Match) 
     }
 
     -- the source has failed
-    pub reads_so : (r : Report) → At (lines_of pending) r → r.left ≡ lines_of pending → IsTrue (is_short r.ending) → Appends written last r.text
+    pub reads_so : (r : GameReport) → At (lines_of pending) r → r.left ≡ lines_of pending → IsTrue (is_short r.ending) → Appends written last r.text
         → StopsAt (last_game now r.games) r.ending after → IsPlayed (Err error.Read) before g after old (ports pending left last)
     reads_so r at is_left short wrote stops = record {
       bytes = so_far.bytes;
@@ -205,7 +205,7 @@ module _ (At : Lines → Report → Type 0) (before read : ℕ) (g now : Match) 
 
   -- something came of it, and a line is due
   pub goes_on : (after : Match) (last : Option (List ℕ)) (text : List ℕ) (games : List Match) → Appends written last text → after ≡ last_game now games
-      → ((more : Lines) (later : Report) → AtLines before read more after later → At more (told_before text games later))
+      → ((more : Lines) (later : GameReport) → AtLines before read more after later → At more (told_before text games later))
       → SoFar (AtDue before read after) before read g after old (ports pending left last)
   goes_on after last text games wrote is_last on = record {
     lines = so_far.lines;
@@ -328,7 +328,7 @@ module _ (before read : ℕ) (g now : Match) (old : Ports) (pending : List ℕ) 
           (unless_false (read == most_lines) long r (r ≡ r) (not_most read low) refl)
 
       -- what was taken ends within a line, or at the start of one
-      short_report : (bytes : List ℕ) → (r : Report) × AtLines before read (part_of bytes) now r × (r.left ≡ part_of bytes) × IsTrue (is_short r.ending) × (r.text ≡ []) × (r.games ≡ [])
+      short_report : (bytes : List ℕ) → (r : GameReport) × AtLines before read (part_of bytes) now r × (r.left ≡ part_of bytes) × IsTrue (is_short r.ending) × (r.text ≡ []) × (r.games ≡ [])
       short_report [] =
           let r = ends NoLine [] ended in (r, unless_false (read == most_lines) ended r (r ≡ r) (not_most read low) refl, refl, refl, refl, refl)
       short_report (b ∷ bytes) =
@@ -364,10 +364,10 @@ most_read before read g now old pending left written so_far all few =
     at_most long = unless_true (read == most_lines) long (ends Many [] long) _ is_most refl
 
 -- Something came of the start, or of a line: what is said of it where nothing comes behind, is said with other lines behind too.
-pub record Extends (Says : (Match → Report → Type 0) → Report → Type 0) (At : Lines → Report → Type 0) (before read : ℕ) (after : Match) : Type 0 where
-  pub on : (r later : Report) (more : Lines) → Says (EndsAt after) r → r.ending ≡ NoLine → AtLines before read more after later → At more (joined r later)
-  pub over : (r : Report) (more : Lines) → Says Never r → At more (leaving more r)
-  pub longer : (r : Report) (more : Lines) → Says (EndsAt after) r → ((Mate after.position → ⊥) → (later : Report) × AtLines before read more after later) → IsLonger (At more) r.text
+pub record Extends (Says : (Match → GameReport → Type 0) → GameReport → Type 0) (At : Lines → GameReport → Type 0) (before read : ℕ) (after : Match) : Type 0 where
+  pub on : (r later : GameReport) (more : Lines) → Says (EndsAt after) r → r.ending ≡ NoLine → AtLines before read more after later → At more (joined r later)
+  pub over : (r : GameReport) (more : Lines) → Says Never r → At more (leaving more r)
+  pub longer : (r : GameReport) (more : Lines) → Says (EndsAt after) r → ((Mate after.position → ⊥) → (later : GameReport) × AtLines before read more after later) → IsLonger (At more) r.text
 
 pub start_extends : (before : ℕ) (g after : Match) → Extends (λ On r. AtStart On ended g r) (AtFirst before g) before 0 after
 start_extends before g after = record {
@@ -384,7 +384,7 @@ line_extends before read line g after none = record {
   longer = λ r more at go. line_longer (AtLines before read more) more after go line g r none at;
 }
 
-module _ (Says : (Match → Report → Type 0) → Report → Type 0) (At : Lines → Report → Type 0) (before read : ℕ) (g now after : Match) (old : Ports) (pending : List ℕ)
+module _ (Says : (Match → GameReport → Type 0) → GameReport → Type 0) (At : Lines → GameReport → Type 0) (before read : ℕ) (g now after : Match) (old : Ports) (pending : List ℕ)
     (left written last : Option (List ℕ)) (so_far : SoFar At before read g now old (ports pending left written)) (extends : Extends Says At before read after) where
   pub came_on : Comes (Ok None) Says now after written last → SoFar (AtDue before read after) before read g after old (ports pending left last)
   came_on (r, says, e, wrote, is_last, on) =
@@ -399,7 +399,7 @@ module _ (Says : (Match → Report → Type 0) → Report → Type 0) (At : Line
         ends_so At before read g now old pending left written so_far few after last rest (known_rest left) (leaving lines r) ending
         (extends.over r lines says) refl is_ending wrote stops
 
-    pub came_failed : (why : Failed) → (IsLosersTurn after → (Mate after.position → ⊥) → (more : Lines) → (later : Report) × AtLines before read more after later)
+    pub came_failed : (why : Failed) → (IsLosersTurn after → (Mate after.position → ⊥) → (more : Lines) → (later : GameReport) × AtLines before read more after later)
         → Comes (Err why) Says now after written last → IsPlayed (Err error.Write) before g after old (ports pending left last)
     came_failed why go (r, says, wrote, turn) =
         writes_so At before read g now old pending left written so_far few after last r.text
@@ -417,14 +417,14 @@ first_due before g now old pending left written so_far =
 
 -- so it is not settled without a line
 pub not_settled : (before : ℕ) (g : Match) → IsDue before g [] → IsSettled before g → ⊥
-not_settled before g (r, is, e) (other, too, not_so) = not_so (sym (ap (λ (x : Report). x.ending) (one_report before ended g r other is too)) ∙ e)
+not_settled before g (r, is, e) (other, too, not_so) = not_so (sym (ap (λ (x : GameReport). x.ending) (one_report before ended g r other is too)) ∙ e)
 
 -- a line came, and something came of it
 module _ (before read : ℕ) (g now after : Match) (old : Ports) (pending : List ℕ) (left written : Option (List ℕ))
     (so_far : SoFar (AtDue before read now) before read g now old (ports pending left written)) (low : read < most_lines)
     (len : ℕ) (line rest : List ℕ) (mid last : Option (List ℕ)) (took : Takes (Ok (Full len)) pending line rest left mid) (is_line : IsLine line)
     (none : Mate now.position → ⊥) where
-  abbrev AtReply : (Match → Report → Type 0) → Report → Type 0
+  abbrev AtReply : (Match → GameReport → Type 0) → GameReport → Type 0
   AtReply On r = AtLine On line ended now r
 
   came : SoFar (AtRead before (read + 1) line now) before (read + 1) g now old (ports rest mid written)
@@ -441,13 +441,13 @@ module _ (before read : ℕ) (g now after : Match) (old : Ports) (pending : List
 
   pub reply_failed : length rest ≤ 256 → (why : Failed)
       → (IsLosersTurn after → (Mate after.position → ⊥) → (more : Lines)
-      → (later : Report) × AtLines before (read + 1) more after later)
+      → (later : GameReport) × AtLines before (read + 1) more after later)
       → Comes (Err why) AtReply now after written last → IsPlayed (Err error.Write) before g after old (ports rest mid last)
   reply_failed few why go comes = came_failed AtReply (AtRead before (read + 1) line now) before (read + 1) g now after old rest mid written last came extends few why go comes
 
 -- the start of a game, and what came of it
 module _ (before : ℕ) (g after : Match) (pending : List ℕ) (left written last : Option (List ℕ)) where
-  abbrev AtOpening : (Match → Report → Type 0) → Report → Type 0
+  abbrev AtOpening : (Match → GameReport → Type 0) → GameReport → Type 0
   AtOpening On r = AtStart On ended g r
 
   begun : SoFar (AtFirst before g) before 0 g g (ports pending left written) (ports pending left written)
@@ -460,7 +460,7 @@ module _ (before : ℕ) (g after : Match) (pending : List ℕ) (left written las
       → IsPlayed (Ok ending) before g after (ports pending left written) (ports pending left last)
   opening_over few ending comes = came_over AtOpening (AtFirst before g) before 0 g g after (ports pending left written) pending left written last begun (start_extends before g after) few ending comes
 
-  pub opening_failed : length pending ≤ 256 → (why : Failed) → (IsLosersTurn after → (Mate after.position → ⊥) → (more : Lines) → (later : Report) × AtLines before 0 more after later)
+  pub opening_failed : length pending ≤ 256 → (why : Failed) → (IsLosersTurn after → (Mate after.position → ⊥) → (more : Lines) → (later : GameReport) × AtLines before 0 more after later)
       → Comes (Err why) AtOpening g after written last → IsPlayed (Err error.Write) before g after (ports pending left written) (ports pending left last)
   opening_failed few why go comes =
       came_failed AtOpening (AtFirst before g) before 0 g g after (ports pending left written) pending left written last begun

@@ -1,4 +1,4 @@
--- There is a first move into a set, or there is none, where it is decided which positions after a move are in the set. It belongs in game_session.
+-- There is a first move into a set, or there is none, where it is decided which positions after a move are in the set. It belongs in move_choice.
 use Rattle.std.proofs.Common.{◌≡◌, ◌⊎◌, inl, inr, ℕ, zero, suc, ◌+◌, ◌<◌, ◌≤◌, ◌≤ℤ◌, ℤ, pos, ◌+ℤ◌, ◌-ℤ◌, ◌*ℤ◌, unsigned_abs, Bool, true, false, List, [], ◌∷◌, length, Option, Some, None, refl, sym, ap, subst, ◌∙◌, arith}
 use Rattle.std.specs.Prelude.{slice_get}
 use Rattle.std.proofs.lemmas.Int.{by_lt_z, ints}
@@ -19,9 +19,9 @@ use Rattle.game_laws.proofs.RayLemmas.{step_one}
 use Rattle.chess_game.specs.Way.{IsInside}
 use Rattle.chess_game.specs.declared.way.Frame.{Frame}
 use Rattle.chess_game.proofs.AnswerBounds.{ray_stepwise, rays_few, steps_below}
-use Rattle.game_session.specs.Choice.{IsBefore, Leads, Pick, target}
-use Rattle.game_session.specs.declared.choice.Choice.{Choice}
-use Rattle.game_session.proofs.Firsts.{man_high}
+use Rattle.move_choice.specs.Choice.{IsBefore, Leads, Pick, target}
+use Rattle.move_choice.specs.declared.choice.Choice.{Choice}
+use Rattle.move_choice.proofs.Firsts.{man_high}
 use Rattle.game_report.proofs.Least.{IsFirstWith, first_with, some_with}
 
 less_or_not : (a b : ℤ) → Decided (a ≤ℤ b)

@@ -20,13 +20,13 @@ use Rattle.set_plan.proofs.Tables.{table_decided}
 use Rattle.winning_sets.specs.Claimed.{IsHeld}
 use Rattle.winning_sets.proofs.Empties.{tracks_ascend}
 use Rattle.winning_sets.proofs.ValidLemmas.{valid_formed}
-use Rattle.game_session.specs.Choice.{Pick, target}
-use Rattle.game_session.specs.declared.choice.Choice.{Choice}
-use Rattle.white_player.specs.Game.{Game, IsGame, moved_to}
-use Rattle.white_player.proofs.Games.{game_sound, held_move, held_next, held_reply, kept_set, next_held, table_of, winner_ply}
+use Rattle.move_choice.specs.Choice.{Pick, target}
+use Rattle.move_choice.specs.declared.choice.Choice.{Choice}
+use Rattle.game_session.specs.Game.{Game, IsGame, moved_to}
+use Rattle.game_session.proofs.Games.{game_sound, held_move, held_next, held_reply, kept_set, next_held, table_of, winner_ply}
 use Rattle.game_report.specs.Laws.{seen}
-use Rattle.game_report.specs.Report.{AtLine, AtLines, AtLoser, AtTurn, AtTyped, AtWinner, IsReport, Match, Report, Unless, ends, moved, most_lines, plays, writes}
-use Rattle.game_session.specs.Squares.{all_squares}
+use Rattle.game_report.specs.GameReport.{AtLine, AtLines, AtLoser, AtTurn, AtTyped, AtWinner, IsReport, Match, GameReport, Unless, ends, moved, most_lines, plays, writes}
+use Rattle.move_choice.specs.Squares.{all_squares}
 use Rattle.game_report.specs.declared.play.Ending.TheVariants.{CutAt, LongAt, Many, Mated, NoLine, Quit, Wide}
 use Rattle.game_report.proofs.Picking.{some_pick}
 use Rattle.game_report.proofs.Strategies.{pick_told}
@@ -62,21 +62,21 @@ module _ (g : Game) (game : IsGame g) (turn : g.position.turn ≡ g.solution.win
   pub some_held : (o : Option Choice) × Pick (IsHeld g.solution (suc g.ply)) all_squares g.position o
   some_held = some_pick (IsHeld g.solution (suc g.ply)) all_squares g.position held_or_not
 
-abbrev Goes : (Match → Report → Type 0) → Game → Type 0
-Goes On g = (report : Report) × On (seen g) report
+abbrev HasReport : (Match → GameReport → Type 0) → Game → Type 0
+HasReport On g = (report : GameReport) × On (seen g) report
 
-module _ (On : Match → Report → Type 0) (go : (g : Game) → IsGame g → g.position.turn ≡ other g.solution.winner → (Mate g.position → ⊥) → Goes On g) where
-  at_loser : (left : Lines) {g : Game} → IsGame g → g.position.turn ≡ other g.solution.winner → Goes (AtLoser On left) g
+module _ (On : Match → GameReport → Type 0) (go : (g : Game) → IsGame g → g.position.turn ≡ other g.solution.winner → (Mate g.position → ⊥) → HasReport On g) where
+  at_loser : (left : Lines) {g : Game} → IsGame g → g.position.turn ≡ other g.solution.winner → HasReport (AtLoser On left) g
   at_loser left {g} game turn = by (mate_or_not (game_sound g game))
     where
-      by : Decided (Mate g.position) → Goes (AtLoser On left) g
+      by : Decided (Mate g.position) → HasReport (AtLoser On left) g
       by (inl mate) = (ends Mated (codes "mate\n") left, inl (mate, refl))
       by (inr none) = let on = go g game turn none in (on.0, inr (none, on.1))
 
-  at_winner : (left : Lines) {g : Game} → IsGame g → g.position.turn ≡ g.solution.winner → Goes (AtWinner On left) g
+  at_winner : (left : Lines) {g : Game} → IsGame g → g.position.turn ≡ g.solution.winner → HasReport (AtWinner On left) g
   at_winner left {g} game turn = by (some_held g game turn)
     where
-      by : ((o : Option Choice) × Pick (IsHeld g.solution (suc g.ply)) all_squares g.position o) → Goes (AtWinner On left) g
+      by : ((o : Option Choice) × Pick (IsHeld g.solution (suc g.ply)) all_squares g.position o) → HasReport (AtWinner On left) g
       by (None, none) = (ends Wide [] left, inl ((pick_told g None).0 none, refl))
       by (Some c, pick) =
           let q = pick.position in
@@ -86,12 +86,12 @@ module _ (On : Match → Report → Type 0) (go : (g : Game) → IsGame g → g.
           (plays c.mv (moved (seen g) q) later.0, inr (c, q, later.0, (pick_told g (Some c)).0 pick, legal, later.1, refl))
 
   at_typed : (left : Lines) {g : Game} → IsGame g → g.position.turn ≡ other g.solution.winner → (Mate g.position → ⊥) → (reply : Option Typed)
-      → (report : Report) × AtTyped On left (seen g) report reply
+      → (report : GameReport) × AtTyped On left (seen g) report reply
   at_typed left {g} game turn none None = let on = go g game turn none in (writes (codes "unreadable\n") on.0, (on.0, on.1, refl))
   at_typed left game turn none (Some typed.Quit) = (ends Quit [] left, refl)
   at_typed left {g} game turn none (Some (typed.Move mv)) = by (can_go g.position mv.man (target mv))
     where
-      by : Decided (CanGo g.position mv.man (target mv)) → (report : Report) × AtTyped On left (seen g) report (Some (typed.Move mv))
+      by : Decided (CanGo g.position mv.man (target mv)) → (report : GameReport) × AtTyped On left (seen g) report (Some (typed.Move mv))
       by (inr stuck) =
           let on = go g game turn none in
           (writes (codes "illegal\n") on.0, inl (on.0, λ q legal. stuck (q, legal), on.1, refl))
@@ -101,17 +101,17 @@ module _ (On : Match → Report → Type 0) (go : (g : Game) → IsGame g → g.
           let later = at_winner left next his in
           (later.0, inr (q, legal, later.1))
 
-  at_line : (line : List ℕ) (left : Lines) (g : Game) → IsGame g → g.position.turn ≡ other g.solution.winner → (Mate g.position → ⊥) → Goes (AtLine On line left) g
+  at_line : (line : List ℕ) (left : Lines) (g : Game) → IsGame g → g.position.turn ≡ other g.solution.winner → (Mate g.position → ⊥) → HasReport (AtLine On line left) g
   at_line line left g game turn none =
       let reply = some_typed line in
       let on = at_typed left game turn none reply.0 in
       (on.0, (reply.0, reply.1, on.1))
 
-unless : (stop : Bool) (left : Lines) (P : Report → Type 0) → ((report : Report) × P report) → (report : Report) × Unless stop left report (P report)
+unless : (stop : Bool) (left : Lines) (P : GameReport → Type 0) → ((report : GameReport) × P report) → (report : GameReport) × Unless stop left report (P report)
 unless true left P h = (ends Many [] left, refl)
 unless false left P h = h
 
-pub at_lines : (before read : ℕ) (lines : Lines) (g : Game) → IsGame g → g.position.turn ≡ other g.solution.winner → (Mate g.position → ⊥) → Goes (AtLines before read lines) g
+pub at_lines : (before read : ℕ) (lines : Lines) (g : Game) → IsGame g → g.position.turn ≡ other g.solution.winner → (Mate g.position → ⊥) → HasReport (AtLines before read lines) g
 at_lines before read (full line rest) g game turn none =
     unless (read == most_lines) (full line rest) (λ report. AtLine (AtLines before (read + 1) rest) line rest (seen g) report)
     (at_line (AtLines before (read + 1) rest) (λ next on his not_mate. at_lines before (read + 1) rest next on his not_mate) line rest g game turn none)
@@ -122,14 +122,14 @@ at_lines before read (cut front) g game turn none =
 at_lines before read long g game turn none =
     unless (read == most_lines) long (λ report. report ≡ ends (LongAt (before + read + 1)) [] long) (ends (LongAt (before + read + 1)) [] long, refl)
 
-pub at_turn : (before read : ℕ) (lines : Lines) (g : Game) → IsGame g → g.position.turn ≡ other g.solution.winner → Goes (AtTurn before read lines) g
+pub at_turn : (before read : ℕ) (lines : Lines) (g : Game) → IsGame g → g.position.turn ≡ other g.solution.winner → HasReport (AtTurn before read lines) g
 at_turn before read lines g game turn =
     at_loser (AtLines before read lines) (λ next on his none. at_lines before read lines next on his none) lines game turn
 
-pub some_report : (before : ℕ) (lines : Lines) (g : Game) → IsGame g → (report : Report) × IsReport before lines (seen g) report
+pub some_report : (before : ℕ) (lines : Lines) (g : Game) → IsGame g → (report : GameReport) × IsReport before lines (seen g) report
 some_report before lines g game = by (side_or_other g.position.turn g.solution.winner)
   where
-    by : (g.position.turn ≡ g.solution.winner) ⊎ (g.position.turn ≡ other g.solution.winner) → (report : Report) × IsReport before lines (seen g) report
+    by : (g.position.turn ≡ g.solution.winner) ⊎ (g.position.turn ≡ other g.solution.winner) → (report : GameReport) × IsReport before lines (seen g) report
     by (inl turn) =
         let on = at_winner (AtLines before 0 lines) (λ next on his none. at_lines before 0 lines next on his none) lines game turn in
         (on.0, inl (turn, on.1))

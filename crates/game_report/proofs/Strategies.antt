@@ -2,16 +2,16 @@
 use Rattle.std.proofs.Common.{◌≡◌, ◌↔◌, ℕ, suc, Option, subst}
 use Rattle.game_rules.specs.Game.{Position}
 use Rattle.chess_game.specs.declared.way.Frame.{Frame}
-use Rattle.winning_sets.specs.Claimed.{IsHeld, IsHeldBy as IsHeldOf}
+use Rattle.winning_sets.specs.Claimed.{IsHeld, IsHeldFrom as IsHeldOf}
 use Rattle.winning_sets.specs.Solve.{Solution}
 use Rattle.winning_sets.specs.declared.origin.Origin.{Origin}
 use Rattle.winning_sets.specs.declared.origin.Origin.TheVariants.{Plan, Claim as Claimed}
-use Rattle.game_session.specs.Choice.{Pick}
-use Rattle.game_session.specs.declared.choice.Choice.{Choice}
-use Rattle.white_player.specs.Game.{Game, WinPick}
+use Rattle.move_choice.specs.Choice.{Pick}
+use Rattle.move_choice.specs.declared.choice.Choice.{Choice}
+use Rattle.game_session.specs.Game.{Game, WinPick}
 use Rattle.game_report.specs.Laws.{seen, strategy_by}
-use Rattle.game_report.specs.Report.{HeldPick}
-use Rattle.game_session.specs.Squares.{all_squares}
+use Rattle.game_report.specs.GameReport.{HeldPick}
+use Rattle.move_choice.specs.Squares.{all_squares}
 
 pick_by : (o : Origin) (s : Solution) (p : Position) (ply : ℕ) (choice : Option Choice)
     → Pick (IsHeldOf o s (suc ply)) all_squares p choice

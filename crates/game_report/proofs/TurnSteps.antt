@@ -16,114 +16,114 @@ use Rattle.game_rules.specs.Game.{Legal, Mate, Position, man_at, other}
 use Rattle.game_rules.specs.declared.men.Square.{Square}
 use Rattle.winning_sets.specs.Reach.{Reach}
 use Rattle.winning_sets.proofs.ValidLemmas.{valid_few}
-use Rattle.white_player.specs.Game.{Game, IsGame}
+use Rattle.game_session.specs.Game.{Game, IsGame}
 use Rattle.game_laws.proofs.SoundLemmas.{other_differs, other_other}
 use Rattle.chess_game.specs.declared.moves.Move.{Move}
 use Rattle.chess_text.specs.declared.replies.Typed.{Typed}
 use Rattle.chess_text.specs.declared.replies.Typed.TheVariants as typed
-use Rattle.game_session.specs.Choice.{target}
-use Rattle.game_session.specs.declared.choice.Choice.{Choice}
+use Rattle.move_choice.specs.Choice.{target}
+use Rattle.move_choice.specs.declared.choice.Choice.{Choice}
 use Rattle.game_report.specs.Laws.{last_game}
 use Rattle.game_report.specs.Played.{StopsAt}
-use Rattle.game_report.specs.Report.{AtLine, AtLoser, AtTyped, AtWinner, HeldPick, IsTyped, Match, Report, ends, move_line, moved, plays, writes}
+use Rattle.game_report.specs.GameReport.{AtLine, AtLoser, AtTyped, AtWinner, HeldPick, IsTyped, Match, GameReport, ends, move_line, moved, plays, writes}
 use Rattle.game_report.specs.Turns.{AtStart, Comes, EndsAt, IsLosersTurn, IsOpen, Never}
 use Rattle.game_report.specs.declared.play.Ending.{Ending}
 use Rattle.game_report.specs.declared.play.Ending.TheVariants.{Mated, NoLine, Quit, Wide}
 
 -- a report, and then a later one
-abbrev pub joined : Report → Report → Report
+abbrev pub joined : GameReport → GameReport → GameReport
 joined r later = record { text = r.text ++ later.text; games = r.games ++ later.games; ending = later.ending; left = later.left }
 
 -- a report with these lines left
-abbrev pub leaving : Lines → Report → Report
+abbrev pub leaving : Lines → GameReport → GameReport
 leaving left r = record { text = r.text; games = r.games; ending = r.ending; left = left }
 
 -- some report has this text and maybe more
-abbrev pub IsLonger : (Report → Type 0) → List ℕ → Type 0
-IsLonger At text = (whole : Report) × At whole × (more : List ℕ) × (whole.text ≡ text ++ more)
+abbrev pub IsLonger : (GameReport → Type 0) → List ℕ → Type 0
+IsLonger At text = (whole : GameReport) × At whole × (more : List ℕ) × (whole.text ≡ text ++ more)
 
-plays_joined : (mv : Move) (g : Match) (r later : Report) → joined (plays mv g r) later ≡ plays mv g (joined r later)
+plays_joined : (mv : Move) (g : Match) (r later : GameReport) → joined (plays mv g r) later ≡ plays mv g (joined r later)
 plays_joined mv g r later =
-    let Of : List ℕ → Report = λ text. record { text = text; games = g ∷ (r.games ++ later.games); ending = later.ending; left = later.left } in
+    let Of : List ℕ → GameReport = λ text. record { text = text; games = g ∷ (r.games ++ later.games); ending = later.ending; left = later.left } in
     ap Of (append_assoc (move_line g.winner mv) r.text later.text)
 
-writes_joined : (text : List ℕ) (r later : Report) → joined (writes text r) later ≡ writes text (joined r later)
+writes_joined : (text : List ℕ) (r later : GameReport) → joined (writes text r) later ≡ writes text (joined r later)
 writes_joined text r later =
-    let Of : List ℕ → Report = λ bytes. record { text = bytes; games = r.games ++ later.games; ending = later.ending; left = later.left } in
+    let Of : List ℕ → GameReport = λ bytes. record { text = bytes; games = r.games ++ later.games; ending = later.ending; left = later.left } in
     ap Of (append_assoc text r.text later.text)
 
-not_mated : (g : Match) (r : Report) (ending : Ending) (left : Lines) (text : List ℕ) → r ≡ ends ending text left → (ending ≡ NoLine → ⊥) → r.ending ≡ NoLine → ⊥
-not_mated g r ending left text is other_end e = other_end (sym (ap (λ (x : Report). x.ending) is) ∙ e)
+not_mated : (g : Match) (r : GameReport) (ending : Ending) (left : Lines) (text : List ℕ) → r ≡ ends ending text left → (ending ≡ NoLine → ⊥) → r.ending ≡ NoLine → ⊥
+not_mated g r ending left text is other_end e = other_end (sym (ap (λ (x : GameReport). x.ending) is) ∙ e)
 
 -- where more lines come behind, and the game goes on to `after`
-module _ (On : Match → Report → Type 0) (left : Lines) (after : Match) where
-  stays_on : (g : Match) (r later : Report) → EndsAt after g r → On after later → On g (joined r later)
+module _ (On : Match → GameReport → Type 0) (left : Lines) (after : Match) where
+  stays_on : (g : Match) (r later : GameReport) → EndsAt after g r → On after later → On g (joined r later)
   stays_on g r later (same, is) on =
       let there : On after (joined (ends NoLine [] ended) later) = on in
-      subst (λ (x : Match). On x (joined r later)) (sym same) (subst (λ (x : Report). On after (joined x later)) (sym is) there)
+      subst (λ (x : Match). On x (joined r later)) (sym same) (subst (λ (x : GameReport). On after (joined x later)) (sym is) there)
 
-  module _ (later : Report) (on : On after later) where
-    loser_on : (g : Match) (r : Report) → AtLoser (EndsAt after) ended g r → r.ending ≡ NoLine → AtLoser On left g (joined r later)
+  module _ (later : GameReport) (on : On after later) where
+    loser_on : (g : Match) (r : GameReport) → AtLoser (EndsAt after) ended g r → r.ending ≡ NoLine → AtLoser On left g (joined r later)
     loser_on g r (inl (mate, is)) e = absurd (not_mated g r Mated ended (codes "mate\n") is (λ no. cc) e)
     loser_on g r (inr (none, stays)) e = inr (none, stays_on g r later stays on)
 
-    winner_on : (g : Match) (r : Report) → AtWinner (EndsAt after) ended g r → r.ending ≡ NoLine → AtWinner On left g (joined r later)
+    winner_on : (g : Match) (r : GameReport) → AtWinner (EndsAt after) ended g r → r.ending ≡ NoLine → AtWinner On left g (joined r later)
     winner_on g r (inl (none, is)) e = absurd (not_mated g r Wide ended [] is (λ no. cc) e)
     winner_on g r (inr (c, q, r0, pick, legal, goes, is)) e =
-        let e0 : r0.ending ≡ NoLine = sym (ap (λ (x : Report). x.ending) is) ∙ e in
-        inr (c, q, joined r0 later, pick, legal, loser_on (moved g q) r0 goes e0, ap (λ (x : Report). joined x later) is ∙ plays_joined c.mv (moved g q) r0 later)
+        let e0 : r0.ending ≡ NoLine = sym (ap (λ (x : GameReport). x.ending) is) ∙ e in
+        inr (c, q, joined r0 later, pick, legal, loser_on (moved g q) r0 goes e0, ap (λ (x : GameReport). joined x later) is ∙ plays_joined c.mv (moved g q) r0 later)
 
-    pub start_on : (g : Match) (r : Report) → AtStart (EndsAt after) ended g r → r.ending ≡ NoLine → AtStart On left g (joined r later)
+    pub start_on : (g : Match) (r : GameReport) → AtStart (EndsAt after) ended g r → r.ending ≡ NoLine → AtStart On left g (joined r later)
     start_on g r (inl (turn, at)) e = inl (turn, winner_on g r at e)
     start_on g r (inr (turn, at)) e = inr (turn, loser_on g r at e)
 
-    typed_on : (g : Match) (r : Report) (reply : Option Typed) → AtTyped (EndsAt after) ended g r reply → r.ending ≡ NoLine → AtTyped On left g (joined r later) reply
+    typed_on : (g : Match) (r : GameReport) (reply : Option Typed) → AtTyped (EndsAt after) ended g r reply → r.ending ≡ NoLine → AtTyped On left g (joined r later) reply
     typed_on g r None (r0, stays, is) e =
-        (joined r0 later, stays_on g r0 later stays on, ap (λ (x : Report). joined x later) is ∙ writes_joined (codes "unreadable\n") r0 later)
+        (joined r0 later, stays_on g r0 later stays on, ap (λ (x : GameReport). joined x later) is ∙ writes_joined (codes "unreadable\n") r0 later)
     typed_on g r (Some typed.Quit) is e = absurd (not_mated g r Quit ended [] is (λ no. cc) e)
     typed_on g r (Some (typed.Move mv)) (inl (r0, none, stays, is)) e =
-        inl (joined r0 later, none, stays_on g r0 later stays on, ap (λ (x : Report). joined x later) is ∙ writes_joined (codes "illegal\n") r0 later)
+        inl (joined r0 later, none, stays_on g r0 later stays on, ap (λ (x : GameReport). joined x later) is ∙ writes_joined (codes "illegal\n") r0 later)
     typed_on g r (Some (typed.Move mv)) (inr (q, legal, at)) e = inr (q, legal, winner_on (moved g q) r at e)
 
-    pub line_on : (line : List ℕ) (g : Match) (r : Report) → AtLine (EndsAt after) line ended g r → r.ending ≡ NoLine → AtLine On line left g (joined r later)
+    pub line_on : (line : List ℕ) (g : Match) (r : GameReport) → AtLine (EndsAt after) line ended g r → r.ending ≡ NoLine → AtLine On line left g (joined r later)
     line_on line g r (reply, is, at) e = (reply, is, typed_on g r reply at e)
 
 -- where more lines come behind, and the game does not go on
-module _ (On : Match → Report → Type 0) (left : Lines) where
-  loser_ends : (g : Match) (r : Report) → AtLoser Never ended g r → AtLoser On left g (leaving left r)
+module _ (On : Match → GameReport → Type 0) (left : Lines) where
+  loser_ends : (g : Match) (r : GameReport) → AtLoser Never ended g r → AtLoser On left g (leaving left r)
   loser_ends g r (inl (mate, is)) = inl (mate, ap (leaving left) is)
   loser_ends g r (inr (none, never)) = absurd never
 
-  winner_ends : (g : Match) (r : Report) → AtWinner Never ended g r → AtWinner On left g (leaving left r)
+  winner_ends : (g : Match) (r : GameReport) → AtWinner Never ended g r → AtWinner On left g (leaving left r)
   winner_ends g r (inl (none, is)) = inl (none, ap (leaving left) is)
   winner_ends g r (inr (c, q, r0, pick, legal, goes, is)) =
       inr (c, q, leaving left r0, pick, legal, loser_ends (moved g q) r0 goes, ap (leaving left) is)
 
-  pub start_ends : (g : Match) (r : Report) → AtStart Never ended g r → AtStart On left g (leaving left r)
+  pub start_ends : (g : Match) (r : GameReport) → AtStart Never ended g r → AtStart On left g (leaving left r)
   start_ends g r (inl (turn, at)) = inl (turn, winner_ends g r at)
   start_ends g r (inr (turn, at)) = inr (turn, loser_ends g r at)
 
-  typed_ends : (g : Match) (r : Report) (reply : Option Typed) → AtTyped Never ended g r reply → AtTyped On left g (leaving left r) reply
+  typed_ends : (g : Match) (r : GameReport) (reply : Option Typed) → AtTyped Never ended g r reply → AtTyped On left g (leaving left r) reply
   typed_ends g r None (r0, never, is) = absurd never
   typed_ends g r (Some typed.Quit) is = ap (leaving left) is
   typed_ends g r (Some (typed.Move mv)) (inl (r0, none, never, is)) = absurd never
   typed_ends g r (Some (typed.Move mv)) (inr (q, legal, at)) = inr (q, legal, winner_ends (moved g q) r at)
 
-  pub line_ends : (line : List ℕ) (g : Match) (r : Report) → AtLine Never line ended g r → AtLine On line left g (leaving left r)
+  pub line_ends : (line : List ℕ) (g : Match) (r : GameReport) → AtLine Never line ended g r → AtLine On line left g (leaving left r)
   line_ends line g r (reply, is, at) = (reply, is, typed_ends g r reply at)
 
 -- where the sink has failed: the game goes on in some way, or it ends
-module _ (On : Match → Report → Type 0) (left : Lines) (after : Match) (go : (Mate after.position → ⊥) → (later : Report) × On after later) where
-  stays_longer : (g : Match) (r : Report) → (Mate g.position → ⊥) → EndsAt after g r → IsLonger (On g) r.text
+module _ (On : Match → GameReport → Type 0) (left : Lines) (after : Match) (go : (Mate after.position → ⊥) → (later : GameReport) × On after later) where
+  stays_longer : (g : Match) (r : GameReport) → (Mate g.position → ⊥) → EndsAt after g r → IsLonger (On g) r.text
   stays_longer g r none (same, is) =
       let later = go (subst (λ (x : Match). Mate x.position → ⊥) same none) in
       (joined r later.0, stays_on On left after g r later.0 (same, is) later.1, later.0.text, refl)
 
-  loser_longer : (g : Match) (r : Report) → AtLoser (EndsAt after) ended g r → IsLonger (AtLoser On left g) r.text
+  loser_longer : (g : Match) (r : GameReport) → AtLoser (EndsAt after) ended g r → IsLonger (AtLoser On left g) r.text
   loser_longer g r (inl (mate, is)) = (leaving left r, inl (mate, ap (leaving left) is), [], sym (append-nil r.text))
   loser_longer g r (inr (none, stays)) = let w = stays_longer g r none stays in (w.0, inr (none, w.1), w.2, w.3)
 
-  winner_longer : (g : Match) (r : Report) → AtWinner (EndsAt after) ended g r → IsLonger (AtWinner On left g) r.text
+  winner_longer : (g : Match) (r : GameReport) → AtWinner (EndsAt after) ended g r → IsLonger (AtWinner On left g) r.text
   winner_longer g r (inl (none, is)) = (leaving left r, inl (none, ap (leaving left) is), [], sym (append-nil r.text))
   winner_longer g r (inr (c, q, r0, pick, legal, goes, is)) =
       let w = loser_longer (moved g q) r0 goes in
@@ -131,21 +131,21 @@ module _ (On : Match → Report → Type 0) (left : Lines) (after : Match) (go :
         plays c.mv (moved g q) w.0,
         inr (c, q, w.0, pick, legal, w.1, refl),
         w.2,
-        ap (λ bytes. line ++ bytes) w.3 ∙ (sym (append_assoc line r0.text w.2) ∙ ap (λ (x : Report). x.text ++ w.2) (sym is)),
+        ap (λ bytes. line ++ bytes) w.3 ∙ (sym (append_assoc line r0.text w.2) ∙ ap (λ (x : GameReport). x.text ++ w.2) (sym is)),
       )
 
-  pub start_longer : (g : Match) (r : Report) → AtStart (EndsAt after) ended g r → IsLonger (AtStart On left g) r.text
+  pub start_longer : (g : Match) (r : GameReport) → AtStart (EndsAt after) ended g r → IsLonger (AtStart On left g) r.text
   start_longer g r (inl (turn, at)) = let w = winner_longer g r at in (w.0, inl (turn, w.1), w.2, w.3)
   start_longer g r (inr (turn, at)) = let w = loser_longer g r at in (w.0, inr (turn, w.1), w.2, w.3)
 
   -- the same for a line that is written where nothing is changed
-  written_longer : (text : List ℕ) (g : Match) (r r0 : Report) → (Mate g.position → ⊥) → EndsAt after g r0 → r ≡ writes text r0
-      → (later : Report) × On g later × (more : List ℕ) × ((writes text later).text ≡ r.text ++ more)
+  written_longer : (text : List ℕ) (g : Match) (r r0 : GameReport) → (Mate g.position → ⊥) → EndsAt after g r0 → r ≡ writes text r0
+      → (later : GameReport) × On g later × (more : List ℕ) × ((writes text later).text ≡ r.text ++ more)
   written_longer text g r r0 none stays is =
       let w = stays_longer g r0 none stays in
-      (w.0, w.1, w.2, ap (λ bytes. text ++ bytes) w.3 ∙ (sym (append_assoc text r0.text w.2) ∙ ap (λ (x : Report). x.text ++ w.2) (sym is)))
+      (w.0, w.1, w.2, ap (λ bytes. text ++ bytes) w.3 ∙ (sym (append_assoc text r0.text w.2) ∙ ap (λ (x : GameReport). x.text ++ w.2) (sym is)))
 
-  typed_longer : (g : Match) (r : Report) → (Mate g.position → ⊥) → (reply : Option Typed) → AtTyped (EndsAt after) ended g r reply
+  typed_longer : (g : Match) (r : GameReport) → (Mate g.position → ⊥) → (reply : Option Typed) → AtTyped (EndsAt after) ended g r reply
       → IsLonger (λ x. AtTyped On left g x reply) r.text
   typed_longer g r open_still None (r0, stays, is) =
       let w = written_longer (codes "unreadable\n") g r r0 open_still stays is in
@@ -157,7 +157,7 @@ module _ (On : Match → Report → Type 0) (left : Lines) (after : Match) (go :
   typed_longer g r open_still (Some (typed.Move mv)) (inr (q, legal, at)) =
       let w = winner_longer (moved g q) r at in (w.0, inr (q, legal, w.1), w.2, w.3)
 
-  pub line_longer : (line : List ℕ) (g : Match) (r : Report) → (Mate g.position → ⊥) → AtLine (EndsAt after) line ended g r → IsLonger (AtLine On line left g) r.text
+  pub line_longer : (line : List ℕ) (g : Match) (r : GameReport) → (Mate g.position → ⊥) → AtLine (EndsAt after) line ended g r → IsLonger (AtLine On line left g) r.text
   line_longer line g r open_still (reply, is, at) = let w = typed_longer g r open_still reply at in (w.0, (reply, is, w.1), w.2, w.3)
 
 -- fronts of what is written
@@ -210,14 +210,14 @@ move_short mv x y =
     omega (arith, one, two, length-append first (32 ∷ second))
 
 -- What comes of a part of a game, where its report is also said in other words.
-pub comes_as : (Says More : (Match → Report → Type 0) → Report → Type 0) → ((On : Match → Report → Type 0) (r : Report) → Says On r → More On r)
+pub comes_as : (Says More : (Match → GameReport → Type 0) → GameReport → Type 0) → ((On : Match → GameReport → Type 0) (r : GameReport) → Says On r → More On r)
     → (g after : Match) (old new : Option (List ℕ)) (result : Result (Option Ending) Failed) → Comes result Says g after old new → Comes result More g after old new
 comes_as Says More more g after old new (Ok None) (r, says, e, wrote, last, on) = (r, more (EndsAt after) r says, e, wrote, last, on)
 comes_as Says More more g after old new (Ok (Some ending)) (r, says, e, wrote, stops) = (r, more Never r says, e, wrote, stops)
 comes_as Says More more g after old new (Err why) (r, says, wrote, turn) = (r, more (EndsAt after) r says, wrote, turn)
 
 module _ (g : Match) (old new : Option (List ℕ)) where
-  abbrev AtLosers : (Match → Report → Type 0) → Report → Type 0
+  abbrev AtLosers : (Match → GameReport → Type 0) → GameReport → Type 0
   AtLosers On r = AtLoser On ended g r
 
   -- the loser is mated or not, and this is told
@@ -238,14 +238,14 @@ module _ (g : Match) (old new : Option (List ℕ)) where
 -- the winner has made his pick, and its line was written
 module _ (g after : Match) (c : Choice) (q : Position) (is_after : after ≡ moved g q) (pick : HeldPick g (Some c)) (legal : Legal g.position c.mv.man (target c.mv) q)
     (old new : Option (List ℕ)) where
-  abbrev AtWinners : (Match → Report → Type 0) → Report → Type 0
+  abbrev AtWinners : (Match → GameReport → Type 0) → GameReport → Type 0
   AtWinners On r = AtWinner On ended g r
 
   -- the line of his move
   abbrev line : List ℕ
   line = move_line g.winner c.mv
 
-  made : (On : Match → Report → Type 0) (r : Report) → AtLoser On ended (moved g q) r → AtWinner On ended g (plays c.mv (moved g q) r)
+  made : (On : Match → GameReport → Type 0) (r : GameReport) → AtLoser On ended (moved g q) r → AtWinner On ended g (plays c.mv (moved g q) r)
   made On r at = inr (c, q, r, pick, legal, at, refl)
 
   made_on : (mid : Option (List ℕ)) → Appends old mid line → (result : Result (Option Ending) Failed)
@@ -264,10 +264,10 @@ module _ (g after : Match) (c : Choice) (q : Position) (is_after : after ≡ mov
   -- its line was not
   made_fails : (why : Failed) (told : Bool) → IsTrue told ↔ Mate q → IsLosersTurn (moved g q) → AppendsFront old new line → Comes (Err why) AtWinners g (moved g q) old new
   made_fails why true mate turn wrote =
-      let r : Report = ends Mated (codes "mate\n") ended in
+      let r : GameReport = ends Mated (codes "mate\n") ended in
       (plays c.mv (moved g q) r, made (EndsAt (moved g q)) r (inl (mate.0 refl, refl)), front_more r.text wrote, turn)
   made_fails why false mate turn wrote =
-      let r : Report = ends NoLine [] ended in
+      let r : GameReport = ends NoLine [] ended in
       let none : Mate q → ⊥ = λ m. absurd (let never : false ≡ true = mate.1 m in cc) in
       (plays c.mv (moved g q) r, made (EndsAt (moved g q)) r (inr (none, (refl, refl))), front_more r.text wrote, turn)
 
@@ -286,18 +286,18 @@ module _ (g : Match) (mv : Move) (q : Position) (turn : IsLosersTurn g) (legal :
   his : (moved g q).position.turn ≡ g.winner
   his = legal.step.after.turn ∙ (ap other turn ∙ other_other g.winner)
 
-  last_after : (On : Match → Report → Type 0) (r : Report) → AtWinner On ended (moved g q) r → r.ending ≡ NoLine → after ≡ last_game (moved g q) r.games → after ≡ last_game g r.games
+  last_after : (On : Match → GameReport → Type 0) (r : GameReport) → AtWinner On ended (moved g q) r → r.ending ≡ NoLine → after ≡ last_game (moved g q) r.games → after ≡ last_game g r.games
   last_after On r (inl (none, is)) e last = absurd (not_mated g r Wide ended [] is (λ no. cc) e)
   last_after On r (inr (c, p, r0, pick, safe, at, is)) e last =
-      let games : r.games ≡ moved (moved g q) p ∷ r0.games = ap (λ (x : Report). x.games) is in
+      let games : r.games ≡ moved (moved g q) p ∷ r0.games = ap (λ (x : GameReport). x.games) is in
       let there : after ≡ last_game (moved (moved g q) p) r0.games = last ∙ ap (last_game (moved g q)) games in
       there ∙ sym (ap (last_game g) games)
 
-  stops_after : (On : Match → Report → Type 0) (r : Report) → AtWinner On ended (moved g q) r → StopsAt (last_game (moved g q) r.games) r.ending after
+  stops_after : (On : Match → GameReport → Type 0) (r : GameReport) → AtWinner On ended (moved g q) r → StopsAt (last_game (moved g q) r.games) r.ending after
       → StopsAt (last_game g r.games) r.ending after
   stops_after On r (inl (none, is)) stops =
-      let games : r.games ≡ [] = ap (λ (x : Report). x.games) is in
-      let ending : r.ending ≡ Wide = ap (λ (x : Report). x.ending) is in
+      let games : r.games ≡ [] = ap (λ (x : GameReport). x.games) is in
+      let ending : r.ending ≡ Wide = ap (λ (x : GameReport). x.ending) is in
       subst (λ (xs : List Match). StopsAt (last_game g xs) r.ending after) (sym games)
       (by ending (subst (λ (xs : List Match). StopsAt (last_game (moved g q) xs) r.ending after) games stops))
     where
@@ -307,7 +307,7 @@ module _ (g : Match) (mv : Move) (q : Position) (turn : IsLosersTurn g) (legal :
           inr (wide_end, turn, mv, subst (Legal g.position mv.man (target mv)) (sym at) legal, same ∙ ap (moved g) (sym at))
       by wide_end (inr (w, losers, again, to, at)) = absurd (other_differs g.winner (sym his ∙ losers))
   stops_after On r (inr (c, p, r0, pick, safe, at, is)) stops =
-      let games : r.games ≡ moved (moved g q) p ∷ r0.games = ap (λ (x : Report). x.games) is in
+      let games : r.games ≡ moved (moved g q) p ∷ r0.games = ap (λ (x : GameReport). x.games) is in
       let there : StopsAt (last_game (moved (moved g q) p) r0.games) r.ending after =
       subst (λ (xs : List Match). StopsAt (last_game (moved g q) xs) r.ending after) games stops in
       subst (λ (xs : List Match). StopsAt (last_game g xs) r.ending after) (sym games) there
@@ -323,8 +323,8 @@ module _ (g : Match) (mv : Move) (q : Position) (turn : IsLosersTurn g) (legal :
   made_comes mid is result comes = answered_by result (subst (λ (x : Match). Comes result (λ On r. AtWinner On ended x r) x after old new) is comes)
 
 -- a line was answered, and nothing was changed
-module _ (g after : Match) (same : after ≡ g) (is_open : IsOpen g) (text : List ℕ) (Says : (Match → Report → Type 0) → Report → Type 0)
-    (says : (On : Match → Report → Type 0) (later : Report) → On g later → Says On (writes text later)) (old new : Option (List ℕ)) where
+module _ (g after : Match) (same : after ≡ g) (is_open : IsOpen g) (text : List ℕ) (Says : (Match → GameReport → Type 0) → GameReport → Type 0)
+    (says : (On : Match → GameReport → Type 0) (later : GameReport) → On g later → Says On (writes text later)) (old new : Option (List ℕ)) where
   open_after : IsOpen after
   open_after = subst IsOpen (sym same) is_open
 

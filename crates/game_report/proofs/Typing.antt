@@ -14,7 +14,7 @@ use Rattle.chess_text.specs.declared.replies.MoveWhy.TheVariants as why
 use Rattle.chess_text.specs.declared.replies.Typed.{Typed}
 use Rattle.chess_text.specs.declared.replies.Typed.TheVariants as typed
 use Rattle.chess_text.proofs.Pairs.{fields_are, no_two_fields}
-use Rattle.game_report.specs.Report.{IsTyped}
+use Rattle.game_report.specs.GameReport.{IsTyped}
 
 same_bytes : (xs ys : List ℕ) → Decided (xs ≡ ys)
 same_bytes [] [] = inl refl

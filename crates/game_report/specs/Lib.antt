@@ -1,4 +1,4 @@
 pub mod Laws
 pub mod Played
-pub mod Report
+pub mod GameReport
 pub mod Turns

@@ -10,11 +10,11 @@ use Rattle.desk_base.specs.declared.source.Source.{Ghosts as SourceModel}
 use Rattle.game_rules.specs.Game.{Legal, other}
 use Rattle.chess_game.specs.declared.moves.Move.{Move}
 use Rattle.chess_text.specs.PositionText.{text_of_lines}
-use Rattle.game_session.specs.Choice.{target}
+use Rattle.move_choice.specs.Choice.{target}
 use Rattle.game_report.specs.Laws.{last_game, seen}
-use Rattle.game_report.specs.Report.{IsReport, Match, Report, moved}
+use Rattle.game_report.specs.GameReport.{IsReport, Match, GameReport, moved}
 use Rattle.desk_text.specs.Taken.{TakesLines}
-use Rattle.white_player.specs.Game.{Game}
+use Rattle.game_session.specs.Game.{Game}
 use Rattle.game_report.specs.declared.play.Ending.{Ending}
 use Rattle.game_report.specs.declared.play.Ending.TheVariants.{Mated, Wide, Quit, NoLine, Many, CutAt, LongAt}
 use Rattle.game_report.specs.declared.play.GameError.{GameError}
@@ -43,7 +43,7 @@ is_short (LongAt number) = false
 -- a line is due behind these, before which so many lines stood: the report on them ends because they do
 abbrev pub IsDue : ℕ → Match → List (List ℕ) → Type 0
 IsDue before g lines =
-    (report : Report) × IsReport before (lines_of (text_of_lines lines)) g report × (report.ending ≡ NoLine)
+    (report : GameReport) × IsReport before (lines_of (text_of_lines lines)) g report × (report.ending ≡ NoLine)
 
 -- the game ends at the last that is reported, or, where the winner has no move, at what a reply has made of that
 abbrev pub StopsAt : Match → Ending → Match → Type 0
@@ -54,7 +54,7 @@ StopsAt last ending after =
     × (after ≡ moved last after.position))
 
 -- The game was played as is reported of these bytes, of which those behind the last line that was read are `behind`.
-pub record GoesAs (report : Report) (before : ℕ) (bytes behind : List ℕ) (g after : Match)
+pub record GoesAs (report : GameReport) (before : ℕ) (bytes behind : List ℕ) (g after : Match)
     (old new : Option (List ℕ)) : Type 0 where
   pub reports : IsReport before (lines_of bytes) g report
   pub written : Appends old new report.text
@@ -66,16 +66,16 @@ abbrev pub GameEnds : Result Ending GameError → ℕ → (taken rest : List ℕ
     → Type 0
 -- as is reported of the whole input
 GameEnds (Ok ending) before taken rest g after old new =
-    (report : Report)
+    (report : GameReport)
     × GoesAs report before (old.pending ++ (taken ++ rest)) (new.pending ++ rest) g after old.written new.written
     × (report.ending ≡ ending)
 -- the source has failed: as is reported of the bytes that were taken, where they end
 GameEnds (Err Read) before taken rest g after old new =
-    (report : Report) × GoesAs report before (old.pending ++ taken) new.pending g after old.written new.written
+    (report : GameReport) × GoesAs report before (old.pending ++ taken) new.pending g after old.written new.written
     × IsTrue (is_short report.ending)
 -- the sink has failed within the text that is reported of the whole input
 GameEnds (Err Write) before taken rest g after old new =
-    (report : Report) × IsReport before (lines_of (old.pending ++ (taken ++ rest))) g report
+    (report : GameReport) × IsReport before (lines_of (old.pending ++ (taken ++ rest))) g report
     × AppendsFront old.written new.written report.text
 
 -- How a game is played from `g` on, before which so many lines of the input stood. The bytes behind those that it takes
@@ -104,4 +104,4 @@ IsPlayedOn s k answer before session lent =
 
 -- no line is due: the report on no input ends otherwise than by its end
 abbrev pub IsSettled : ℕ → Match → Type 0
-IsSettled before g = (report : Report) × IsReport before ended g report × (report.ending ≡ NoLine → ⊥)
+IsSettled before g = (report : GameReport) × IsReport before ended g report × (report.ending ≡ NoLine → ⊥)

@@ -1,7 +1,7 @@
 //! Laws of the definitions, each the contract of a function that does nothing.
 ghost use Rattle.std.specs.Prelude.{◌≡◌};
 ghost use Rattle.game_report.specs.Laws.{MatedInTime, MatedIsMate, OneReport, ReportIsLost, ReportIsPlayed, SomeLater, SomeReport};
-ghost use Rattle.game_session.specs.Squares.{all_squares};
+ghost use Rattle.move_choice.specs.Squares.{all_squares};
 
 /// Of a game and the same lines there is one report at most.
 pub fn one_report()

@@ -3,12 +3,12 @@ ghost use Rattle.std.specs.Prelude.{◌≡◌, ◌≤◌, ◌<◌, ◌+◌, ◌^
 ghost use Rattle.desk_base.specs.Faults.{HasRisen};
 ghost use Rattle.game_report.specs.Laws.{seen};
 ghost use Rattle.game_report.specs.Played.{IsPlayedOn, IsSettled};
-ghost use Rattle.game_report.specs.Report.{most_lines};
-ghost use Rattle.game_session.specs.Squares.{all_squares};
+ghost use Rattle.game_report.specs.GameReport.{most_lines};
+ghost use Rattle.move_choice.specs.Squares.{all_squares};
 
 use crate::turn::{open, reply};
 use desk_base::{Line, LineError, LineReader, Sink, Source};
-use white_player::Session;
+use game_session::Session;
 
 /// How a game ends.
 #[derive(Clone, Copy, PartialEq, Eq)]

@@ -4,18 +4,18 @@ ghost use Rattle.std.specs.Io.KnownBytes.{Appends};
 ghost use Rattle.desk_base.specs.Faults.{HasRisen};
 ghost use Rattle.desk_base.specs.Moves.{AppendsFront};
 ghost use Rattle.game_report.specs.Laws.{seen};
-ghost use Rattle.game_report.specs.Report as reports;
-ghost use Rattle.game_report.specs.Report.{AtWinner};
-ghost use Rattle.game_session.specs.Squares.{all_squares};
+ghost use Rattle.game_report.specs.GameReport as reports;
+ghost use Rattle.game_report.specs.GameReport.{AtWinner};
+ghost use Rattle.move_choice.specs.Squares.{all_squares};
 ghost use Rattle.game_report.specs.Turns.{AtMove, AtStart, AtText, ComesOf, IsOpen};
-ghost use Rattle.white_player.specs.Game.{IsGame};
+ghost use Rattle.game_session.specs.Game.{IsGame};
 
 use crate::play::Ending;
 use chess_game::{Move, Side};
 use chess_text::line_buffer::LineBuffer;
 use chess_text::{MoveText, Typed, read_move};
 use desk_base::{Failed, Sink, put_all};
-use white_player::Session;
+use game_session::Session;
 
 /// The word that a line of the winner's begins with.
 fn side_word(side: Side) -> &'static [u8]

@@ -132,8 +132,8 @@ abbrev pub Attacked : Position → Side → Square → Type 0
 Attacked p s z = Any (λ m. (m.side ≡ s) × Bears p m z) p.men
 
 -- a live man of the side stands on the square
-abbrev pub IsHeldBy : Position → Side → Square → Type 0
-IsHeldBy p s z = Any (λ m. (m.side ≡ s) × StandsOn m z) p.men
+abbrev pub IsOccupiedBy : Position → Side → Square → Type 0
+IsOccupiedBy p s z = Any (λ m. (m.side ≡ s) × StandsOn m z) p.men
 
 abbrev pub IsEmptySquare : Position → Square → Type 0
 IsEmptySquare p z = All (λ m. StandsOn m z → ⊥) p.men
@@ -141,7 +141,7 @@ IsEmptySquare p z = All (λ m. StandsOn m z → ⊥) p.men
 -- how a man of this kind may go to a square on which none of his side stands (Articles 3.1, 3.7.1 and 3.7.3)
 abbrev pub GoesAs : Kind → Position → Man → Square → Type 0
 GoesAs Pawn p m z =
-    (Bears p m z × IsHeldBy p (other m.side) z)
+    (Bears p m z × IsOccupiedBy p (other m.side) z)
     ⊎ (StandsOn m (record { x = z.x; y = z.y -ℤ forward m.side }) × IsEmptySquare p z)
 GoesAs _ p m z = Bears p m z
 
@@ -165,7 +165,7 @@ pub record Step (p : Position) (i : ℕ) (z : Square) (q : Position) : Type 0 wh
   pub man : Man
   pub is_man : man_at p i ≡ Some man
   pub his_turn : man.side ≡ p.turn
-  pub not_own : IsHeldBy p p.turn z → ⊥
+  pub not_own : IsOccupiedBy p p.turn z → ⊥
   pub goes : Goes p man z
   pub after : IsAfter p i z q
 

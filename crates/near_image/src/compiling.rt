@@ -24,7 +24,7 @@ use crate::shifting::moved;
 use auto_compact::renamed;
 use auto_core::Auto;
 use auto_walk::Grown;
-use formula_auto::{CompileError, Level, Memo, SetTable};
+use formula_auto::{CompileError, MeetTable, Memo, SetTable};
 use limits::Budget;
 use lin_formula::Formula;
 use std::alloc::{AllocError, Global};
@@ -35,24 +35,24 @@ pub fn compile_image_on(
     alloc: Global,
     memo: &mut Memo,
     f: &Formula,
-    level: &mut Level,
+    meets: &mut MeetTable,
 ) -> Result<Auto, CompileError>
-    requires compilable { IsCompilable (tree_of f.now) level.old.sets }
+    requires compilable { IsCompilable (tree_of f.now) meets.old.sets }
     requires few_steps { length (steps (tree_of f.now)) < 2 ^ 31 }
-    requires same_budget { level.old.budget ≡ memo.old.budget }
+    requires same_budget { meets.old.budget ≡ memo.old.budget }
     ensures reached { IfOk result AllReached }
     ensures few { IfOk result (λ a. HasStep (tree_of f.now) → length a.accept ≤ memo.old.budget) }
-    ensures decides { IfOk result (λ a. Decides a (tree_of f.now) (members (tables level.old.sets))) }
+    ensures decides { IfOk result (λ a. Decides a (tree_of f.now) (members (tables meets.old.sets))) }
     ensures integers { IfOk result DecidesIntegers }
-    ensures within { OnOk result (StaysWithin (tree_of f.now) (members (tables level.old.sets)) memo.old.budget) }
-    ensures over { IfErr result (IsCompileError (tree_of f.now) (tables level.old.sets) 0 memo.old.budget) }
+    ensures within { OnOk result (StaysWithin (tree_of f.now) (members (tables meets.old.sets)) memo.old.budget) }
+    ensures over { IfErr result (IsCompileError (tree_of f.now) (tables meets.old.sets) 0 memo.old.budget) }
     ensures budget { memo.new.budget ≡ memo.old.budget }
-    ensures same_sets { level.new.sets ≡ level.old.sets }
-    ensures level_budget { level.new.budget ≡ level.old.budget }
+    ensures same_sets { meets.new.sets ≡ meets.old.sets }
+    ensures meets_budget { meets.new.budget ≡ meets.old.budget }
 {
-    match by_moving(alloc, memo, f, level.sets())? {
+    match by_moving(alloc, memo, f, meets.sets())? {
         Some(auto) => Ok(auto),
-        None => memo.compile_on(alloc, f, level),
+        None => memo.compile_on(alloc, f, meets),
     }
 }
 

@@ -31,11 +31,11 @@ pub fn are_empty<P: Copy>(
     ensures answers { Answers (plan.are_empty part 1 (items_over sets.now formulas.now)) memo.old.budget as_is result }
     ensures budget { memo.new.budget ≡ memo.old.budget }
 {
-    let mut level = memo.level(alloc, sets);
+    let mut meets = memo.meets(alloc, sets);
     let mut at = 1;
     for f in formulas {
         let from = StepName { part, at };
-        let made = make_on(alloc, memo, &mut level, from, f)?;
+        let made = make_on(alloc, memo, &mut meets, from, f)?;
         if !is_none_or_empty(&made.set) {
             return Ok(false);
         }

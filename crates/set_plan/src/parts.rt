@@ -18,7 +18,7 @@ use crate::steps::step_count;
 use crate::stop::{PlanError, StepName};
 use auto_core::Auto;
 use auto_walk::Grown;
-use formula_auto::{Level, Memo, SetTable};
+use formula_auto::{MeetTable, Memo, SetTable};
 use limits::Budget;
 use lin_formula::Formula;
 use near_image::compile_image_on;
@@ -59,25 +59,25 @@ pub fn make<P: Copy>(
     }
 }
 
-/// As `make` over the table of the level, for those who go on with the set: it need not be reduced.
+/// As `make` over the table of the table of meets, for those who go on with the set: it need not be reduced.
 pub fn make_on<P: Copy>(
     alloc: Global,
     memo: &mut Memo,
-    level: &mut Level,
+    meets: &mut MeetTable,
     from: StepName<P>,
     f: &Formula,
 ) -> Result<Made, PlanError<P>>
-    requires item { IsItemOn (free_vars (tree_of f.now)) level.old.sets (tree_of f.now) }
-    requires same_budget { level.old.budget ≡ memo.old.budget }
+    requires item { IsItemOn (free_vars (tree_of f.now)) meets.old.sets (tree_of f.now) }
+    requires same_budget { meets.old.budget ≡ memo.old.budget }
     requires room { from.at < 2 ^ 31 }
-    ensures answers { AnswersMade memo.old (plan.make from.part from.at (item_over level.old.sets f.now)) result }
+    ensures answers { AnswersMade memo.old (plan.make from.part from.at (item_over meets.old.sets f.now)) result }
     ensures set { IfOk result (λ made. IfSome made.set (IsReachedOn (free_vars (tree_of f.now)))) }
     ensures room { IfOk result (λ made. made.at < from.at + 1000) }
     ensures budget { memo.new.budget ≡ memo.old.budget }
-    ensures same_sets { level.new.sets ≡ level.old.sets }
-    ensures level_budget { level.new.budget ≡ level.old.budget }
+    ensures same_sets { meets.new.sets ≡ meets.old.sets }
+    ensures meets_budget { meets.new.budget ≡ meets.old.budget }
 {
-    if lacks_a_set(f, level.sets()) {
+    if lacks_a_set(f, meets.sets()) {
         return Ok(Made {
             set: None,
             at: from.at,
@@ -85,7 +85,7 @@ pub fn make_on<P: Copy>(
     }
     let count = step_count(f);
     let _ = memo.budget(); // for its invariant
-    match compile_image_on(alloc, memo, f, level) {
+    match compile_image_on(alloc, memo, f, meets) {
         Ok(a) => Ok(Made {
             set: Some(a),
             at: from.at + count,
@@ -109,8 +109,8 @@ pub fn make_reached<P: Copy>(
     ensures room { IfOk result (λ made. made.at < from.at + 1000) }
     ensures budget { memo.new.budget ≡ memo.old.budget }
 {
-    let mut level = memo.level(alloc, sets);
-    let made = make_on(alloc, memo, &mut level, from, f);
+    let mut meets = memo.meets(alloc, sets);
+    let made = make_on(alloc, memo, &mut meets, from, f);
     made
 }
 
@@ -159,27 +159,27 @@ impl<P: Copy> Uniting<'_, P> {
     fn with_item(
         &self,
         memo: &mut Memo,
-        level: &mut Level,
+        meets: &mut MeetTable,
         f: &Formula,
         so_far: Made,
     ) -> Result<Made, PlanError<P>>
-        requires item { IsItemOn self.now.tracks.now level.old.sets (tree_of f.now) }
-        requires same_budget { level.old.budget ≡ memo.old.budget }
+        requires item { IsItemOn self.now.tracks.now meets.old.sets (tree_of f.now) }
+        requires same_budget { meets.old.budget ≡ memo.old.budget }
         requires so_far { IfSome so_far.set (IsReachedOn self.now.tracks.now) }
         requires room { so_far.at + 1001 < 2 ^ 31 }
-        ensures answers { AnswersMade memo.old (making.with_item self.now level.old.sets f.now so_far) result }
+        ensures answers { AnswersMade memo.old (making.with_item self.now meets.old.sets f.now so_far) result }
         ensures set { IfOk result (λ made. IfSome made.set (IsReachedOn self.now.tracks.now)) }
         ensures room { IfOk result (λ made. made.at ≤ so_far.at + 1001) }
         ensures budget { memo.new.budget ≡ memo.old.budget }
-        ensures same_sets { level.new.sets ≡ level.old.sets }
-        ensures level_budget { level.new.budget ≡ level.old.budget }
+        ensures same_sets { meets.new.sets ≡ meets.old.sets }
+        ensures meets_budget { meets.new.budget ≡ meets.old.budget }
     {
         let Made { set, at } = so_far;
         let from = StepName {
             part: self.part,
             at,
         };
-        let next = make_on(self.alloc, memo, level, from, f)?;
+        let next = make_on(self.alloc, memo, meets, from, f)?;
         let budget = memo.budget();
         let made = self.join(set, next, budget)?;
         Ok(made)
@@ -189,21 +189,21 @@ impl<P: Copy> Uniting<'_, P> {
     fn union_of(
         &self,
         memo: &mut Memo,
-        level: &mut Level,
+        meets: &mut MeetTable,
         at: u32,
         formulas: &[Formula],
     ) -> Result<Made, PlanError<P>>
-        requires items { All (IsItemOn self.now.tracks.now level.old.sets) (map tree_of formulas.now) }
-        requires same_budget { level.old.budget ≡ memo.old.budget }
+        requires items { All (IsItemOn self.now.tracks.now meets.old.sets) (map tree_of formulas.now) }
+        requires same_budget { meets.old.budget ≡ memo.old.budget }
         requires few { length formulas.now < 2 ^ 20 }
         requires room { at < 2 ^ 30 }
-        ensures answers { AnswersMade memo.old (making.union_of self.now level.old.sets at formulas.now) result }
+        ensures answers { AnswersMade memo.old (making.union_of self.now meets.old.sets at formulas.now) result }
         ensures set { IfOk result (λ made. IfSome made.set (IsReachedOn self.now.tracks.now)) }
         ensures budget { memo.new.budget ≡ memo.old.budget }
     {
         let mut made = Made { set: None, at };
         for f in formulas {
-            made = self.with_item(memo, level, f, made)?;
+            made = self.with_item(memo, meets, f, made)?;
         }
         Ok(made)
     }
@@ -245,8 +245,8 @@ pub fn unite<P: Copy>(
         tracks,
         part,
     };
-    let mut level = memo.level(alloc, sets);
-    let made = uniting.union_of(memo, &mut level, at, formulas)?;
+    let mut meets = memo.meets(alloc, sets);
+    let made = uniting.union_of(memo, &mut meets, at, formulas)?;
     Ok(reduced(alloc, made)?)
 }
 

@@ -16,7 +16,7 @@ use Rattle.strategy_file.specs.declared.refusal.ByteWhy.TheVariants as why
 use Rattle.strategy_file.specs.declared.version.Version.{Version}
 use Rattle.strategy_file.specs.declared.version.Version.TheVariants as versions
 use Rattle.strategy_file.specs.Versions.{most_kind, most_men, most_turn, version_byte, version_of}
-use Rattle.strategy_file.specs.Layout.{Layout, Give, bind, one, between, repeated, each, Ends}
+use Rattle.strategy_file.specs.Layout.{Layout, Give, bind, one, between, repeated, each, IsFileEnd}
 use Rattle.strategy_file.specs.Reading.{taken}
 use Rattle.std.specs.Option.{ForSome}
 use Rattle.game_rules.specs.Game.{place_square}
@@ -195,7 +195,7 @@ module _ (version : Version) (c : Claim) (h : HasFile version c) where
       let all = then_again (sets_layout start) (λ sets. Give (charts_with start sets)) back [] (map chart_of c.sets) made placed (give_again made) in
       let read : taken (charts_layout start) at back ≡ Ok (made, record { at = at + length (back ++ []); bytes = [] }) =
       ap (taken (charts_layout start) at) (sym (append-nil back) ∙ sym (append-nil (back ++ []))) ∙ all.read at [] in
-      let whole = came (charts_layout start) Ends at back made (record { at = at + length (back ++ []); bytes = [] }) (Ok made) read (ends_whole made (at + length (back ++ [])) [] refl) in
+      let whole = came (charts_layout start) IsFileEnd at back made (record { at = at + length (back ++ []); bytes = [] }) (Ok made) read (ends_whole made (at + length (back ++ [])) [] refl) in
       came start_layout GoesOn 0 (front ++ back) start (record { at = at; bytes = back }) (Ok made) (first.read 0 back) (inr (h.sound, whole))
 
 written_by : (version : Version) (c : Claim) (bytes : List ℕ) → HasFile version c → IsBytesOf version c bytes → length bytes ≤ most_bytes → File bytes (Ok (charts_of c))

@@ -10,7 +10,7 @@ use Rattle.rule_formula.specs.Mean.{mask_tracks}
 use Rattle.mate_plan.specs.Claim.{Claim, ClaimedSet, losers_plies}
 use Rattle.strategy_file.specs.declared.version.Version.{Version}
 use Rattle.strategy_file.specs.declared.refusal.ByteWhy.TheVariants as why
-use Rattle.strategy_file.specs.Layout.{Refusal, Byte, Layout, Give, ◌>>=◌, one, between, each, Reads, Ends}
+use Rattle.strategy_file.specs.Layout.{Refusal, Byte, Layout, Give, ◌>>=◌, one, between, each, Reads, IsFileEnd}
 use Rattle.strategy_file.specs.Men.{Start, start_layout}
 use Rattle.strategy_file.specs.Tables.{Table, table_of, table_layout}
 
@@ -65,7 +65,7 @@ charts_layout start = do
 
 -- the sets of the claim follow, and nothing behind them, or this is the first reason why they do not
 abbrev pub SetsFollow : Start → ℕ → List ℕ → Result Charts Refusal → Type 0
-SetsFollow start at bytes outcome = Reads (charts_layout start) Ends at bytes outcome
+SetsFollow start at bytes outcome = Reads (charts_layout start) IsFileEnd at bytes outcome
 
 -- after the men the position has to be sound
 abbrev pub GoesOn : Start → ℕ → List ℕ → Result Charts Refusal → Type 0

@@ -63,9 +63,9 @@ abbrev pub IsValid : Solution → Type 0
 IsValid s = IsValidBy s.origin s
 
 -- the position is one of those that the winner's moves are to lead into at the ply: it is kept, or it is claimed
-abbrev pub IsHeldBy : Origin → Solution → ℕ → Position → Type 0
-IsHeldBy Plan s ply q = Kept s.winner s.position s.moves ply q
-IsHeldBy Claimed s ply q = IsClaimed (claim_of s) ply q
+abbrev pub IsHeldFrom : Origin → Solution → ℕ → Position → Type 0
+IsHeldFrom Plan s ply q = Kept s.winner s.position s.moves ply q
+IsHeldFrom Claimed s ply q = IsClaimed (claim_of s) ply q
 
 abbrev pub IsHeld : Solution → ℕ → Position → Type 0
-IsHeld s ply q = IsHeldBy s.origin s ply q
+IsHeld s ply q = IsHeldFrom s.origin s ply q

@@ -1,14 +1,14 @@
 use Rattle.std.proofs.Common.{◌-◌, ◌≤◌, length}
 use Rattle.auto_merge.specs.Merging.{IsMerging, Keeps}
 use Rattle.auto_merge.specs.Merged.{AreClassRowsIn}
-use Rattle.auto_merge.specs.Walk.{IsWayIn}
+use Rattle.auto_merge.specs.Walk.{IsTrailIn}
 use Rattle.auto_merge.proofs.class_states.class_rows.Given as goal
 
 abbrev pub invariant-loop-nodes : goal.invariant-loop-nodes
 invariant-loop-nodes g l = record {
   merging : IsMerging (g.R.Rows.graph l.rows) (g.R.Rows.places l.rows) g.R.Rows.answers l.merging;
   kept : Keeps (g.R.Rows.places l.rows) l.initial.merging l.merging;
-  way : IsWayIn (g.R.Rows.places l.rows) l.merging l.way;
+  way : IsTrailIn (g.R.Rows.places l.rows) l.merging l.way;
   rows : AreClassRowsIn (g.R.Rows.graph l.rows) (g.R.Rows.places l.rows) l.merging l.nodes.items;
   size : length l.nodes.items ≤ length l.merging.owners.items;
 }

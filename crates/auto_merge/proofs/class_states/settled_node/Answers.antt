@@ -1,13 +1,13 @@
 use Rattle.std.proofs.Common.{arith}
 use Rattle.auto_merge.proofs.Mergings.{Keeps-grown, classed_few}
-use Rattle.auto_merge.proofs.Ways.{IsWayIn-keeps}
+use Rattle.auto_merge.proofs.Trails.{IsTrailIn-keeps}
 use Rattle.auto_merge.proofs.class_states.settled_node.Goals as goal
 
 pub returns-in-Ok-clause-way : goal.returns-in-Ok-clause-way
-returns-in-Ok-clause-way g c = IsWayIn-keeps c.spot_key.ensures.kept c.loop-key.invariant.way
+returns-in-Ok-clause-way g c = IsTrailIn-keeps c.spot_key.ensures.kept c.loop-key.invariant.way
 
 pub class_from-requires-clause-way : goal.class_from-requires-clause-way
-class_from-requires-clause-way g c = IsWayIn-keeps c.spot_key.ensures.kept c.loop-key.invariant.way
+class_from-requires-clause-way g c = IsTrailIn-keeps c.spot_key.ensures.kept c.loop-key.invariant.way
 
 pub loop-key-smaller : goal.loop-key-smaller
 loop-key-smaller g c =

@@ -1,13 +1,13 @@
 use Rattle.std.proofs.Common.{◌-◌}
 use Rattle.auto_merge.specs.Merging.{classed_count, IsMerging, Keeps}
-use Rattle.auto_merge.specs.Walk.{IsWayIn}
+use Rattle.auto_merge.specs.Walk.{IsTrailIn}
 use Rattle.auto_merge.proofs.class_states.settled_node.Given as goal
 
 abbrev pub invariant-loop-key : goal.invariant-loop-key
 invariant-loop-key g l = record {
   merging : IsMerging (g.R.Rows.graph l.rows) (g.R.Rows.places l.rows) g.R.Rows.answers l.merging;
   kept : Keeps (g.R.Rows.places l.rows) l.initial.merging l.merging;
-  way : IsWayIn (g.R.Rows.places l.rows) l.merging l.way;
+  way : IsTrailIn (g.R.Rows.places l.rows) l.merging l.way;
 }
 
 abbrev pub decreases-loop-key : goal.decreases-loop-key

@@ -1,6 +1,6 @@
 use Rattle.std.proofs.Common.{rules}
 use Rattle.auto_walk.proofs.RowLemmas.{length-Extends}
-use Rattle.auto_merge.proofs.Ways.{IsWayIn-keeps}
+use Rattle.auto_merge.proofs.Trails.{IsTrailIn-keeps}
 use Rattle.auto_merge.proofs.walk.class_from.Goals as goal
 
 pub give_own-requires-clause-new : goal.give_own-requires-clause-new
@@ -9,4 +9,4 @@ give_own-requires-clause-new g c =
     search rules
 
 pub returns-clause-way : goal.returns-clause-way
-returns-clause-way g c = IsWayIn-keeps c.in_ok-give_own.ensures.kept c.in_ok-start.ensures.way
+returns-clause-way g c = IsTrailIn-keeps c.in_ok-give_own.ensures.kept c.in_ok-start.ensures.way

@@ -1,7 +1,7 @@
 use Rattle.std.proofs.Common.{false, ◌<◌, length, not, sym, ◌∙◌, arith}
 use Rattle.std.proofs.lemmas.List.{get_or_default}
 use Rattle.auto_merge.proofs.Padded.{IsEntered-set}
-use Rattle.auto_merge.proofs.Ways.{not-true, not-false}
+use Rattle.auto_merge.proofs.Trails.{not-true, not-false}
 use Rattle.auto_merge.proofs.walk.enter.Goals as goal
 
 pub returns-clause-entered : goal.returns-clause-entered

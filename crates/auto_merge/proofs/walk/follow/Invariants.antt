@@ -1,12 +1,12 @@
 use Rattle.auto_merge.specs.Merging.{IsMerging, Keeps}
-use Rattle.auto_merge.specs.Walk.{IsWayIn, steps_left_in}
+use Rattle.auto_merge.specs.Walk.{IsTrailIn, steps_left_in}
 use Rattle.auto_merge.proofs.walk.follow.Given as goal
 
 abbrev pub invariant-loop-number : goal.invariant-loop-number
 invariant-loop-number g l = record {
   merging : IsMerging (g.R.Rows.graph l.rows) (g.R.Rows.places l.rows) g.R.Rows.answers l.merging;
   kept : Keeps (g.R.Rows.places l.rows) l.initial.merging l.merging;
-  way : IsWayIn (g.R.Rows.places l.rows) l.merging l.way;
+  way : IsTrailIn (g.R.Rows.places l.rows) l.merging l.way;
 }
 
 abbrev pub decreases-loop-number : goal.decreases-loop-number

@@ -1,5 +1,5 @@
 use Rattle.std.proofs.Common.{length}
-use Rattle.auto_merge.proofs.Ways.{IsWayIn-keeps}
+use Rattle.auto_merge.proofs.Trails.{IsTrailIn-keeps}
 use Rattle.auto_merge.proofs.walk.put_off.Goals as goal
 
 pub returns-then-branch-clause-way : goal.returns-then-branch-clause-way
@@ -12,7 +12,7 @@ returns-then-branch-clause-left g c =
 
 pub returns-clause-way : goal.returns-clause-way
 returns-clause-way g c =
-    IsWayIn-keeps c.in_ok-give_own.ensures.kept
+    IsTrailIn-keeps c.in_ok-give_own.ensures.kept
     (c.in_ok-turn_to.ensures.way (length (g.R.Rows.places c.args.rows.now c.args.merging.now.led.seen)) c.requires.new.within c.requires.next c.requires.way)
 
 pub returns-clause-left : goal.returns-clause-left

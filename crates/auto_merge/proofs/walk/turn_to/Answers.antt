@@ -1,4 +1,4 @@
-use Rattle.auto_merge.proofs.Ways.{IsTurned-new}
+use Rattle.auto_merge.proofs.Trails.{IsTurned-new}
 use Rattle.auto_merge.proofs.walk.turn_to.Goals as goal
 
 pub returns : goal.returns

@@ -6,14 +6,14 @@ pub returns-clause-reduced : goal.returns-clause-reduced
 returns-clause-reduced c = IfOk-weaker c.whole.result _ _ (λ a made. made.reduced) c.whole.ensures.compiled
 
 pub returns-clause-decides : goal.returns-clause-decides
-returns-clause-decides c = rw c.level-level.ensures.sets at (IfOk-weaker c.whole.result _ _ (λ a made. made.decides) c.whole.ensures.compiled)
+returns-clause-decides c = rw c.meets-meets.ensures.sets at (IfOk-weaker c.whole.result _ _ (λ a made. made.decides) c.whole.ensures.compiled)
 
 pub returns-clause-integers : goal.returns-clause-integers
 returns-clause-integers c =
     IfOk-weaker c.whole.result _ _ (λ a made. Decides-integers made.decides) c.whole.ensures.compiled
 
 pub returns-clause-within : goal.returns-clause-within
-returns-clause-within c = rw (c.new-memo.ensures.budget, c.level-level.ensures.sets) at (IfOk-weaker c.whole.result _ _ (λ a made. made.within) c.whole.ensures.compiled)
+returns-clause-within c = rw (c.new-memo.ensures.budget, c.meets-meets.ensures.sets) at (IfOk-weaker c.whole.result _ _ (λ a made. made.within) c.whole.ensures.compiled)
 
 pub returns-clause-over : goal.returns-clause-over
-returns-clause-over c = rw (c.new-memo.ensures.budget, c.level-level.ensures.sets) at (IfErr-weaker c.whole.result _ _ (λ why h. h.error) c.whole.ensures.err)
+returns-clause-over c = rw (c.new-memo.ensures.budget, c.meets-meets.ensures.sets) at (IfErr-weaker c.whole.result _ _ (λ why h. h.error) c.whole.ensures.err)

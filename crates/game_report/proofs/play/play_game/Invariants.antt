@@ -1,8 +1,8 @@
 use Rattle.std.proofs.Common.{◌≡◌, ◌≤◌, [], None, length}
-use Rattle.white_player.specs.Game.{IsGame}
+use Rattle.game_session.specs.Game.{IsGame}
 use Rattle.game_report.specs.Laws.{seen}
 use Rattle.game_report.specs.Played.{IsDue, ports}
-use Rattle.game_session.specs.Squares.{all_squares}
+use Rattle.move_choice.specs.Squares.{all_squares}
 use Rattle.game_report.specs.Turns.{IsOpen}
 use Rattle.game_report.proofs.GameSteps.{AtDue, SoFar}
 use Rattle.game_report.proofs.play.play_game.Given as goal

@@ -3,7 +3,7 @@ use Rattle.std.proofs.lemmas.Result.{err_from_is_err_and}
 use Rattle.desk_base.specs.Lines.{ended}
 use Rattle.chess_text.specs.declared.replies.Typed.TheVariants as typed
 use Rattle.game_report.specs.Laws.{seen}
-use Rattle.game_report.specs.Report.{AtTyped}
+use Rattle.game_report.specs.GameReport.{AtTyped}
 use Rattle.game_report.proofs.TurnSteps.{answer_fails, answered, made_comes}
 use Rattle.game_report.proofs.turn.make.Goals as goal
 

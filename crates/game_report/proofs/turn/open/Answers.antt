@@ -2,7 +2,7 @@ use Rattle.std.proofs.Common.{rules, ◌≡◌, inl, inr, ap}
 use Rattle.desk_base.specs.Lines.{ended}
 use Rattle.game_laws.proofs.SoundLemmas.{side_or_other}
 use Rattle.game_report.specs.Laws.{seen}
-use Rattle.game_report.specs.Report.{AtLoser, AtWinner}
+use Rattle.game_report.specs.GameReport.{AtLoser, AtWinner}
 use Rattle.game_report.specs.Turns.{AtStart, IsLosersTurn}
 use Rattle.game_report.proofs.TurnSteps.{comes_as, mate_comes}
 use Rattle.game_report.proofs.turn.open.Goals as goal

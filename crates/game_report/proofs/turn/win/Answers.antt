@@ -3,11 +3,11 @@ use Rattle.std.specs.Io.KnownBytes.{Appends}
 use Rattle.std.proofs.lemmas.Result.{err_from_is_err_and}
 use Rattle.desk_base.specs.Moves.{AppendsFront}
 use Rattle.game_rules.specs.Game.{other}
-use Rattle.game_session.specs.Choice.{target}
-use Rattle.white_player.specs.Game.{Game, choice_of}
+use Rattle.move_choice.specs.Choice.{target}
+use Rattle.game_session.specs.Game.{Game, choice_of}
 use Rattle.game_report.specs.Laws.{seen}
-use Rattle.game_report.specs.Report as reports
-use Rattle.game_report.specs.Report.{moved}
+use Rattle.game_report.specs.GameReport as reports
+use Rattle.game_report.specs.GameReport.{moved}
 use Rattle.game_report.proofs.Strategies.{told_pick}
 use Rattle.game_report.proofs.TurnSteps.{mate_comes, mover_number, wide_comes, won_comes, won_fails}
 use Rattle.game_report.proofs.turn.win.Goals as goal

@@ -33,7 +33,7 @@ loop-f-preserved g c =
       room = omega (arith, c.in_ok-made.ensures.room, c.loop-f.invariant.room);
       budget = c.in_ok-made.ensures.budget ∙ c.loop-f.invariant.budget;
       sets = c.in_ok-made.ensures.same_sets ∙ c.loop-f.invariant.sets;
-      level_budget = c.in_ok-made.ensures.level_budget ∙ c.loop-f.invariant.level_budget;
+      meets_budget = c.in_ok-made.ensures.meets_budget ∙ c.loop-f.invariant.meets_budget;
       left =
           LeadsTo-empty c.args.part c.args.memo.now.budget c.loop-f.at (item_of c.args.sets.now (tree_of c.f-item.result)) _ _
           (made_of c.in_ok-made.made) leads made c.if-not-is_none_or_empty.ensures.yes;

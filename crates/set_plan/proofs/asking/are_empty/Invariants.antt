@@ -10,8 +10,8 @@ abbrev pub invariant-loop-f : goal.invariant-loop-f
 invariant-loop-f g l = record {
   room : l.at ≤ 1 + l.f-index * 1001;
   budget : l.memo.budget ≡ l.initial.memo.budget;
-  sets : l.level.sets ≡ l.sets;
-  level_budget : l.level.budget ≡ l.initial.memo.budget;
+  sets : l.meets.sets ≡ l.sets;
+  meets_budget : l.meets.budget ≡ l.initial.memo.budget;
   left : LeadsTo (plan.are_empty l.fn.part l.at (map (item_of l.sets) (map tree_of (drop l.f-index l.formulas))))
       (plan.are_empty l.fn.part 1 (map (item_of l.sets) (map tree_of l.formulas))) l.initial.memo.budget;
 }

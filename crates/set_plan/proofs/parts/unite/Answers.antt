@@ -6,7 +6,7 @@ use Rattle.set_plan.proofs.parts.unite.Goals as goal
 
 pub returns-clause-answers : goal.returns-clause-answers
 returns-clause-answers g c =
-    let ends = rw c.level-level.ensures.sets at c.in_ok-made.ensures.answers in
+    let ends = rw c.meets-meets.ensures.sets at c.in_ok-made.ensures.answers in
     made-renewed c.args.memo.now.budget c.args.tracks.now c.args.from.part (map (item_of c.args.sets.now) (map tree_of c.args.formulas.now)) c.args.from.at
     c.in_ok-made.made c.in_ok-reduced.field-0 c.in_ok-reduced.ensures ends
 

@@ -25,12 +25,12 @@ recalled-overflow_add-result t c = record { fits = omega (arith, c.requires.room
 
 pub recalled-returns-in-Some-clause-ok : goal.recalled-returns-in-Some-clause-ok
 recalled-returns-in-Some-clause-ok t c =
-    rw c.count.ensures (part-found c.requires.recalled (ap (λ n. c.args.course.before + n) c.steps_of.ensures) c.in-Some.ensures)
+    rw c.count.ensures (part-found c.requires.recalled (ap (λ n. c.args.standing.before + n) c.steps_of.ensures) c.in-Some.ensures)
 
 pub entered-returns-in_err-made-clause-err : goal.entered-returns-in_err-made-clause-err
 entered-returns-in_err-made-clause-err t c =
     let p = err_from_is_err_and c.from_residual.result c.from_residual.ensures.1 in
-    rw (p.1, p.2) (interrupted_inside c.args.course c.requires.recalled c.in_err-made.ensures.err)
+    rw (p.1, p.2) (interrupted_inside c.args.standing c.requires.recalled c.in_err-made.ensures.err)
 
 pub entered-taken-requires : goal.entered-taken-requires
 entered-taken-requires t c = (c.in_ok-made.ensures.ok.auto, c.in_ok-made.ensures.ok.has)
@@ -38,32 +38,32 @@ entered-taken-requires t c = (c.in_ok-made.ensures.ok.auto, c.in_ok-made.ensures
 pub entered-returns-in_err-auto-clause-err : goal.entered-returns-in_err-auto-clause-err
 entered-returns-in_err-auto-clause-err t c =
     let p = err_from_is_err_and c.from_residual-in_err-auto.result c.from_residual-in_err-auto.ensures.1 in
-    rw p.1 (interrupted_inside c.args.course c.requires.recalled (interrupted_last c.in_ok-made.ensures.ok.remembered p.2))
+    rw p.1 (interrupted_inside c.args.standing c.requires.recalled (interrupted_last c.in_ok-made.ensures.ok.remembered p.2))
 
 pub entered-enter-requires-clause-entry : goal.entered-enter-requires-clause-entry
 entered-enter-requires-clause-entry t c =
     let made = c.in_ok-made.ensures.ok in
-    may_enter c.args.course c.requires.recalled made.remembered (c.in_ok-auto.ensures.same made.auto made.has) c.in_ok-auto.ensures.reduced
-    (few_kept made c.in_ok-auto.auto (recalled-plain c.args.course.recall (tree_of c.args.f.now) c.requires.recalled) (c.in_ok-auto.ensures.fewer made.auto made.has))
+    may_enter c.args.standing c.requires.recalled made.remembered (c.in_ok-auto.ensures.same made.auto made.has) c.in_ok-auto.ensures.reduced
+    (few_kept made c.in_ok-auto.auto (recalled-plain c.args.standing.recall (tree_of c.args.f.now) c.requires.recalled) (c.in_ok-auto.ensures.fewer made.auto made.has))
 
 pub entered-enter-requires-clause-unknown : goal.entered-enter-requires-clause-unknown
-entered-enter-requires-clause-unknown t c = unknown_still c.args.course c.requires.recalled c.in_ok-made.ensures.ok.remembered c.requires.unknown
+entered-enter-requires-clause-unknown t c = unknown_still c.args.standing c.requires.recalled c.in_ok-made.ensures.ok.remembered c.requires.unknown
 
 pub entered-returns-in_err-part-clause-err : goal.entered-returns-in_err-part-clause-err
 entered-returns-in_err-part-clause-err t c =
     let p = err_from_is_err_and c.from_residual-in_err-part.result c.from_residual-in_err-part.ensures.1 in
-    rw (p.1, c.in_err-part.ensures.err) (interrupted_inside c.args.course c.requires.recalled (interrupted_last c.in_ok-made.ensures.ok.remembered p.2))
+    rw (p.1, c.in_err-part.ensures.err) (interrupted_inside c.args.standing c.requires.recalled (interrupted_last c.in_ok-made.ensures.ok.remembered p.2))
 
 pub entered-returns-clause-ok : goal.entered-returns-clause-ok
 entered-returns-clause-ok t c =
     let made = c.in_ok-made.ensures.ok in
-    let plain = recalled-plain c.args.course.recall (tree_of c.args.f.now) c.requires.recalled in
+    let plain = recalled-plain c.args.standing.recall (tree_of c.args.f.now) c.requires.recalled in
     record {
       auto = c.in_ok-auto.auto;
-      has = c.in_ok-part.ensures.part c.from_parts.new.level;
+      has = c.in_ok-part.ensures.part c.from_parts.new.meets;
       reached = c.in_ok-auto.ensures.reduced.reached;
       few = λ some. few_kept made c.in_ok-auto.auto plain (c.in_ok-auto.ensures.fewer made.auto made.has);
-      remembered = remembered_entered c.args.course c.requires.recalled made.remembered (c.in_ok-auto.ensures.same made.auto made.has) c.in_ok-part.ensures.ok;
+      remembered = remembered_entered c.args.standing c.requires.recalled made.remembered (c.in_ok-auto.ensures.same made.auto made.has) c.in_ok-part.ensures.ok;
     }
 
 pub from_parts-returns-in_err-auto-in-Lin-clause-err : goal.from_parts-returns-in_err-auto-in-Lin-clause-err
@@ -73,15 +73,15 @@ from_parts-returns-in_err-auto-in-Lin-clause-err t c =
 
 pub from_parts-returns-in-Lin-clause-ok : goal.from_parts-returns-in-Lin-clause-ok
 from_parts-returns-in-Lin-clause-ok t c =
-    let said = rw c.as_slice.ensures.items at (c.in_ok-auto-in-Lin.ensures.decides (tables c.args.level.now.sets)) in
-    let decides : Decides c.in_ok-auto-in-Lin.auto (tree.Lin c.in-Lin.terms c.in-Lin.rel c.in-Lin.bound) (members (tables c.args.level.now.sets)) =
+    let said = rw c.as_slice.ensures.items at (c.in_ok-auto-in-Lin.ensures.decides (tables c.args.meets.now.sets)) in
+    let decides : Decides c.in_ok-auto-in-Lin.auto (tree.Lin c.in-Lin.terms c.in-Lin.rel c.in-Lin.bound) (members (tables c.args.meets.now.sets)) =
     first_of (grind (arith, to_z-of_z, said), search (rules, ints, to_z-of_z, said)) in
     rw c.in-Lin.is (part-leaf c.fresh.ensures c.in_ok-auto-in-Lin.ensures.reduced.reached refl decides)
 
 pub from_parts-returns-in-Value-clause-ok : goal.from_parts-returns-in-Value-clause-ok
 from_parts-returns-in-Value-clause-ok t c =
-    let said = c.in_ok-auto-in-Value.ensures.decides (tables c.args.level.now.sets) in
-    let decides : Decides c.in_ok-auto-in-Value.auto (tree.Value c.in-Value.var c.in-Value.value) (members (tables c.args.level.now.sets)) =
+    let said = c.in_ok-auto-in-Value.ensures.decides (tables c.args.meets.now.sets) in
+    let decides : Decides c.in_ok-auto-in-Value.auto (tree.Value c.in-Value.var c.in-Value.value) (members (tables c.args.meets.now.sets)) =
     first_of (grind (arith, to_z-of_z, said), search (rules, ints, to_z-of_z, said)) in
     rw c.in-Value.is (part-leaf c.fresh-in-Value.ensures c.in_ok-auto-in-Value.ensures.reduced.reached refl decides)
 
@@ -154,7 +154,7 @@ pub both-compiled-requires-2 : goal.both-compiled-requires-2
 both-compiled-requires-2 t c =
     let left = c.in_ok-left.ensures.ok.remembered.counts in
     let size = size-connect c.args.pair.connective (tree_of c.args.pair.left.now) (tree_of c.args.pair.right.now) in
-    let ready = ready-connect c.args.pair.connective (tree_of c.args.pair.left.now) (tree_of c.args.pair.right.now) c.args.level.now.sets c.requires.ready in
+    let ready = ready-connect c.args.pair.connective (tree_of c.args.pair.left.now) (tree_of c.args.pair.right.now) c.args.meets.now.sets c.requires.ready in
     let grows = c.compiled.ensures.grows in
     let same = grows.budget ∙ (c.requires.same_budget ∙ sym c.in_ok-left.ensures.ok.remembered.after.budget) in
     (search rules, (same, (rw grows.sets ready.2, omega (arith, c.requires.room, left, size))))
@@ -184,7 +184,7 @@ both-put_together-requires-clause-room t c = λ a b has_left has_right.
     let left = lent-later c.in_ok-left.ensures.ok c.in_ok-right.ensures.ok.remembered.after c.compiled-2.ensures.grows has_left in
     let right = lent (rw c.compiled.ensures.grows.sets at c.in_ok-right.ensures.ok) has_right in
     rw (left.made.decides.tracks, right.made.decides.tracks)
-    (ready-connect c.args.pair.connective (tree_of c.args.pair.left.now) (tree_of c.args.pair.right.now) c.args.level.now.sets c.requires.ready).0
+    (ready-connect c.args.pair.connective (tree_of c.args.pair.left.now) (tree_of c.args.pair.right.now) c.args.meets.now.sets c.requires.ready).0
 
 pub both-returns-in-Ok-clause-ok : goal.both-returns-in-Ok-clause-ok
 both-returns-in-Ok-clause-ok t c =
@@ -205,10 +205,10 @@ pub paired-overflow_add-result : goal.paired-overflow_add-result
 paired-overflow_add-result t c = record { fits = omega (arith, c.requires.room, pair_size (tree_of c.args.f.now) c.requires.pair) }
 
 pub paired-returns-in-Some-clause-ok : goal.paired-returns-in-Some-clause-ok
-paired-returns-in-Some-clause-ok t c = part-paired (tree_of c.args.f.now) c.requires.pair c.args.course c.args.self.now c.args.level.now c.requires.same_budget c.in-Some.ensures
+paired-returns-in-Some-clause-ok t c = part-paired (tree_of c.args.f.now) c.requires.pair c.args.standing c.args.self.now c.args.meets.now c.requires.same_budget c.in-Some.ensures
 
 pub paired-from_parts-requires : goal.paired-from_parts-requires
-paired-from_parts-requires t c = (search rules, (pair_outside (tree_of c.args.f.now) c.requires.pair c.args.course.recall, (c.requires.same_budget, (c.requires.ready, c.requires.room))))
+paired-from_parts-requires t c = (search rules, (pair_outside (tree_of c.args.f.now) c.requires.pair c.args.standing.recall, (c.requires.same_budget, (c.requires.ready, c.requires.room))))
 
 pub paired-given-requires : goal.paired-given-requires
 paired-given-requires t c = (c.in_ok-made.ensures.ok.auto, c.in_ok-made.ensures.ok.has)
@@ -242,8 +242,8 @@ shared-overflow_add-result t c = record { fits = omega (arith, c.requires.room, 
 
 pub shared-returns-in-Some-clause-ok : goal.shared-returns-in-Some-clause-ok
 shared-returns-in-Some-clause-ok t c =
-    part-short (record { auto = c.in-Some.auto.value; has = refl; short = c.in-Some.ensures }) (ap (λ n. c.args.course.before + n) c.steps_of.ensures)
-    (after-short c.args.course.recall (tree_of c.args.f.now) c.args.self.now c.requires.short c.requires.not_recalled)
+    part-short (record { auto = c.in-Some.auto.value; has = refl; short = c.in-Some.ensures }) (ap (λ n. c.args.standing.before + n) c.steps_of.ensures)
+    (after-short c.args.standing.recall (tree_of c.args.f.now) c.args.self.now c.requires.short c.requires.not_recalled)
 
 pub shared-returns-in_err-made-clause-err : goal.shared-returns-in_err-made-clause-err
 shared-returns-in_err-made-clause-err t c =
@@ -280,7 +280,7 @@ linked-returns-in_err-right-clause-err t c =
 pub linked-lengthened-requires-clause-left : goal.linked-lengthened-requires-clause-left
 linked-lengthened-requires-clause-left t c =
     let f = tree_of c.args.extension.left.now in
-    let e = tables c.args.level.now.sets in
+    let e = tables c.args.meets.now.sets in
     record {
       left = f;
       sets = e;
@@ -295,17 +295,17 @@ pub linked-returns-in_err-link-clause-err : goal.linked-returns-in_err-link-clau
 linked-returns-in_err-link-clause-err t c =
     let p = err_from_is_err_and c.from_residual-in_err-link.result c.from_residual-in_err-link.ensures.1 in
     let f = tree_of c.args.extension.left.now in
-    let e = tables c.args.level.now.sets in
+    let e = tables c.args.meets.now.sets in
     let left = c.in_ok-left.ensures.ok in
     let right = rw (c.begun.ensures.grows.sets, c.done.ensures) at c.in_ok-right.ensures.ok in
     let still = link-after f e c.in_ok-right.ensures.ok.remembered.after c.compiled.ensures.grows c.in_ok-left.left left.is in
-    rw (p.1, p.2, c.lengthened.ensures.same) (stopped_at c.args.extension c.requires.extension left.remembered right.remembered c.compiled.new.level c.in_ok-left.left still c.in_err-link.ensures.err)
+    rw (p.1, p.2, c.lengthened.ensures.same) (stopped_at c.args.extension c.requires.extension left.remembered right.remembered c.compiled.new.meets c.in_ok-left.left still c.in_err-link.ensures.err)
 
 pub linked-returns-clause-ok : goal.linked-returns-clause-ok
 linked-returns-clause-ok t c =
     let f = tree_of c.args.extension.left.now in
-    let e = tables c.args.level.now.sets in
+    let e = tables c.args.meets.now.sets in
     let left = c.in_ok-left.ensures.ok in
     let right = rw (c.begun.ensures.grows.sets, c.done.ensures) at c.in_ok-right.ensures.ok in
     let still = link-after f e c.in_ok-right.ensures.ok.remembered.after c.compiled.ensures.grows c.in_ok-left.left left.is in
-    rw c.lengthened.ensures.same (linked c.args.extension c.requires.extension left.remembered right.remembered c.compiled.new.level c.in_ok-left.left still refl c.requires.ready.0 c.in_ok-link.ensures.ok)
+    rw c.lengthened.ensures.same (linked c.args.extension c.requires.extension left.remembered right.remembered c.compiled.new.meets c.in_ok-left.left still refl c.requires.ready.0 c.in_ok-link.ensures.ok)

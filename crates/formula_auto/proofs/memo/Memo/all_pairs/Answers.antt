@@ -12,6 +12,6 @@ unreachable-requires c =
 
 pub returns-in-Ok : goal.returns-in-Ok
 returns-in-Ok c =
-    joint-made And c.args.self.now c.args.level.now c.args.left.now c.args.right.now c.automata.result.0.now c.automata.result.1.now
+    joint-made And c.args.self.now c.args.meets.now c.args.left.now c.args.right.now c.automata.result.0.now c.automata.result.1.now
     c.automata.ensures.left c.automata.ensures.right c.in-Ok.ensures.decides
     (rw c.budget.ensures.is at c.in-Ok.ensures.accessible) (rw c.budget.ensures.is at c.in-Ok.ensures.within)

@@ -18,7 +18,7 @@ returns-clause-ok c =
     c.self.view_is c.in_ok-push.ensures.items room c.in_ok-copy.ensures c.requires.unknown
 
 pub returns-clause-part : goal.returns-clause-part
-returns-clause-part c = λ level.
+returns-clause-part c = λ meets.
     let room : length c.args.self.now.entries < 2 ^ 32 - 1 = omega (arith, c.if-kept.false, c.kept-kept.ensures.count, c.kept-kept.ensures.valid.few) in
     last-entered c.self.inside.shorts c.self.inside.found c.self.inside.entries.items c.push.new.self.items c.args.self.now
     (record { formula = c.in_ok-copy.field-0; auto = c.args.auto }) (tree_of c.args.f.now)

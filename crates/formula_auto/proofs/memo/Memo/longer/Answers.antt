@@ -19,7 +19,7 @@ returns-clause-longer c = λ f e step fits is.
     let few = c.states_of-few.ensures.is is.rest.auto is.rest.has in
     let one = c.states_of.ensures.is next.auto next.has in
     let more = rw c.in_ok-rest.ensures.same at c.in_ok-rest.ensures.short in
-    let still = subst (λ m. IsPart m c.args.level.now c.in_ok-rest.rest.part more.auto) (sym c.in_ok-rest.ensures.same) more.has in
+    let still = subst (λ m. IsPart m c.args.meets.now c.in_ok-rest.rest.part more.auto) (sym c.in_ok-rest.ensures.same) more.has in
     let own = c.states_of-own.ensures.is more.auto still in
     let all : length is.base.auto.accept * (length is.rest.auto.accept * length next.auto.accept) ≤ c.args.self.now.budget =
     rw (base.count, few.count, one.count) (c.pays.ensures.room c.if-not-pays.false) in

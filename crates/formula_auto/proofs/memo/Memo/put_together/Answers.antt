@@ -6,6 +6,6 @@ joined-requires c = c.requires.room c.automata.result.0.now c.automata.result.1.
 
 pub returns-in_ok-auto-in-None-clause-ok : goal.returns-in_ok-auto-in-None-clause-ok
 returns-in_ok-auto-in-None-clause-ok c =
-    joint-made c.args.connective c.args.self.now c.args.level.now c.args.parts.0.now c.args.parts.1.now c.automata.result.0.now c.automata.result.1.now
+    joint-made c.args.connective c.args.self.now c.args.meets.now c.args.parts.0.now c.args.parts.1.now c.automata.result.0.now c.automata.result.1.now
     c.automata.ensures.left c.automata.ensures.right c.in_ok-auto-in-None.ensures.decides
     (rw c.budget.ensures.is at c.in_ok-auto-in-None.ensures.accessible) (rw c.budget.ensures.is at c.in_ok-auto-in-None.ensures.within)

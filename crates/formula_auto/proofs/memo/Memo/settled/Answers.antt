@@ -9,7 +9,7 @@ use Rattle.formula_auto.proofs.memo.Memo.settled.Goals as goal
 
 pub returns-in-Ex : goal.returns-in-Ex
 returns-in-Ex c =
-    let two : IfOk c.taken.result (λ made. IsReduced made × ((a : Automaton) → IsPart c.args.self.now c.args.level.now c.args.part a → AcceptSame a made)) =
+    let two : IfOk c.taken.result (λ made. IsReduced made × ((a : Automaton) → IsPart c.args.self.now c.args.meets.now c.args.part a → AcceptSame a made)) =
     both_ok c.taken.result _ _ _ (λ made reduced same. (reduced, same)) c.taken.ensures.reduced c.taken.ensures.same in
     both_ok c.taken.result _ _ _
     (λ made p fewer. short_same c.requires.short (p.1 c.requires.auto c.requires.has) p.0.reached (fewer c.requires.auto c.requires.has)) two c.taken.ensures.fewer

@@ -7,20 +7,20 @@ pub returns-then-fits_with_itself-clause-is : goal.returns-then-fits_with_itself
 returns-then-fits_with_itself-clause-is c =
     let fits = c.if-fits_with_itself.true in
     rw c.with_itself.ensures
-    (shortcut-itself c.args.connective c.args.self.now c.args.level.now c.args.left.now c.args.right.now
+    (shortcut-itself c.args.connective c.args.self.now c.args.meets.now c.args.left.now c.args.right.now
     c.automata.result.0.now c.automata.result.1.now c.automata.ensures.left c.automata.ensures.right
     (c.same_place.ensures.0 c.if-same_place.true) (rw c.budget-most.ensures.is at (c.fits_with_itself.ensures.both fits))
     (rw c.budget-most.ensures.is at (c.fits_with_itself.ensures.either fits)) (rw c.budget-most.ensures.is at (c.fits_with_itself.ensures.neither fits)))
 
 pub returns-clause-is : goal.returns-clause-is
 returns-clause-is c =
-    shortcut-operand c.args.connective c.args.self.now c.args.level.now c.args.left.now c.args.right.now
+    shortcut-operand c.args.connective c.args.self.now c.args.meets.now c.args.left.now c.args.right.now
     c.automata.result.0.now c.automata.result.1.now c.automata.ensures.left c.automata.ensures.right
     c.in_ok-operand_by.field-0 (rw c.budget-most.ensures.is at c.in_ok-operand_by.ensures.is)
 
 pub returns-in_err-operand_by-clause-found : goal.returns-in_err-operand_by-clause-found
 returns-in_err-operand_by-clause-found c = λ seen.
-    let way = seen-way c.args.connective c.args.self.now c.args.level.now c.args.left.now c.args.right.now
+    let way = seen-way c.args.connective c.args.self.now c.args.meets.now c.args.left.now c.args.right.now
     c.automata.result.0.now c.automata.result.1.now c.automata.ensures.left c.automata.ensures.right seen in
     elim way [
       | inl same ↦ elim c.else-same_place.branch [

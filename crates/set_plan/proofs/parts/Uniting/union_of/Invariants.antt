@@ -11,7 +11,7 @@ invariant-loop-f g l = record {
   room : l.made.at ≤ l.fn.at + l.f-index * 1001;
   set : IfSome l.made.set (IsReachedOn l.self.tracks.now);
   budget : l.memo.budget ≡ l.initial.memo.budget;
-  sets : l.level.sets ≡ l.initial.level.sets;
-  level_budget : l.level.budget ≡ l.initial.level.budget;
-  left : IsAfter l.formulas (with_formula l.self.tracks.now l.self.part l.initial.level.sets) (Nothing, l.fn.at) l.initial.memo.budget l.f-index (made_of l.made);
+  sets : l.meets.sets ≡ l.initial.meets.sets;
+  meets_budget : l.meets.budget ≡ l.initial.meets.budget;
+  left : IsAfter l.formulas (with_formula l.self.tracks.now l.self.part l.initial.meets.sets) (Nothing, l.fn.at) l.initial.memo.budget l.f-index (made_of l.made);
 }

@@ -1,6 +1,6 @@
 use Rattle.lin_formula.specs.TreeOf.{tree_of}
-use Rattle.formula_auto.proofs.LevelLemmas.{pair_found}
-use Rattle.formula_auto.proofs.level.Level.find.Goals as goal
+use Rattle.formula_auto.proofs.MeetLemmas.{pair_found}
+use Rattle.formula_auto.proofs.meet_table.MeetTable.find.Goals as goal
 
 pub returns : goal.returns
 returns c =

@@ -12,9 +12,9 @@ use Rattle.chess_text.specs.declared.replies.Typed.{Typed}
 use Rattle.chess_text.specs.declared.replies.Typed.TheVariants as typed
 use Rattle.mate_plan.specs.Claim.{Claim, IsClaimed}
 use Rattle.winning_sets.specs.Kept.{Kept}
-use Rattle.game_session.specs.Choice.{Pick, target}
-use Rattle.game_session.specs.Squares.{all_squares}
-use Rattle.game_session.specs.declared.choice.Choice.{Choice}
+use Rattle.move_choice.specs.Choice.{Pick, target}
+use Rattle.move_choice.specs.Squares.{all_squares}
+use Rattle.move_choice.specs.declared.choice.Choice.{Choice}
 use Rattle.game_report.specs.declared.play.Ending.{Ending}
 use Rattle.game_report.specs.declared.play.Ending.TheVariants.{Mated, Wide, Quit, NoLine, Many, CutAt, LongAt}
 
@@ -35,7 +35,7 @@ pub record Match : Type 0 where
 
 -- what is reported of a game: the text that is written, the game after each of the winner's moves, how it ends, and
 -- what the input has behind the last line that was read whole
-pub record Report : Type 0 where
+pub record GameReport : Type 0 where
   pub text : List ℕ
   pub games : List Match
   pub ending : Ending
@@ -64,15 +64,15 @@ abbrev pub move_line : Side → Move → List ℕ
 move_line winner mv = side_word winner ++ move_text mv ++ codes "\n"
 
 -- the report ends here, with this text
-abbrev pub ends : Ending → List ℕ → Lines → Report
+abbrev pub ends : Ending → List ℕ → Lines → GameReport
 ends ending text left = record { text = text; games = []; ending = ending; left = left }
 
 -- the report writes this first
-abbrev pub writes : List ℕ → Report → Report
+abbrev pub writes : List ℕ → GameReport → GameReport
 writes text later = record { text = text ++ later.text; games = later.games; ending = later.ending; left = later.left }
 
 -- the report has this move of the winner first, which leads to the game
-abbrev pub plays : Move → Match → Report → Report
+abbrev pub plays : Move → Match → GameReport → GameReport
 plays mv after later =
     record {
       text = move_line after.winner mv ++ later.text;
@@ -96,16 +96,16 @@ abbrev pub HeldPick : Match → Option Choice → Type 0
 HeldPick g choice = Pick (IsHeldBy g.strategy g (suc g.ply)) all_squares g.position choice
 
 -- with the loser to move, and these lines to come: he is mated, or the game goes on
-abbrev pub AtLoser : (Match → Report → Type 0) → Lines → Match → Report → Type 0
+abbrev pub AtLoser : (Match → GameReport → Type 0) → Lines → Match → GameReport → Type 0
 AtLoser On left g report =
     (Mate g.position × (report ≡ ends Mated (codes "mate\n") left))
     ⊎ ((Mate g.position → ⊥) × On g report)
 
 -- with the winner to move: there is no pick, or he makes it
-abbrev pub AtWinner : (Match → Report → Type 0) → Lines → Match → Report → Type 0
+abbrev pub AtWinner : (Match → GameReport → Type 0) → Lines → Match → GameReport → Type 0
 AtWinner On left g report =
     (HeldPick g None × (report ≡ ends Wide [] left))
-    ⊎ ((choice : Choice) × (q : Position) × (later : Report)
+    ⊎ ((choice : Choice) × (q : Position) × (later : GameReport)
     × HeldPick g (Some choice) × Legal g.position choice.mv.man (target choice.mv) q × AtLoser On left (moved g q) later
     × (report ≡ plays choice.mv (moved g q) later))
 
@@ -115,26 +115,26 @@ IsTyped line (Some reply) = IsReply line reply
 IsTyped line None = (why : MoveWhy) × IsReplyRefusal line why
 
 -- what comes of a line, with the loser to move
-abbrev pub AtTyped : (Match → Report → Type 0) → Lines → Match → Report → Option Typed → Type 0
-AtTyped On left g report None = (later : Report) × On g later × (report ≡ writes (codes "unreadable\n") later)
+abbrev pub AtTyped : (Match → GameReport → Type 0) → Lines → Match → GameReport → Option Typed → Type 0
+AtTyped On left g report None = (later : GameReport) × On g later × (report ≡ writes (codes "unreadable\n") later)
 AtTyped On left g report (Some typed.Quit) = report ≡ ends Quit [] left
 AtTyped On left g report (Some (typed.Move mv)) =
-    ((later : Report)
+    ((later : GameReport)
     × ((q : Position) → Legal g.position mv.man (target mv) q → ⊥) × On g later
     × (report ≡ writes (codes "illegal\n") later))
     ⊎ ((q : Position) × Legal g.position mv.man (target mv) q × AtWinner On left (moved g q) report)
 
-abbrev pub AtLine : (Match → Report → Type 0) → List ℕ → Lines → Match → Report → Type 0
+abbrev pub AtLine : (Match → GameReport → Type 0) → List ℕ → Lines → Match → GameReport → Type 0
 AtLine On line left g report = (reply : Option Typed) × IsTyped line reply × AtTyped On left g report reply
 
 -- no more lines are read where the first is true
-abbrev pub Unless : Bool → Lines → Report → Type 0 → Type 0
+abbrev pub Unless : Bool → Lines → GameReport → Type 0 → Type 0
 Unless true left report Else = report ≡ ends Many [] left
 Unless false left report Else = Else
 
 -- the report of a game with the loser to move, who is not mated, where so many lines of the input stood before those of
 -- the game, and so many of the game were read
-abbrev pub AtLines : ℕ → ℕ → Lines → Match → Report → Type 0
+abbrev pub AtLines : ℕ → ℕ → Lines → Match → GameReport → Type 0
 AtLines before read (full line rest) g report =
     Unless (read == most_lines) (full line rest) report
     (AtLine (λ next later. AtLines before (read + 1) rest next later) line rest g report)
@@ -146,11 +146,11 @@ AtLines before read long g report =
 
 -- the report of a game with the loser to move, where so many lines stood before those of the game, and so many of the
 -- game were read
-abbrev pub AtTurn : ℕ → ℕ → Lines → Match → Report → Type 0
+abbrev pub AtTurn : ℕ → ℕ → Lines → Match → GameReport → Type 0
 AtTurn before read lines g report = AtLoser (AtLines before read lines) lines g report
 
 -- the report of a game with either side to move, where so many lines of the input stood before these
-abbrev pub IsReport : ℕ → Lines → Match → Report → Type 0
+abbrev pub IsReport : ℕ → Lines → Match → GameReport → Type 0
 IsReport before lines g report =
     ((g.position.turn ≡ g.winner) × AtWinner (AtLines before 0 lines) lines g report)
     ⊎ ((g.position.turn ≡ other g.winner) × AtTurn before 0 lines g report)

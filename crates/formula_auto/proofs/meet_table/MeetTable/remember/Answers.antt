@@ -1,11 +1,11 @@
 use Rattle.std.proofs.Common.{◌∙◌}
 use Rattle.lin_formula.specs.TreeOf.{tree_of}
-use Rattle.formula_auto.proofs.LevelLemmas.{level-pushed, grows-pushed, there-pushed}
-use Rattle.formula_auto.proofs.level.Level.remember.Goals as goal
+use Rattle.formula_auto.proofs.MeetLemmas.{meets-pushed, grows-pushed, there-pushed}
+use Rattle.formula_auto.proofs.meet_table.MeetTable.remember.Goals as goal
 
 pub invariant_of-self-2 : goal.invariant_of-self-2
 invariant_of-self-2 c =
-    level-pushed c.self.inside.sets.now c.self.inside.budget c.self.inside.pairs.items c.args.self.now c.self.view_is
+    meets-pushed c.self.inside.sets.now c.self.inside.budget c.self.inside.pairs.items c.args.self.now c.self.view_is
     c.push.new.self.items (record { formula = c.in_ok-copy.field-0; auto = c.args.auto }) c.in_ok-push.ensures.items
     (tree_of c.args.f.now) c.in_ok-copy.ensures c.self.invariant c.requires
 

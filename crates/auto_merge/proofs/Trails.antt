@@ -2,18 +2,18 @@
 use Rattle.std.proofs.Common.{◌≡◌, ℕ, ◌<◌, ◌≤◌, ◌+◌, ◌-◌, ◌*◌, Bool, true, false, not, List, [], ◌∷◌, ◌++◌, length, All, arith, refl, sym, ap, subst}
 use Rattle.std.proofs.lemmas.List.{length_push}
 use Rattle.std.proofs.lemmas.List.Elements.{All-weaker, All-push}
-use Rattle.auto_merge.specs.declared.walk.Way.{Way}
-use Rattle.auto_merge.specs.Walk.{IsWay, entered_count, IsEntered}
+use Rattle.auto_merge.specs.declared.walk.Trail.{Trail}
+use Rattle.auto_merge.specs.Walk.{IsTrail, entered_count, IsEntered}
 use Rattle.auto_walk.specs.Rows.{Extends}
 use Rattle.auto_walk.proofs.RowLemmas.{length-Extends}
 use Rattle.auto_merge.specs.declared.merging.Merging.{Merging}
 use Rattle.auto_merge.specs.Merging.{Keeps}
-use Rattle.auto_merge.specs.Walk.{IsWayIn, IsTurned}
+use Rattle.auto_merge.specs.Walk.{IsTrailIn, IsTurned}
 use Rattle.auto_merge.proofs.Padded.{entered_few}
 
 -- more numbers are known
-pub IsWay-more : {count more : ℕ} {way : Way} → count ≤ more → IsWay count way → IsWay more way
-IsWay-more {count} {more} {way} longer is = record {
+pub IsTrail-more : {count more : ℕ} {way : Trail} → count ≤ more → IsTrail count way → IsTrail more way
+IsTrail-more {count} {more} {way} longer is = record {
   size = let size = is.size in omega (arith, size, longer);
   within = All-weaker (λ n. n < count) (λ n. n < more) (λ n below. omega (arith, below, longer)) way.numbers.items is.within;
 }
@@ -39,11 +39,11 @@ pub Extends-longer : {old new : List (List ℕ)} → Extends old new → length 
 Extends-longer {old = []} extends = omega arith
 Extends-longer {old = place ∷ places} extends = let last = length-Extends (length places) extends (omega arith) in omega (arith, last)
 
-pub IsWayIn-keeps : {R Spot Seen Memo : Type 0} {places : Seen → List (List ℕ)} {old new : Merging R Spot Seen Memo} {way : Way} → Keeps places old new → IsWayIn places old way → IsWayIn places new way
-IsWayIn-keeps keeps is = IsWay-more (Extends-longer keeps.numbers) is
+pub IsTrailIn-keeps : {R Spot Seen Memo : Type 0} {places : Seen → List (List ℕ)} {old new : Merging R Spot Seen Memo} {way : Trail} → Keeps places old new → IsTrailIn places old way → IsTrailIn places new way
+IsTrailIn-keeps keeps is = IsTrail-more (Extends-longer keeps.numbers) is
 
 -- the second number was not entered
-pub IsTurned-new : {old new : Way} (number next : ℕ) → IsEntered old.entered.items new.entered.items next true → (mid : List ℕ) → mid ≡ old.numbers.items ++ number ∷ [] → new.numbers.items ≡ mid ++ next ∷ []
+pub IsTurned-new : {old new : Trail} (number next : ℕ) → IsEntered old.entered.items new.entered.items next true → (mid : List ℕ) → mid ≡ old.numbers.items ++ number ∷ [] → new.numbers.items ≡ mid ++ next ∷ []
     → IsTurned number next old new
 IsTurned-new {old} {new} number next entered mid first then = record {
   way = λ count below next_below is. record {

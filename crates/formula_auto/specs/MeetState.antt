@@ -8,7 +8,7 @@ use Rattle.lin_formula.specs.SetOf.{tables}
 use Rattle.formula_auto.specs.Compiled.{IsMade, IsAccessible}
 
 -- a table of sets, a budget, and formulas with their automata in the order in which they came
-pub record LevelState : Type 0 where
+pub record MeetState : Type 0 where
   pub sets : List Automaton
   pub budget : ℕ
   pub pairs : List (Formula × Automaton)
@@ -29,18 +29,18 @@ pub record IsPair (sets : List Automaton) (budget : ℕ) (f : Tree) (a : Automat
   pub made : IsMade f (tables sets) 0 budget a
   pub accessible : IsAccessible budget a
 
-pub record IsLevel (l : LevelState) : Type 0 where
+pub record IsMeetTable (l : MeetState) : Type 0 where
   pub pairs : All (λ pair. IsPair l.sets l.budget (tree_of pair.0) pair.1) l.pairs
 
 -- at this place stands what was made of the formula
-pub record IsPairAt (l : LevelState) (f : Tree) (place : ℕ) : Type 0 where
+pub record IsPairAt (l : MeetState) (f : Tree) (place : ℕ) : Type 0 where
   pub formula : Formula
   pub auto : Automaton
   pub there : slice_get l.pairs place ≡ Some (formula, auto)
   pub pair : IsPair l.sets l.budget f auto
 
 -- the same table and budget, the old pairs and more after them
-pub record LevelGrows (old new : LevelState) : Type 0 where
+pub record MeetsGrow (old new : MeetState) : Type 0 where
   pub sets : new.sets ≡ old.sets
   pub budget : new.budget ≡ old.budget
   pub added : List (Formula × Automaton)

@@ -4,11 +4,11 @@ ghost use Rattle.auto_core.specs.Automaton.{Automaton};
 ghost use Rattle.lin_formula.specs.declared.formula.Formula.{Formula};
 ghost use Rattle.lin_formula.specs.TreeOf.{tree_of};
 ghost use Rattle.formula_auto.specs.Compiled.{IsSetFor};
-ghost use Rattle.formula_auto.specs.LevelState.{IsPair, IsPairAt, LevelGrows};
+ghost use Rattle.formula_auto.specs.MeetState.{IsPair, IsPairAt, MeetsGrow};
 ghost use Rattle.formula_auto.specs.PartOf.{IsMembership};
 
 use crate::entry::{Entry, place_of};
-use crate::part::Part;
+use crate::part_auto::PartAuto;
 use crate::steps::membership;
 use crate::table::SetTable;
 use auto_core::Auto;
@@ -20,36 +20,36 @@ use track_word::Var;
 
 /// A table of sets, lent, and the automata that were made of And of two of its sets, for one budget.
 #[derive(Drop)]
-pub struct Level<'a> {
+pub struct MeetTable<'a> {
     sets: &'a SetTable,
     budget: Budget,
     pairs: Vec<Entry>,
 }
 
-impl<'a> Model for Level<'a> {
+impl<'a> Model for MeetTable<'a> {
     ghost use Rattle.std.specs.Prelude.{map};
-    ghost use Rattle.formula_auto.specs.LevelState.{LevelState, IsLevel};
-    ghost use Rattle.formula_auto.specs.Codes.{coded_level};
+    ghost use Rattle.formula_auto.specs.MeetState.{MeetState, IsMeetTable};
+    ghost use Rattle.formula_auto.specs.Codes.{coded_meets};
     ghost use Rattle.formula_auto.specs.EntryOf.{entry_of};
 
-    ghost Value = { LevelState };
+    ghost Value = { MeetState };
 
-    ghost coded = { coded_level };
+    ghost coded = { coded_meets };
 
     ghost view = { λ l. record { sets = l.sets.now; budget = l.budget; pairs = map entry_of l.pairs.items } };
 
     ghost invariant = { λ l.
-        IsLevel (record { sets = l.sets.now; budget = l.budget; pairs = map entry_of l.pairs.items }) };
+        IsMeetTable (record { sets = l.sets.now; budget = l.budget; pairs = map entry_of l.pairs.items }) };
 }
 
-impl<'a> Level<'a> {
+impl<'a> MeetTable<'a> {
     /// Over the table, with nothing made.
-    pub(crate) fn new(alloc: Global, sets: &'a SetTable, budget: Budget) -> Level<'a>
+    pub(crate) fn new(alloc: Global, sets: &'a SetTable, budget: Budget) -> MeetTable<'a>
         ensures sets { result.sets ≡ sets.now }
         ensures budget { result.budget ≡ budget }
         ensures pairs { result.pairs ≡ [] }
     {
-        Level {
+        MeetTable {
             sets,
             budget,
             pairs: Vec::new(alloc),
@@ -96,16 +96,16 @@ impl<'a> Level<'a> {
         alloc: Global,
         set: SetId,
         vars: &[Var],
-    ) -> Result<Part, AllocError>
+    ) -> Result<PartAuto, AllocError>
         requires { IsSetFor self.now.sets set.0 (length vars.now) }
         ensures { IfOk result (IsMembership self.now set.0 vars.now) }
     {
         let named = self.named(set);
         if named.tracks() == vars {
-            return Ok(Part::Named(set));
+            return Ok(PartAuto::Named(set));
         }
         let renamed = membership(alloc, named, vars)?;
-        Ok(Part::Fresh(renamed))
+        Ok(PartAuto::Fresh(renamed))
     }
 
     /// Puts what was made of a formula at the end, and gives its place.
@@ -116,7 +116,7 @@ impl<'a> Level<'a> {
         auto: Auto,
     ) -> Result<usize, AllocError>
         requires { IsPair self.old.sets self.old.budget (tree_of f.now) auto }
-        ensures grows { LevelGrows self.old self.new }
+        ensures grows { MeetsGrow self.old self.new }
         ensures there { IfOk result (λ place. (f : Formula) × (slice_get self.new.pairs place ≡ Some (f, auto))) }
     {
         let place = self.pairs.len();

@@ -1,10 +1,10 @@
 //! The tuples at the distances along a ray.
 ghost use Rattle.std.specs.Prelude.{◌≡◌, ◌^◌, ◌<◌, ◌≤◌, ◌+ℤ◌, ◌*ℤ◌, pos, unsigned_abs};
-ghost use Rattle.auto_search.specs.Way.{IsSlope};
+ghost use Rattle.auto_search.specs.TupleRay.{IsSlope};
 
 /// A tuple of integers, in the order of an automaton's tracks, and what each step of a ray adds to two of them.
 #[derive(Clone, Copy)]
-pub struct Way<'a> {
+pub struct TupleRay<'a> {
     /// The tuple at distance 0.
     pub fixed: &'a [i64],
     /// The place of the first track that the ray moves on.

@@ -6,7 +6,7 @@ use Rattle.lin_formula.proofs.Equality.{same_var}
 use Rattle.formula_auto.specs.Decides.{Decides}
 use Rattle.formula_auto.proofs.Atoms.{Decides-itself}
 use Rattle.formula_auto.proofs.Rooms.{set_fits, set_reached}
-use Rattle.formula_auto.proofs.level.Level.membership.Goals as goal
+use Rattle.formula_auto.proofs.meet_table.MeetTable.membership.Goals as goal
 
 pub membership-requires-clause-size : goal.membership-requires-clause-size
 membership-requires-clause-size c =
