@@ -10,7 +10,9 @@ use crate::level::{LevelNames, name_in};
 use crate::stage::{MaskSet, Stage, StageSet};
 use game_rules::Side;
 use lin_formula::{Formula, SetId};
-use rule_formula::{Bearing, Opt, bear_formula, bearings, image_formula, options, pre_formula};
+use rule_formula::{
+    Bearing, Opt, StepSets, bear_formula, bearings, image_formula, options, pre_formula,
+};
 use std::alloc::AllocError;
 
 /// Adds where the option leads from the set of a mask, if it leads into the other mask.
@@ -99,14 +101,11 @@ fn push_pre(
     ensures { OnOk result (AreAdded (pre_to bench.now.position.now from option target) formulas.old formulas.new) }
 {
     if let Some(target) = target {
-        let pre = pre_formula(
-            bench.alloc,
-            bench.position,
-            from.mask,
-            option,
-            from.set,
-            target,
-        )?;
+        let sets = StepSets {
+            before: from.set,
+            after: target,
+        };
+        let pre = pre_formula(bench.alloc, bench.position, from.mask, option, sets)?;
         formulas.push(pre)?;
     }
     Ok(())
@@ -156,7 +155,7 @@ fn bears(bench: &Bench, source: MaskSet, bearings: &[Bearing]) -> Result<Vec<For
     let mut formulas = Vec::new(bench.alloc);
     for b in bearings {
         let MaskSet { mask, set } = source;
-        let bear = bear_formula(bench.alloc, bench.position, mask, b.man, b.ray, b.king, set)?;
+        let bear = bear_formula(bench.alloc, bench.position, mask, *b, set)?;
         formulas.push(bear)?;
     }
     Ok(formulas)

@@ -74,10 +74,9 @@ impl Steps for Narrowing<'_> {
             position,
             ..
         } = *self.bench;
-        let Bearing { man, ray, king } = *bearing;
         let count = work.sets.count();
         let id = work.sets.put(source)?;
-        let formula = safe_formula(alloc, position, self.stage.mask, man, ray, king, id)?;
+        let formula = safe_formula(alloc, position, self.stage.mask, *bearing, id)?;
         let from = StepName {
             part: self.stage.part(Part::Safe),
             at,

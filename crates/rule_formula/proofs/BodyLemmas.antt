@@ -15,29 +15,28 @@ use Rattle.lin_formula.specs.Tree as tree
 abbrev Chain : ℕ → ℕ → ℕ → ℕ → Ray → Extent → Seat → Seat → Tree → Tree
 Chain n mask i t r extent a b x = clear (and_all x (ray_atoms r a b)) (λ k. on r a b extent (own k)) (is_live mask) i t n
 
-pub chain_is : (n mask i t : ℕ) (r : Ray) (extent : Extent) (a b from to : Seat) (x f g h : Tree) → from ≡ a → to ≡ b → f ≡ x
-    → g ≡ and_all f (ray_atoms r from to) → h ≡ clear g (λ k. on r from to extent (own k)) (is_live mask) i t n
+pub chain_is : (n mask i t : ℕ) (r : Ray) (extent : Extent) (a b from to : Seat) (x f h : Tree) → from ≡ a → to ≡ b → f ≡ x
+    → h ≡ clear (and_all f (ray_atoms r from to)) (λ k. on r from to extent (own k)) (is_live mask) i t n
     → h ≡ clear (and_all x (ray_atoms r a b)) (λ k. on r a b extent (own k)) (is_live mask) i t n
-chain_is n mask i t r extent a b from to x f g h from_is to_is f_is g_is h_is =
-    h_is ∙ ap (λ y. clear y (λ k. on r from to extent (own k)) (is_live mask) i t n) g_is
-    ∙ ap (Chain n mask i t r extent from to) f_is
+chain_is n mask i t r extent a b from to x f h from_is to_is f_is h_is =
+    h_is ∙ ap (Chain n mask i t r extent from to) f_is
     ∙ ap (λ c. Chain n mask i t r extent c to x) from_is
     ∙ ap (λ d. Chain n mask i t r extent a d x) to_is
 
-pub image_body_is : (n mask i t : ℕ) (r : Ray) (s : ℕ) (from to : Seat) (f g h : Tree) → from ≡ spare r i → to ≡ own i
-    → f ≡ tree.Among s (vars_to (seats_with i from t to) (without (is_live mask) 0) n) → g ≡ and_all f (ray_atoms r from to)
-    → h ≡ clear g (λ k. on r from to Onto (own k)) (is_live mask) i t n → h ≡ image_body n mask i r t s
-image_body_is n mask i t r s from to f g h from_is to_is f_is g_is h_is =
+pub image_body_is : (n mask i t : ℕ) (r : Ray) (s : ℕ) (from to : Seat) (f h : Tree) → from ≡ spare r i → to ≡ own i
+    → f ≡ tree.Among s (vars_to (seats_with i from t to) (without (is_live mask) 0) n)
+    → h ≡ clear (and_all f (ray_atoms r from to)) (λ k. on r from to Onto (own k)) (is_live mask) i t n → h ≡ image_body n mask i r t s
+image_body_is n mask i t r s from to f h from_is to_is f_is h_is =
     let among = λ (a b : Seat). tree.Among s (vars_to (seats_with i a t b) (without (is_live mask) 0) n) in
     let f_old : f ≡ tree.Among s (vars_to (old_seats r i t) (is_live mask) n) =
     f_is ∙ ap (λ a. among a to) from_is ∙ ap (λ b. among (spare r i) b) to_is
     ∙ ap (λ xs. tree.Among s xs) (vars_to-without (old_seats r i t) (is_live mask) n) in
-    chain_is n mask i t r Onto (spare r i) (own i) from to (tree.Among s (vars_to (old_seats r i t) (is_live mask) n)) f g h from_is to_is f_old g_is h_is
+    chain_is n mask i t r Onto (spare r i) (own i) from to (tree.Among s (vars_to (old_seats r i t) (is_live mask) n)) f h from_is to_is f_old h_is
 
-pub bear_tree_is : (n mask k g : ℕ) (r : Ray) (s : ℕ) (from to : Seat) (f along h : Tree) → r.far ≡ true → from ≡ own k → to ≡ own g
-    → f ≡ tree.Among s (vars_to own (is_live mask) n) → along ≡ and_all f (ray_atoms r from to)
-    → h ≡ clear along (λ l. on r from to Before (own l)) (is_live mask) k g n → h ≡ bear_tree n mask k r g s
-bear_tree_is n mask k g r s from to f along h far from_is to_is f_is along_is h_is =
+pub bear_tree_is : (n mask k g : ℕ) (r : Ray) (s : ℕ) (from to : Seat) (f h : Tree) → r.far ≡ true → from ≡ own k → to ≡ own g
+    → f ≡ tree.Among s (vars_to own (is_live mask) n)
+    → h ≡ clear (and_all f (ray_atoms r from to)) (λ l. on r from to Before (own l)) (is_live mask) k g n → h ≡ bear_tree n mask k r g s
+bear_tree_is n mask k g r s from to f h far from_is to_is f_is h_is =
     let among = tree.Among s (vars_to own (is_live mask) n) in
-    chain_is n mask k g r Before (own k) (own g) from to among f along h from_is to_is f_is along_is h_is
+    chain_is n mask k g r Before (own k) (own g) from to among f h from_is to_is f_is h_is
     ∙ ap (λ b. clear_as b (and_all among (ray_atoms r (own k) (own g))) (λ l. on r (own k) (own g) Before (own l)) (is_live mask) k g n) (sym far)

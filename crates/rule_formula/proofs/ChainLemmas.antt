@@ -1,7 +1,8 @@
 -- What a chain of And says.
-use Rattle.std.proofs.Common.{◌≡◌, ◌⊎◌, ◌↔◌, ℕ, zero, suc, ◌<◌, ◌≤◌, Bool, true, false, IsTrue, List, [], ◌∷◌, ◌++◌, inl, inr, refl, subst, sym, ap, ◌∙◌, ◌&&◌, not, arith}
+use Rattle.std.proofs.Common.{◌≡◌, ◌⊎◌, ◌↔◌, ℕ, zero, suc, ◌+◌, ◌<◌, ◌≤◌, Bool, true, false, IsTrue, List, [], ◌∷◌, ◌++◌, inl, inr, refl, subst, sym, ap, ◌∙◌, ◌&&◌, not, arith}
 use Rattle.std.specs.Prelude.{◌==◌, if◌then◌else◌}
 use Rattle.std.proofs.lemmas.Bool.Decides.{nat_tests}
+use Rattle.track_word.specs.declared.tracks.Var.{Var}
 use Rattle.rule_formula.specs.declared.seats.Seat.{Seat}
 use Rattle.rule_formula.specs.Placed.{without}
 use Rattle.rule_formula.specs.Seats.{vars_to}
@@ -66,6 +67,25 @@ vars_to-without seats live (suc n) =
     let rest : vars_to seats (without live 0) n ≡ vars_to seats live n = vars_to-without seats live n in
     ap (λ b. if b then vars_to seats (without live 0) n ++ (seats (suc n)).x ∷ (seats (suc n)).y ∷ [] else vars_to seats (without live 0) n) e
     ∙ ap (λ xs. if live (suc n) then xs ++ (seats (suc n)).x ∷ (seats (suc n)).y ∷ [] else xs) rest
+
+-- one man more, who is live
+pub vars_pushed : (seats : ℕ → Seat) (live : ℕ → Bool) (n : ℕ) (s : Seat) (old new : List Var) → live (n + 1) ≡ true → s ≡ seats (n + 1)
+    → old ≡ vars_to seats live n → new ≡ old ++ s.x ∷ s.y ∷ [] → new ≡ vars_to seats live (n + 1)
+vars_pushed seats live n s old new on seat_is old_is new_is =
+    let next : n + 1 ≡ suc n = omega arith in
+    let here : live (suc n) ≡ true = subst (λ k. live k ≡ true) next on in
+    let his : s ≡ seats (suc n) = subst (λ k. s ≡ seats k) next seat_is in
+    subst (λ k. new ≡ vars_to seats live k) (sym next)
+    (new_is ∙ ap (λ xs. xs ++ s.x ∷ s.y ∷ []) old_is ∙ ap (λ (a : Seat). vars_to seats live n ++ a.x ∷ a.y ∷ []) his
+    ∙ sym (ap (λ (b : Bool). if b then vars_to seats live n ++ (seats (suc n)).x ∷ (seats (suc n)).y ∷ [] else vars_to seats live n) here))
+
+-- one man more, who is not
+pub vars_passed : (seats : ℕ → Seat) (live : ℕ → Bool) (n : ℕ) (old : List Var) → live (n + 1) ≡ false → old ≡ vars_to seats live n → old ≡ vars_to seats live (n + 1)
+vars_passed seats live n old off old_is =
+    let next : n + 1 ≡ suc n = omega arith in
+    let here : live (suc n) ≡ false = subst (λ k. live k ≡ false) next off in
+    subst (λ k. old ≡ vars_to seats live k) (sym next)
+    (old_is ∙ sym (ap (λ (b : Bool). if b then vars_to seats live n ++ (seats (suc n)).x ∷ (seats (suc n)).y ∷ [] else vars_to seats live n) here))
 
 -- the lemmas on chains that the code's proofs use
 pub ruleset more = (and_all-append, vars_to-without)

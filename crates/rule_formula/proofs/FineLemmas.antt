@@ -9,40 +9,65 @@ use Rattle.track_word.specs.Tracks.{with_var, with_vars}
 use Rattle.track_word.specs.Atom.{IsAtom, IsBound, IsCoefficient, term_vars}
 use Rattle.lin_formula.specs.Tree.{IsWellMade, Tree, memberships, vars_of}
 use Rattle.lin_formula.specs.Tree as tree
+use Rattle.lin_formula.specs.Free.{IsFree, IsOneOf}
 use Rattle.lin_formula.proofs.FreeVars.{if_cases}
 
--- each is below eighteen
-abbrev pub IsLow : List Var → Type 0
-IsLow [] = Unit {0}
-IsLow (x ∷ xs) = (x.0 < 18) × IsLow xs
+-- each is as told
+abbrev pub AreVars : (Var → Type 0) → List Var → Type 0
+AreVars V [] = Unit {0}
+AreVars V (x ∷ xs) = V x × AreVars V xs
 
--- its comparisons are small, its variables are low, and its memberships are as wanted
-abbrev pub IsFine : (ℕ × List Var → Type 0) → Tree → Type 0
-IsFine P (tree.Lin terms rel bound) = IsAtom terms bound × IsLow (term_vars terms)
-IsFine P (tree.Value x n) = x.0 < 18
-IsFine P (tree.Among s vars) = P (s, vars) × IsLow vars
-IsFine P (tree.Not f) = IsFine P f
-IsFine P (tree.And f g) = IsFine P f × IsFine P g
-IsFine P (tree.Or f g) = IsFine P f × IsFine P g
-IsFine P (tree.Ex x f) = (x.0 < 18) × IsFine P f
+-- its comparisons are small, and its variables and its memberships are as told
+abbrev pub IsFine : (Var → Type 0) → (ℕ × List Var → Type 0) → Tree → Type 0
+IsFine V P (tree.Lin terms rel bound) = IsAtom terms bound × AreVars V (term_vars terms)
+IsFine V P (tree.Value x n) = V x
+IsFine V P (tree.Among s vars) = P (s, vars) × AreVars V vars
+IsFine V P (tree.Not f) = IsFine V P f
+IsFine V P (tree.And f g) = IsFine V P f × IsFine V P g
+IsFine V P (tree.Or f g) = IsFine V P f × IsFine V P g
+IsFine V P (tree.Ex x f) = V x × IsFine V P f
 
-pub fine_made : (P : ℕ × List Var → Type 0) (t : Tree) → IsFine P t → IsWellMade t
-fine_made P (tree.Lin terms rel bound) h = h.0
-fine_made P (tree.Value x n) h = tt
-fine_made P (tree.Among s vars) h = tt
-fine_made P (tree.Not f) h = fine_made P f h
-fine_made P (tree.And f g) h = (fine_made P f h.0, fine_made P g h.1)
-fine_made P (tree.Or f g) h = (fine_made P f h.0, fine_made P g h.1)
-fine_made P (tree.Ex x f) h = fine_made P f h.1
+pub fine_made : (V : Var → Type 0) (P : ℕ × List Var → Type 0) (t : Tree) → IsFine V P t → IsWellMade t
+fine_made V P (tree.Lin terms rel bound) h = h.0
+fine_made V P (tree.Value x n) h = tt
+fine_made V P (tree.Among s vars) h = tt
+fine_made V P (tree.Not f) h = fine_made V P f h
+fine_made V P (tree.And f g) h = (fine_made V P f h.0, fine_made V P g h.1)
+fine_made V P (tree.Or f g) h = (fine_made V P f h.0, fine_made V P g h.1)
+fine_made V P (tree.Ex x f) h = fine_made V P f h.1
 
-pub fine_names : (P : ℕ × List Var → Type 0) (t : Tree) → IsFine P t → All P (memberships t)
-fine_names P (tree.Lin terms rel bound) h = All-nil P
-fine_names P (tree.Value x n) h = All-nil P
-fine_names P (tree.Among s vars) h = All-cons P (s, vars) [] h.0 (All-nil P)
-fine_names P (tree.Not f) h = fine_names P f h
-fine_names P (tree.And f g) h = All-append P (memberships f) (memberships g) (fine_names P f h.0) (fine_names P g h.1)
-fine_names P (tree.Or f g) h = All-append P (memberships f) (memberships g) (fine_names P f h.0) (fine_names P g h.1)
-fine_names P (tree.Ex x f) h = fine_names P f h.1
+pub fine_names : (V : Var → Type 0) (P : ℕ × List Var → Type 0) (t : Tree) → IsFine V P t → All P (memberships t)
+fine_names V P (tree.Lin terms rel bound) h = All-nil P
+fine_names V P (tree.Value x n) h = All-nil P
+fine_names V P (tree.Among s vars) h = All-cons P (s, vars) [] h.0 (All-nil P)
+fine_names V P (tree.Not f) h = fine_names V P f h
+fine_names V P (tree.And f g) h = All-append P (memberships f) (memberships g) (fine_names V P f h.0) (fine_names V P g h.1)
+fine_names V P (tree.Or f g) h = All-append P (memberships f) (memberships g) (fine_names V P f h.0) (fine_names V P g h.1)
+fine_names V P (tree.Ex x f) h = fine_names V P f h.1
+
+pub one_told : (V : Var → Type 0) (xs : List Var) (z : Var) → AreVars V xs → IsOneOf z xs → V z
+one_told V [] z h is = absurd is
+one_told V (x ∷ xs) z h (inl e) = subst V (sym e) h.0
+one_told V (x ∷ xs) z h (inr is) = one_told V xs z h.1 is
+
+-- each free variable is as told
+abbrev pub FreeIn : (Var → Type 0) → Tree → Type 0
+FreeIn V f = (z : Var) → IsFree z f → V z
+
+pub fine_free : (V : Var → Type 0) (P : ℕ × List Var → Type 0) (t : Tree) → IsFine V P t → FreeIn V t
+fine_free V P (tree.Lin terms rel bound) h z is = one_told V (term_vars terms) z h.1 is
+fine_free V P (tree.Value x n) h z is = subst V (sym is) h
+fine_free V P (tree.Among s vars) h z is = one_told V vars z h.1 is
+fine_free V P (tree.Not f) h z is = fine_free V P f h z is
+fine_free V P (tree.And f g) h z (inl is) = fine_free V P f h.0 z is
+fine_free V P (tree.And f g) h z (inr is) = fine_free V P g h.1 z is
+fine_free V P (tree.Or f g) h z (inl is) = fine_free V P f h.0 z is
+fine_free V P (tree.Or f g) h z (inr is) = fine_free V P g h.1 z is
+fine_free V P (tree.Ex x f) h z is = fine_free V P f h.1 z is.1
+
+-- a variable below eighteen
+abbrev pub IsLow : Var → Type 0
+IsLow x = x.0 < 18
 
 -- they ascend from n on, and are below eighteen
 abbrev Climbs : ℕ → List Var → Type 0
@@ -63,15 +88,15 @@ climb_with n x (y ∷ ys) from low h =
     (λ same. h)
     (λ other. let above : y.0 < x.0 = grind (arith, nat_tests) in (h.0, h.1, climb_with (suc y.0) x ys (omega (arith, above)) low h.2)))
 
-climb_with_all : (xs ys : List Var) → IsLow xs → Climbs 0 ys → Climbs 0 (with_vars xs ys)
+climb_with_all : (xs ys : List Var) → AreVars IsLow xs → Climbs 0 ys → Climbs 0 (with_vars xs ys)
 climb_with_all [] ys low h = h
 climb_with_all (x ∷ xs) ys low h = climb_with 0 x (with_vars xs ys) (omega arith) low.0 (climb_with_all xs ys low.1 h)
 
-climb_low : (n : ℕ) (xs : List Var) → Climbs n xs → IsLow xs
+climb_low : (n : ℕ) (xs : List Var) → Climbs n xs → AreVars IsLow xs
 climb_low n [] h = tt
 climb_low n (x ∷ xs) h = (h.1, climb_low (suc x.0) xs h.2)
 
-fine_climbs : (P : ℕ × List Var → Type 0) (t : Tree) → IsFine P t → Climbs 0 (vars_of t)
+fine_climbs : (P : ℕ × List Var → Type 0) (t : Tree) → IsFine IsLow P t → Climbs 0 (vars_of t)
 fine_climbs P (tree.Lin terms rel bound) h = climb_with_all (term_vars terms) [] h.1 tt
 fine_climbs P (tree.Value x n) h = (omega arith, h, tt)
 fine_climbs P (tree.Among s vars) h = climb_with_all vars [] h.1 tt
@@ -81,7 +106,7 @@ fine_climbs P (tree.Or f g) h = climb_with_all (vars_of f) (vars_of g) (climb_lo
 fine_climbs P (tree.Ex x f) h = climb_with 0 x (vars_of f) (omega arith) h.0 (fine_climbs P f h.1)
 
 -- its variables are at most eighteen
-pub fine_few : (P : ℕ × List Var → Type 0) (t : Tree) → IsFine P t → length (vars_of t) ≤ 18
+pub fine_few : (P : ℕ × List Var → Type 0) (t : Tree) → IsFine IsLow P t → length (vars_of t) ≤ 18
 fine_few P t h = let w = climb_length 0 (vars_of t) (omega arith) (fine_climbs P t h) in omega (arith, w)
 
 one_differs : (x y : Var) → x.0 ≢ y.0 → x ≢ y

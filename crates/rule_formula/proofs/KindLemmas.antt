@@ -13,6 +13,7 @@ use Rattle.game_laws.proofs.LineLemmas.{direction_small_x, direction_small_y, st
 use Rattle.game_rules.specs.declared.men.Ray.{Ray}
 use Rattle.game_rules.specs.Rays.{leap, ray_of, serves_captures, slide}
 use Rattle.game_laws.proofs.TableLemmas.{ray_is as table_ray}
+use Rattle.rule_formula.specs.Paths.{IsRayStep}
 use Rattle.rule_formula.proofs.RayLemmas.{LiesOn, IsSteps, IsFair, IsWithin, Sign, far, near, num, small_sign, square_at}
 
 -- what holds of ray number n of a kind
@@ -118,8 +119,17 @@ between_is x y some {a} {b} z {t} low steps = (
       },
 )
 
-pub ray_directs : (s : Side) (k : Kind) (n : ℕ) (o : Option Ray) → o ≡ ray_of k s n → IfSome o (λ r. IsDirection r.dx r.dy)
+pub ray_step : (s : Side) (k : Kind) (n : ℕ) (r : Ray) → ray_of k s n ≡ Some r → IsRayStep r.dx r.dy
+ray_step s k n r is =
+    let direction : IsDirection r.dx r.dy = (table_ray s k n r is).direction in
+    record { short_right = direction_small_x r.dx r.dy direction; short_up = direction_small_y r.dx r.dy direction; one = other r.dx r.dy direction }
+  where
+    other : (dx dy : ℤ) → IsDirection dx dy → (unsigned_abs dx ≡ 1 → ⊥) → unsigned_abs dy ≡ 1
+    other dx dy (inl h) off = absurd (off h.0)
+    other dx dy (inr h) off = h.0
+
+pub ray_directs : (s : Side) (k : Kind) (n : ℕ) (o : Option Ray) → o ≡ ray_of k s n → IfSome o (λ r. IsRayStep r.dx r.dy)
 ray_directs s k n None e = tt
-ray_directs s k n (Some r) e = (table_ray s k n r (sym e)).direction
+ray_directs s k n (Some r) e = ray_step s k n r (sym e)
 
 pub ruleset moving = (ray_directs)

@@ -19,6 +19,7 @@ pub mod MoveLemmas
 pub mod MoveTheorem
 pub mod OptionTheorem
 pub mod PairTheorem
+pub mod PathLemmas
 pub mod PlacedLemmas
 pub mod PointTheorem
 pub mod PointTracks

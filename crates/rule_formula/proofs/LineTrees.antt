@@ -1,11 +1,12 @@
 -- Which atom a line has that is no row and no column.
-use Rattle.std.proofs.Common.{◌≡◌, ◌≢◌, ℕ, zero, suc, inl, inr, ℤ, pos, negsuc, neg_ℤ, Bool, true, false, refl, arith}
+use Rattle.std.proofs.Common.{◌≡◌, ◌≢◌, ℕ, zero, suc, inl, inr, ℤ, pos, negsuc, neg_ℤ, Bool, true, false, List, [], ◌∷◌, refl, arith}
 use Rattle.std.specs.Prelude.{◌==◌, if◌then◌else◌}
 use Rattle.std.proofs.lemmas.Int.{ints}
 use Rattle.std.proofs.lemmas.Bool.Decides.{eqb_tells, nat_tests}
 use Rattle.lin_formula.specs.Tree.{Tree}
 use Rattle.rule_formula.specs.declared.seats.Seat.{Seat}
-use Rattle.rule_formula.specs.Trees.{falling, leaping, line, rising}
+use Rattle.track_word.specs.declared.atoms.Rel.TheVariants.{Eq}
+use Rattle.rule_formula.specs.Trees.{difference, falling, leaping, line, line_atoms, rising, unless_same}
 
 first_of : (m n : ℕ) (f g : Tree) → m ≡ n → (if m == n then f else g) ≡ f
 first_of m n f g same = cases (m == n) (grind (arith, nat_tests))
@@ -47,5 +48,50 @@ line_leaping (pos (suc dx)) (pos (suc dy)) a b right up other opposite = second_
 line_leaping (pos (suc dx)) (negsuc dy) a b right up other opposite = second_of dx dy (falling a b) (leaping (pos (suc dx)) (negsuc dy) a b) (λ e. opposite (omega (arith, ints, e)))
 line_leaping (negsuc dx) (pos (suc dy)) a b right up other opposite = second_of dx dy (falling a b) (leaping (negsuc dx) (pos (suc dy)) a b) (λ e. opposite (omega (arith, ints, e)))
 line_leaping (negsuc dx) (negsuc dy) a b right up other opposite = second_of dx dy (rising a b) (leaping (negsuc dx) (negsuc dy) a b) (λ e. other (omega (arith, ints, e)))
+
+pub either_tree : (P : Tree → Type 0) (b : Bool) (f g : Tree) → P f → P g → P (if b then f else g)
+either_tree P true f g h k = h
+either_tree P false f g h k = k
+
+moves_up : (n : ℕ) → pos (suc n) ≢ pos 0
+moves_up n e = omega (arith, ints, e)
+
+moves_down : (n : ℕ) → negsuc n ≢ pos 0
+moves_down n e = omega (arith, ints, e)
+
+-- what holds of each atom that a line may have
+pub record HoldsOfLines (P : Tree → Type 0) (dx dy : ℤ) (a b : Seat) : Type 0 where
+  pub column : dx ≡ pos 0 → P (difference b.x a.x Eq (pos 0))
+  pub row : dy ≡ pos 0 → P (difference b.y a.y Eq (pos 0))
+  pub slanting : dx ≢ pos 0 → dy ≢ pos 0 → P (rising a b) × P (falling a b) × P (leaping dx dy a b)
+
+-- holds of the line
+pub line_holds : (P : Tree → Type 0) (dx dy : ℤ) (a b : Seat) → HoldsOfLines P dx dy a b → P (line dx dy a b)
+line_holds P (pos zero) dy a b h = h.column refl
+line_holds P (pos (suc dx)) (pos zero) a b h = h.row refl
+line_holds P (negsuc dx) (pos zero) a b h = h.row refl
+line_holds P (pos (suc dx)) (pos (suc dy)) a b h =
+    let w = h.slanting (moves_up dx) (moves_up dy) in either_tree P (dx == dy) (rising a b) (leaping (pos (suc dx)) (pos (suc dy)) a b) w.0 w.2
+line_holds P (pos (suc dx)) (negsuc dy) a b h =
+    let w = h.slanting (moves_up dx) (moves_down dy) in either_tree P (dx == dy) (falling a b) (leaping (pos (suc dx)) (negsuc dy) a b) w.1 w.2
+line_holds P (negsuc dx) (pos (suc dy)) a b h =
+    let w = h.slanting (moves_down dx) (moves_up dy) in either_tree P (dx == dy) (falling a b) (leaping (negsuc dx) (pos (suc dy)) a b) w.1 w.2
+line_holds P (negsuc dx) (negsuc dy) a b h =
+    let w = h.slanting (moves_down dx) (moves_down dy) in either_tree P (dx == dy) (rising a b) (leaping (negsuc dx) (negsuc dy) a b) w.0 w.2
+
+-- the same of its list, in which an atom is left out
+pub record HoldsOfLists (Q : List Tree → Type 0) (dx dy : ℤ) (a b : Seat) : Type 0 where
+  pub column : dx ≡ pos 0 → Q (unless_same b.x a.x (difference b.x a.x Eq (pos 0)))
+  pub row : dx ≢ pos 0 → dy ≡ pos 0 → Q (unless_same b.y a.y (difference b.y a.y Eq (pos 0)))
+  pub slanting : dx ≢ pos 0 → dy ≢ pos 0 → Q (line dx dy a b ∷ [])
+
+pub line_atoms_hold : (Q : List Tree → Type 0) (dx dy : ℤ) (a b : Seat) → HoldsOfLists Q dx dy a b → Q (line_atoms dx dy a b)
+line_atoms_hold Q (pos zero) dy a b h = h.column refl
+line_atoms_hold Q (pos (suc dx)) (pos zero) a b h = h.row (moves_up dx) refl
+line_atoms_hold Q (negsuc dx) (pos zero) a b h = h.row (moves_down dx) refl
+line_atoms_hold Q (pos (suc dx)) (pos (suc dy)) a b h = h.slanting (moves_up dx) (moves_up dy)
+line_atoms_hold Q (pos (suc dx)) (negsuc dy) a b h = h.slanting (moves_up dx) (moves_down dy)
+line_atoms_hold Q (negsuc dx) (pos (suc dy)) a b h = h.slanting (moves_down dx) (moves_up dy)
+line_atoms_hold Q (negsuc dx) (negsuc dy) a b h = h.slanting (moves_down dx) (moves_down dy)
 
 pub ruleset lines = (line_rising, line_falling, line_leaping)

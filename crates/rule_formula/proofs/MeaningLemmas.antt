@@ -118,16 +118,6 @@ safe_means {stock} {mask} {k} {n} {g} s {man} {r} t is tree e turn v =
 pub ray_at_is : (stock : List Man) (k n : ℕ) (m : Man) (r : Ray) → stock_man stock k ≡ Some m → ray_of m.kind m.side n ≡ Some r → r ≡ ray_at stock k n
 ray_at_is stock k n m r is ray = sym (ap (man_ray n) is ∙ ap ray_or_none ray)
 
--- the ray that the code finds is the man's
-pub found_ray : (stock : List Man) (k n : ℕ) (m : Man) (found r : Ray) → stock_man stock k ≡ Some m
-    → ray_of m.kind m.side n ≡ Some r → Some found ≡ ray_of m.kind m.side n → found ≡ ray_at stock k n
-found_ray stock k n m found r is ray here =
-    let both : Some found ≡ Some r = here ∙ ray in let same : found ≡ r = cc in same ∙ ray_at_is stock k n m r is ray
-
--- a tree by the count and the ray of the code
-pub tree_at : (make : ℕ → Ray → Tree) (t : Tree) (n m : ℕ) (r q : Ray) → t ≡ make n r → n ≡ m → r ≡ q → t ≡ make m q
-tree_at make t n m r q is count ray = is ∙ ap (λ k. make k r) count ∙ ap (make m) ray
-
 pub image_told : {stock : List Man} {mask : ℕ} {o : Opt} (s : ℕ) (t : Tree) → length stock ≤ 8
     → IsOptionOf stock mask o → t ≡ image_of stock mask o s → (e : Sets) → ImageHolds e stock mask o s t
 image_told {stock} {mask} {o} s t few w is =

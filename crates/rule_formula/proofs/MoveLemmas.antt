@@ -9,7 +9,7 @@ use Rattle.game_rules.specs.declared.men.Side.{Side}
 use Rattle.game_rules.specs.declared.men.Man.{Man}
 use Rattle.game_rules.specs.declared.men.Place.TheVariants.{Gone, At}
 use Rattle.game_rules.specs.declared.men.Square.{Square}
-use Rattle.game_rules.specs.Game.{Bears, Goes, GoesAs, IsHeldBy, IsAfter, IsEmptySquare, IsLeftBy, Position, StandsOn, forward, man_at, other, place_square, IsApart}
+use Rattle.game_rules.specs.Game.{Bears, Goes, GoesAs, IsOccupiedBy, IsAfter, IsEmptySquare, IsLeftBy, Position, StandsOn, forward, man_at, other, place_square, IsApart}
 use Rattle.game_rules.specs.declared.men.Ray.{Ray}
 use Rattle.game_rules.specs.Rays.{leap, serves_captures, serves_moves}
 use Rattle.game_laws.proofs.LineLemmas.{square_is}
@@ -61,7 +61,7 @@ pub place_gone : (b : Bool) (z : Square) → b ≡ false → place_at b z ≡ Go
 place_gone true z e = absurd (cc)
 place_gone false z e = refl
 
-goes_as : (k : Kind) (p : Position) (m : Man) (z : Square) → Bears p m z → IsHeldBy p (other m.side) z → GoesAs k p m z
+goes_as : (k : Kind) (p : Position) (m : Man) (z : Square) → Bears p m z → IsOccupiedBy p (other m.side) z → GoesAs k p m z
 goes_as King p m z b h = b
 goes_as Queen p m z b h = b
 goes_as Rook p m z b h = b
@@ -175,7 +175,7 @@ takes_there {stock} {mask} {t = suc t} {man} o {f} w =
     (man_placed (is_live mask) f (suc t) o.prey.0, placed_man stock (is_live mask) man.side f (suc t) o.prey.0 o.prey.1, prey_stands t o w)
 
 no_own_there : {stock : List Man} {mask i n t : ℕ} {man : Man} {r : Ray} → IsOption stock mask i n t man r → {f g : ℕ → Square}
-    → IsMove stock (is_live mask) i r t f g → IsHeldBy (placed stock (is_live mask) man.side f) man.side (g i) → ⊥
+    → IsMove stock (is_live mask) i r t f g → IsOccupiedBy (placed stock (is_live mask) man.side f) man.side (g i) → ⊥
 no_own_there {stock} {mask} {i} {t} {man} o {f} {g} w h =
     let p : Position = placed stock (is_live mask) man.side f in
     let (k, q, is, (side, stands)) = any_is p (λ m. (m.side ≡ man.side) × StandsOn m (g i)) h in

@@ -7,7 +7,7 @@ use Rattle.game_rules.specs.declared.men.Kind.TheVariants.{King, Queen, Rook, Bi
 use Rattle.game_rules.specs.declared.men.Side.{Side}
 use Rattle.game_rules.specs.declared.men.Man.{Man}
 use Rattle.game_rules.specs.declared.men.Square.{Square}
-use Rattle.game_rules.specs.Game.{Bears, GoesAs, IsHeldBy, IsOpen, IsEmptySquare, Position, StandsOn, Step, forward, man_at, other, square_of}
+use Rattle.game_rules.specs.Game.{Bears, GoesAs, IsOccupiedBy, IsOpen, IsEmptySquare, Position, StandsOn, Step, forward, man_at, other, square_of}
 use Rattle.game_rules.specs.declared.men.Ray.{Ray}
 use Rattle.rule_formula.specs.declared.opt.Opt.{Opt}
 use Rattle.game_rules.specs.Rays.{leap, ray_of, serves_moves}
@@ -119,7 +119,7 @@ pawn_way p m a z pawn stands ahead =
       along = record { distance = 1; positive = omega arith; near = λ e. refl; steps = record { right = omega (arith, ints); up = omega (arith, ints) } };
     }
 
-step_way : (k : Kind) (p : Position) (m : Man) (a z : Square) → m.kind ≡ k → StandsOn m a → (IsHeldBy p (other m.side) z → ⊥) → GoesAs k p m z → IsWay m 0 a z
+step_way : (k : Kind) (p : Position) (m : Man) (a z : Square) → m.kind ≡ k → StandsOn m a → (IsOccupiedBy p (other m.side) z → ⊥) → GoesAs k p m z → IsWay m 0 a z
 step_way King p m a z is stands free g = quiet_way p m a z (λ e. cc) stands g
 step_way Queen p m a z is stands free g = quiet_way p m a z (λ e. cc) stands g
 step_way Rook p m a z is stands free g = quiet_way p m a z (λ e. cc) stands g
@@ -211,7 +211,7 @@ option_of_step stock mask side f {z} kings h =
           let at = stock_number stock k m is in
           let s = stands_placed (is_live mask k) (f k) z here in none k at.low at.high s.0 s.1)
           in
-          let free : IsHeldBy p (other h.man.side) z → ⊥ = λ w.
+          let free : IsOccupiedBy p (other h.man.side) z → ⊥ = λ w.
           let (k, m, is, (enemy, here)) = any_is p (λ m. (m.side ≡ other h.man.side) × StandsOn m z) w in
           (all_men p (λ m. StandsOn m z → ⊥)).0 empty k m is here
           in

@@ -159,7 +159,7 @@ module _ (p : Position) (few : length p.men ≤ 8) (m : ℕ) (w : Pair) (game : 
   second_in = let order = is.order in let high = is.high in record { low = omega (arith, order); high = omega (arith, high, few); live = is.second_live }
 
   eight : (s : ℕ) → free_vars (tree_at s) ≡ vars_to own (is_live m) 8
-  eight s = let low = is.low in let order = is.order in twins_tracks 8 m w.first w.second s (omega (arith, low)) first_in.high is.first_live (omega (arith, order)) second_in.high is.second_live
+  eight s = let low = is.low in let order = is.order in twins_tracks 8 m w.first w.second s (omega (arith, low)) first_in.high is.first_live (omega (arith, order)) second_in.high is.second_live (λ e. omega (arith, e, order))
 
   tracks : (s : ℕ) → free_vars (tree_at s) ≡ tracks_of p.men (is_live m)
   tracks s = eight s ∙ eight_vars m (length p.men) few game.no_more

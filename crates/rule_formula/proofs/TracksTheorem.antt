@@ -1,71 +1,44 @@
 -- The free variables of a formula are those of the live men.
-use Rattle.std.proofs.Common.{◌≡◌, ◌≢◌, ◌⊎◌, ◌↔◌, ℕ, zero, suc, ◌+◌, ◌*◌, ◌<◌, ◌≤◌, ℤ, pos, negsuc, neg_ℤ, unsigned_abs, Bool, true, false, List, [], ◌∷◌, ◌++◌, length, nat_lt, ◌==◌, ◌&&◌, not, if◌then◌else◌, inl, inr, refl, sym, ap, ◌∙◌, subst, arith}
+use Rattle.std.proofs.Common.{◌≡◌, ◌≢◌, ◌⊎◌, ◌↔◌, ℕ, zero, suc, ◌+◌, ◌*◌, ◌<◌, ◌≤◌, ℤ, pos, negsuc, unsigned_abs, Bool, true, false, List, [], ◌∷◌, ◌++◌, length, map, All, AllPairs, ◌==◌, if◌then◌else◌, inl, inr, refl, sym, ap, ◌∙◌, subst, arith}
 use Rattle.std.proofs.lemmas.Int.{ints}
+use Rattle.std.proofs.lemmas.List.Kept.{AllPairs-from_increasing}
 use Rattle.std.proofs.lemmas.Bool.Decides.{nat_tests}
 use Rattle.track_word.specs.declared.tracks.Var.{Var}
-use Rattle.track_word.specs.declared.atoms.Rel.{Rel}
-use Rattle.track_word.specs.declared.atoms.Rel.TheVariants.{Eq, Le}
-use Rattle.track_word.specs.Tracks.{with_var, with_vars, without_var}
-use Rattle.track_word.specs.Atom.{term_vars}
+use Rattle.track_word.specs.declared.atoms.Rel.TheVariants.{Eq}
 use Rattle.lin_formula.specs.Tree.{Tree, free_vars}
 use Rattle.lin_formula.specs.Tree as tree
 use Rattle.lin_formula.specs.Free.{IsFree, IsOneOf}
-use Rattle.lin_formula.proofs.FreeVars.{free_vars-free, if_cases, same-var}
+use Rattle.lin_formula.proofs.FreeVars.{free_vars-ascend, free_vars-free, same-var}
 use Rattle.game_rules.specs.declared.men.Man.{Man}
 use Rattle.game_rules.specs.declared.men.Ray.{Ray}
 use Rattle.game_rules.specs.declared.men.Side.{Side}
 use Rattle.rule_formula.specs.declared.opt.Opt.{Opt}
-use Rattle.rule_formula.specs.declared.atoms.Extent.{Extent}
 use Rattle.rule_formula.specs.declared.atoms.Extent.TheVariants.{Onto, Before}
 use Rattle.rule_formula.specs.declared.seats.Seat.{Seat}
+use Rattle.rule_formula.specs.Paths.{IsJourney, IsRayStep}
 use Rattle.rule_formula.specs.Placed.{is_live, without}
 use Rattle.rule_formula.specs.Seats.{elsewhere, new_seat, new_seats, old_seats, own, seats_with, spare, swept, var, vars_to}
-use Rattle.rule_formula.specs.Trees.{ahead, and_all, atoms_as, bear_of, bear_tree, clear, clear_as, difference, ex_swept, falling, image_body, image_of, image_tree, is_other, leaping, line, line_atoms, on, on_as, ordered, past, pre_body, pre_of, pre_tree, ray_at, ray_atoms, rising, safe_of, tracks_of, unless_same, twins_tree}
+use Rattle.rule_formula.specs.Trees.{ahead, and_all, atoms_as, bear_of, bear_tree, clear, clear_as, difference, ex_swept, image_body, image_of, image_tree, is_other, line, line_atoms, on, ordered, past, pre_body, pre_of, pre_tree, ray_at, ray_atoms, safe_of, tracks_of, unless_same, twins_tree}
 use Rattle.rule_formula.specs.Meaning.{IsBearer, IsOptionOf, IsPrey}
-use Rattle.game_rules.specs.Game.{IsDirection}
 use Rattle.game_laws.proofs.MoveLemmas.{same_or_not}
-use Rattle.game_laws.proofs.TableLemmas.{ray_is as table_ray}
-use Rattle.rule_formula.proofs.MeaningLemmas.{ray_at_is}
 use Rattle.rule_formula.proofs.BearLemmas.{IsNumber, stock_number}
-use Rattle.rule_formula.proofs.MoveLemmas.{kept_live, option_untaken, same_number, was_live}
+use Rattle.rule_formula.proofs.FineLemmas.{FreeIn, IsFine, fine_free}
+use Rattle.rule_formula.proofs.LineTrees.{line_atoms_hold, line_holds}
+use Rattle.rule_formula.proofs.MoveLemmas.{kept_live, same_number, was_live}
+use Rattle.rule_formula.proofs.PathLemmas.{bearer_journey, journey_is, journey_step, option_journey}
+use Rattle.rule_formula.proofs.SizeTheorem.{AreSeated, IsGood, any_set, bear_fit, chosen_tree, image_body_fit, own_good, pre_body_fit, spare_seat, twins_fit}
 
 -- they ascend from n on
 abbrev Rises : ℕ → List Var → Type 0
 Rises n [] = Unit {0}
 Rises n (x ∷ xs) = (n ≤ x.0) × Rises (suc x.0) xs
 
-rises_lower : (m n : ℕ) (xs : List Var) → m ≤ n → Rises n xs → Rises m xs
-rises_lower m n [] low h = tt
-rises_lower m n (x ∷ xs) low h = (omega (arith, low, h.0), h.1)
-
-rises_with : (n : ℕ) (x : Var) (ys : List Var) → n ≤ x.0 → Rises n ys → Rises n (with_var x ys)
-rises_with n x [] from h = (from, tt)
-rises_with n x (y ∷ ys) from h =
-    if_cases (nat_lt x.0 y.0) (x ∷ y ∷ ys) (if x.0 == y.0 then y ∷ ys else y ∷ with_var x ys) (Rises n)
-    (λ e. let less : x.0 < y.0 = grind (arith, nat_tests) in (from, (omega (arith, less), h.1)))
-    (λ e. if_cases (x.0 == y.0) (y ∷ ys) (y ∷ with_var x ys) (Rises n)
-    (λ same. h)
-    (λ other. let above : y.0 < x.0 = grind (arith, nat_tests) in (h.0, rises_with (suc y.0) x ys (omega (arith, above)) h.1)))
-
-rises_with_all : (xs ys : List Var) → Rises 0 ys → Rises 0 (with_vars xs ys)
-rises_with_all [] ys h = h
-rises_with_all (x ∷ xs) ys h = rises_with 0 x (with_vars xs ys) (omega arith) (rises_with_all xs ys h)
-
-rises_without : (n : ℕ) (x : Var) (ys : List Var) → Rises n ys → Rises n (without_var x ys)
-rises_without n x [] h = tt
-rises_without n x (y ∷ ys) h =
-    if_cases (not (y.0 == x.0)) (y ∷ without_var x ys) (without_var x ys) (Rises n)
-    (λ e. (h.0, rises_without (suc y.0) x ys h.1))
-    (λ e. rises_without n x ys (rises_lower n (suc y.0) ys (omega (arith, h.0)) h.1))
-
-rises_free : (f : Tree) → Rises 0 (free_vars f)
-rises_free (tree.Lin terms rel bound) = rises_with_all (term_vars terms) [] tt
-rises_free (tree.Value x n) = (omega arith, tt)
-rises_free (tree.Among s vars) = rises_with_all vars [] tt
-rises_free (tree.Not f) = rises_free f
-rises_free (tree.And f g) = rises_with_all (free_vars f) (free_vars g) (rises_free g)
-rises_free (tree.Or f g) = rises_with_all (free_vars f) (free_vars g) (rises_free g)
-rises_free (tree.Ex x f) = rises_without 0 x (free_vars f) (rises_free f)
+rises_pairs : (n : ℕ) (xs : List Var) → All (λ y. n ≤ y) (map (λ v. v.0) xs) → AllPairs (λ x y. x < y) (map (λ v. v.0) xs) → Rises n xs
+rises_pairs n [] low h = tt
+rises_pairs n (x ∷ xs) low h = (
+  low 0 x.0 (omega arith),
+  rises_pairs (suc x.0) xs (λ j y within. h 0 (suc j) y (omega arith) (omega (arith, within))) (λ i j d less within. h (suc i) (suc j) d (omega (arith, less)) (omega (arith, within))),
+)
 
 -- they ascend from m on, below k
 abbrev Spans : ℕ → ℕ → List Var → Type 0
@@ -170,119 +143,6 @@ seat_in seats live (suc n) z k low high on is =
       | inr ne ↦ step.1 (inl (seat_in seats live n z k low (omega (arith, high, ne)) on is))
     ]
 
--- each free variable is as told
-abbrev FreeIn : (Var → Type 0) → Tree → Type 0
-FreeIn T f = (z : Var) → IsFree z f → T z
-
-record SeatIn (T : Var → Type 0) (s : Seat) : Type 0 where
-  across : T s.x
-  along : T s.y
-
-difference_in : (T : Var → Type 0) (x y : Var) (rel : Rel) (n : ℤ) → T x → T y → FreeIn T (difference x y rel n)
-difference_in T x y rel n first second z (inl e) = subst T (sym e) first
-difference_in T x y rel n first second z (inr (inl e)) = subst T (sym e) second
-difference_in T x y rel n first second z (inr (inr none)) = absurd none
-
-four_in : (T : Var → Type 0) (b d c e : ℤ) (p q r s : Var) (rel : Rel) (n : ℤ) → T p → T q → T r → T s → FreeIn T (tree.Lin ((b, p) ∷ (d, q) ∷ (c, r) ∷ (e, s) ∷ []) rel n)
-four_in T b d c e p q r s rel n tp tq tr ts z (inl w) = subst T (sym w) tp
-four_in T b d c e p q r s rel n tp tq tr ts z (inr (inl w)) = subst T (sym w) tq
-four_in T b d c e p q r s rel n tp tq tr ts z (inr (inr (inl w))) = subst T (sym w) tr
-four_in T b d c e p q r s rel n tp tq tr ts z (inr (inr (inr (inl w)))) = subst T (sym w) ts
-four_in T b d c e p q r s rel n tp tq tr ts z (inr (inr (inr (inr none)))) = absurd none
-
-either_in : (T : Var → Type 0) (b : Bool) (f g : Tree) → FreeIn T f → FreeIn T g → FreeIn T (if b then f else g)
-either_in T true f g h k = h
-either_in T false f g h k = k
-
-line_in : (T : Var → Type 0) (dx dy : ℤ) (a b : Seat) → SeatIn T a → SeatIn T b → FreeIn T (line dx dy a b)
-line_in T (pos zero) dy a b f t = difference_in T b.x a.x Eq (pos 0) t.across f.across
-line_in T (pos (suc dx)) (pos zero) a b f t = difference_in T b.y a.y Eq (pos 0) t.along f.along
-line_in T (negsuc dx) (pos zero) a b f t = difference_in T b.y a.y Eq (pos 0) t.along f.along
-line_in T (pos (suc dx)) (pos (suc dy)) a b f t =
-    either_in T (dx == dy) (rising a b) (leaping (pos (suc dx)) (pos (suc dy)) a b) (four_in T (pos 1) (negsuc 0) (negsuc 0) (pos 1) b.x a.x b.y a.y Eq (pos 0) t.across f.across t.along f.along)
-    (four_in T (pos (suc dy)) (neg_ℤ (pos (suc dy))) (neg_ℤ (pos (suc dx))) (pos (suc dx)) b.x a.x b.y a.y Eq (pos 0) t.across f.across t.along f.along)
-line_in T (negsuc dx) (negsuc dy) a b f t =
-    either_in T (dx == dy) (rising a b) (leaping (negsuc dx) (negsuc dy) a b) (four_in T (pos 1) (negsuc 0) (negsuc 0) (pos 1) b.x a.x b.y a.y Eq (pos 0) t.across f.across t.along f.along)
-    (four_in T (negsuc dy) (neg_ℤ (negsuc dy)) (neg_ℤ (negsuc dx)) (negsuc dx) b.x a.x b.y a.y Eq (pos 0) t.across f.across t.along f.along)
-line_in T (pos (suc dx)) (negsuc dy) a b f t =
-    either_in T (dx == dy) (falling a b) (leaping (pos (suc dx)) (negsuc dy) a b) (four_in T (pos 1) (negsuc 0) (pos 1) (negsuc 0) b.x a.x b.y a.y Eq (pos 0) t.across f.across t.along f.along)
-    (four_in T (negsuc dy) (neg_ℤ (negsuc dy)) (neg_ℤ (pos (suc dx))) (pos (suc dx)) b.x a.x b.y a.y Eq (pos 0) t.across f.across t.along f.along)
-line_in T (negsuc dx) (pos (suc dy)) a b f t =
-    either_in T (dx == dy) (falling a b) (leaping (negsuc dx) (pos (suc dy)) a b) (four_in T (pos 1) (negsuc 0) (pos 1) (negsuc 0) b.x a.x b.y a.y Eq (pos 0) t.across f.across t.along f.along)
-    (four_in T (pos (suc dy)) (neg_ℤ (pos (suc dy))) (neg_ℤ (negsuc dx)) (negsuc dx) b.x a.x b.y a.y Eq (pos 0) t.across f.across t.along f.along)
-
-ordered_in : (T : Var → Type 0) (d : ℤ) (x y : Var) (n : ℤ) → T x → T y → FreeIn T (ordered d x y n)
-ordered_in T (pos d) x y n first second = difference_in T x y Le n first second
-ordered_in T (negsuc d) x y n first second = difference_in T y x Le n second first
-
-ahead_in : (T : Var → Type 0) (dx dy : ℤ) (a b : Seat) (extent : Extent) → SeatIn T a → SeatIn T b → FreeIn T (ahead dx dy a b extent)
-ahead_in T dx dy a b extent f t =
-    either_in T (unsigned_abs dx == 1) (ordered dx a.x b.x (past extent)) (ordered dy a.y b.y (past extent))
-    (ordered_in T dx a.x b.x (past extent) f.across t.across) (ordered_in T dy a.y b.y (past extent) f.along t.along)
-
-and_in : (T : Var → Type 0) (f g : Tree) → FreeIn T f → FreeIn T g → FreeIn T (tree.And f g)
-and_in T f g h k z (inl w) = h z w
-and_in T f g h k z (inr w) = k z w
-
-on_in : {T : Var → Type 0} (b : Bool) (dx dy : ℤ) {a c m : Seat} (extent : Extent) → SeatIn T a → SeatIn T c → SeatIn T m → FreeIn T (on_as b dx dy a c m extent)
-on_in {T = T} true dx dy {a} {c} {m} extent f t w =
-    and_in T (tree.And (line dx dy a m) (ahead dx dy a m Before)) (ahead dx dy m c extent)
-    (and_in T (line dx dy a m) (ahead dx dy a m Before) (line_in T dx dy a m f w) (ahead_in T dx dy a m Before f w)) (ahead_in T dx dy m c extent w t)
-on_in {T = T} false dx dy {c} {m} extent f t w =
-    and_in T (difference m.x c.x Eq (pos 0)) (difference m.y c.y Eq (pos 0)) (difference_in T m.x c.x Eq (pos 0) w.across t.across) (difference_in T m.y c.y Eq (pos 0) w.along t.along)
-
-abbrev AllIn : (Var → Type 0) → List Tree → Type 0
-AllIn T [] = Unit {0}
-AllIn T (f ∷ fs) = FreeIn T f × AllIn T fs
-
-all_in-append : (T : Var → Type 0) (fs gs : List Tree) → AllIn T fs → AllIn T gs → AllIn T (fs ++ gs)
-all_in-append T [] gs h k = k
-all_in-append T (f ∷ fs) gs h k = (h.0, all_in-append T fs gs h.1 k)
-
-and_all_in : (T : Var → Type 0) (f : Tree) (gs : List Tree) → FreeIn T f → AllIn T gs → FreeIn T (and_all f gs)
-and_all_in T f [] h k = h
-and_all_in T f (g ∷ gs) h k = and_all_in T (tree.And f g) gs (and_in T f g h k.0) k.1
-
-unless_in : (T : Var → Type 0) (b : Bool) (f : Tree) → FreeIn T f → AllIn T (if b then [] else f ∷ [])
-unless_in T true f h = tt
-unless_in T false f h = (h, tt)
-
-line_atoms_in : {T : Var → Type 0} (dx dy : ℤ) {a b : Seat} → SeatIn T a → SeatIn T b → AllIn T (line_atoms dx dy a b)
-line_atoms_in {T = T} (pos zero) dy {a} {b} f t = unless_in T (b.x.0 == a.x.0) (line (pos zero) dy a b) (line_in T (pos zero) dy a b f t)
-line_atoms_in {T = T} (pos (suc dx)) (pos zero) {a} {b} f t = unless_in T (b.y.0 == a.y.0) (line (pos (suc dx)) (pos zero) a b) (line_in T (pos (suc dx)) (pos zero) a b f t)
-line_atoms_in {T = T} (negsuc dx) (pos zero) {a} {b} f t = unless_in T (b.y.0 == a.y.0) (line (negsuc dx) (pos zero) a b) (line_in T (negsuc dx) (pos zero) a b f t)
-line_atoms_in {T = T} (pos (suc dx)) (pos (suc dy)) {a} {b} f t = (line_in T (pos (suc dx)) (pos (suc dy)) a b f t, tt)
-line_atoms_in {T = T} (pos (suc dx)) (negsuc dy) {a} {b} f t = (line_in T (pos (suc dx)) (negsuc dy) a b f t, tt)
-line_atoms_in {T = T} (negsuc dx) (pos (suc dy)) {a} {b} f t = (line_in T (negsuc dx) (pos (suc dy)) a b f t, tt)
-line_atoms_in {T = T} (negsuc dx) (negsuc dy) {a} {b} f t = (line_in T (negsuc dx) (negsuc dy) a b f t, tt)
-
-atoms_in : {T : Var → Type 0} (far : Bool) (dx dy : ℤ) {a b : Seat} → SeatIn T a → SeatIn T b → AllIn T (atoms_as far dx dy a b)
-atoms_in {T = T} true dx dy {a} {b} f t = all_in-append T (line_atoms dx dy a b) (ahead dx dy a b Before ∷ []) (line_atoms_in dx dy f t) (ahead_in T dx dy a b Before f t, tt)
-atoms_in {T = T} false dx dy {a} {b} f t =
-    all_in-append T (unless_same b.x a.x (difference b.x a.x Eq dx)) (unless_same b.y a.y (difference b.y a.y Eq dy))
-    (unless_in T (b.x.0 == a.x.0) (difference b.x a.x Eq dx) (difference_in T b.x a.x Eq dx t.across f.across))
-    (unless_in T (b.y.0 == a.y.0) (difference b.y a.y Eq dy) (difference_in T b.y a.y Eq dy t.along f.along))
-
-if_in : (T : Var → Type 0) (b : Bool) (f g : Tree) → FreeIn T f → (b ≡ true → FreeIn T g) → FreeIn T (if b then tree.And f (tree.Not g) else f)
-if_in T true f g h k = and_in T f (tree.Not g) h (k refl)
-if_in T false f g h k = h
-
-live_other : (b : Bool) (i j k : ℕ) → (b && (not (k == i) && not (k == j))) ≡ true → (b ≡ true) × (k ≢ j)
-live_other true i j k e = (refl, grind (arith, nat_tests))
-live_other false i j k e = absurd (cc)
-
-clear_in : (T : Var → Type 0) (f : Tree) (hit : ℕ → Tree) (live : ℕ → Bool) (i j n : ℕ) → FreeIn T f
-    → ((k : ℕ) → 0 < k → k ≤ n → live k ≡ true → k ≢ j → FreeIn T (hit k)) → FreeIn T (clear f hit live i j n)
-clear_in T f hit live i j zero h each = h
-clear_in T f hit live i j (suc n) h each =
-    if_in T (is_other live i j (suc n)) (clear f hit live i j n) (hit (suc n)) (clear_in T f hit live i j n h (λ k low high. each k low (omega (arith, high))))
-    (λ e. let w = live_other (live (suc n)) i j (suc n) e in each (suc n) (omega arith) (omega arith) w.0 w.1)
-
-clear_as_in : (T : Var → Type 0) (b : Bool) (f : Tree) (hit : ℕ → Tree) (live : ℕ → Bool) (i j n : ℕ) → FreeIn T f
-    → ((k : ℕ) → 0 < k → k ≤ n → live k ≡ true → k ≢ j → FreeIn T (hit k)) → FreeIn T (clear_as b f hit live i j n)
-clear_as_in T true f hit live i j n h each = clear_in T f hit live i j n h each
-clear_as_in T false f hit live i j n h each = h
-
 -- what stays free when a variable is quantified where the ray sweeps it
 swept_in : (T : Var → Type 0) (d : ℤ) (x : Var) (f : Tree) → FreeIn (λ z. T z ⊎ ((z ≡ x) × (d ≢ pos 0))) f → FreeIn T (ex_swept d x f)
 swept_in T (pos zero) x f h z w = elim (h z w) [ inl is ↦ is | inr k ↦ absurd (k.1 refl) ]
@@ -298,78 +158,43 @@ swept_seat T (negsuc d) x y h = inr (refl, λ e. omega (arith, ints, e))
 abbrev InBody : (Var → Type 0) → Ray → Var → Type 0
 InBody T r z = (T z ⊎ ((z ≡ elsewhere.x) × (r.dx ≢ pos 0))) ⊎ ((z ≡ elsewhere.y) × (r.dy ≢ pos 0))
 
-spare_in : (T : Var → Type 0) (r : Ray) (i : ℕ) → SeatIn T (own i) → SeatIn (InBody T r) (spare r i)
-spare_in T r i h =
+in_body : (T : Var → Type 0) (r : Ray) (s : Seat) → IsGood T s → IsGood (InBody T r) s
+in_body T r s h = record { seat = h.seat; across = inl (inl h.across); along = inl (inl h.along) }
+
+spare_in : (T : Var → Type 0) (r : Ray) (i : ℕ) → 0 < i → IsGood T (own i) → IsGood (InBody T r) (spare r i)
+spare_in T r i low h =
     record {
+      seat = spare_seat r i low;
       across = elim (swept_seat T r.dx (own i).x elsewhere.x h.across) [ inl is ↦ inl (inl is) | inr k ↦ inl (inr k) ];
       along = elim (swept_seat T r.dy (own i).y elsewhere.y h.along) [ inl is ↦ inl (inl is) | inr k ↦ inr k ];
     }
 
-seat_body : (T : Var → Type 0) (r : Ray) (s : Seat) → SeatIn T s → SeatIn (InBody T r) s
-seat_body T r s h = record { across = inl (inl h.across); along = inl (inl h.along) }
+-- the seats of the live men
+own_seated : (live : ℕ → Bool) (n : ℕ) → AreSeated (IsSeated own live n) own live n
+own_seated live n k low high on =
+    own_good (IsSeated own live n) k low (record { number = k; low = low; high = high; on = on; is = inl refl }) (record { number = k; low = low; high = high; on = on; is = inr refl })
 
-own_seat_in : (live : ℕ → Bool) (n k : ℕ) → 0 < k → k ≤ n → live k ≡ true → SeatIn (IsSeated own live n) (own k)
-own_seat_in live n k low high on =
-    record { across = record { number = k; low = low; high = high; on = on; is = inl refl }; along = record { number = k; low = low; high = high; on = on; is = inr refl } }
+-- what is free when both variables are quantified
+body_in : (T : Var → Type 0) (r : Ray) (f : Tree) → IsFine (InBody T r) any_set f → FreeIn T (ex_swept r.dx elsewhere.x (ex_swept r.dy elsewhere.y f))
+body_in T r f fine =
+    swept_in T r.dx elsewhere.x (ex_swept r.dy elsewhere.y f)
+    (swept_in (λ z. T z ⊎ ((z ≡ elsewhere.x) × (r.dx ≢ pos 0))) r.dy elsewhere.y f (fine_free (InBody T r) any_set f fine))
 
-among_in : (T : Var → Type 0) (s : ℕ) (seats : ℕ → Seat) (live : ℕ → Bool) (n : ℕ)
-    → ((k : ℕ) → 0 < k → k ≤ n → live k ≡ true → SeatIn T (seats k)) → FreeIn T (tree.Among s (vars_to seats live n))
-among_in T s seats live n h z is =
-    let w = seated seats live n z is in
-    let seat = h w.number w.low w.high w.on in
-    elim w.is [ inl e ↦ subst T (sym e) seat.across | inr e ↦ subst T (sym e) seat.along ]
-
-seats_in : {T : Var → Type 0} (i j k : ℕ) {a b : Seat} → SeatIn T a → SeatIn T b → (k ≢ i → k ≢ j → SeatIn T (own k)) → SeatIn T (seats_with i a j b k)
-seats_in {T = T} i j k {a} {b} first second third = cases (k == i) (k == j) (λ e. differs k i e) (λ e. differs k j e)
-  where
-    differs : (p q : ℕ) → (p == q) ≡ false → p ≢ q
-    differs p q e = grind (arith, nat_tests)
-
-    cases : (p q : Bool) → (p ≡ false → k ≢ i) → (q ≡ false → k ≢ j) → SeatIn T (if p then a else if q then b else own k)
-    cases true q one two = first
-    cases false true one two = second
-    cases false false one two = third (one refl) (two refl)
-
-path_in : (U : Var → Type 0) (f : Tree) (r : Ray) (a b : Seat) (extent : Extent) (live : ℕ → Bool) (i j n : ℕ) → FreeIn U f → SeatIn U a → SeatIn U b
-    → ((k : ℕ) → 0 < k → k ≤ n → live k ≡ true → k ≢ j → SeatIn U (own k))
-    → FreeIn U (clear (and_all f (ray_atoms r a b)) (λ k. on r a b extent (own k)) live i j n)
-path_in U f r a b extent live i j n h from to each =
-    clear_in U (and_all f (ray_atoms r a b)) (λ k. on r a b extent (own k)) live i j n (and_all_in U f (ray_atoms r a b) h (atoms_in r.far r.dx r.dy from to))
-    (λ k low high alive other. on_in r.far r.dx r.dy extent from to (each k low high alive other))
-
-pre_body_in : (U : Var → Type 0) (n mask i t s q : ℕ) (r : Ray) → SeatIn U (own i) → SeatIn U (new_seat r i t)
-    → ((k : ℕ) → 0 < k → k ≤ n → is_live mask k ≡ true → SeatIn U (own k)) → FreeIn U (pre_body n mask i r t s q)
-pre_body_in U n mask i t s q r from to each =
-    path_in U (tree.And (tree.Among s (vars_to own (is_live mask) n)) (tree.Among q (vars_to (new_seats r i t) (without (is_live mask) t) n))) r (own i) (new_seat r i t) Onto (is_live mask) i t n
-    (and_in U (tree.Among s (vars_to own (is_live mask) n)) (tree.Among q (vars_to (new_seats r i t) (without (is_live mask) t) n))
-    (among_in U s own (is_live mask) n each)
-    (among_in U q (new_seats r i t) (without (is_live mask) t) n
-    (λ k low high alive. seats_in i t k to to (λ first second. each k low high (was_live (is_live mask k) k t alive).0))))
-    from to (λ k low high alive other. each k low high alive)
-
-pre_tree_in : (n mask i t s q : ℕ) (r : Ray) → 0 < i → i ≤ n → is_live mask i ≡ true
+pre_tree_in : (n mask i t s q : ℕ) {r : Ray} → n ≤ 8 → IsJourney i r t → i ≤ n → is_live mask i ≡ true
     → (0 < t → (t ≤ n) × (is_live mask t ≡ true)) → FreeIn (IsSeated own (is_live mask) n) (pre_tree n mask i r t s q)
-pre_tree_in n mask i zero s q r low high on prey =
+pre_tree_in n mask i zero s q {r} few j high on prey =
     let T = IsSeated own (is_live mask) n in
-    let mover : SeatIn T (own i) = own_seat_in (is_live mask) n i low high on in
-    swept_in T r.dx elsewhere.x (ex_swept r.dy elsewhere.y (pre_body n mask i r 0 s q))
-    (swept_in (λ z. T z ⊎ ((z ≡ elsewhere.x) × (r.dx ≢ pos 0))) r.dy elsewhere.y (pre_body n mask i r 0 s q)
-    (pre_body_in (InBody T r) n mask i 0 s q r (seat_body T r (own i) mover) (spare_in T r i mover) (λ k first last alive. seat_body T r (own k) (own_seat_in (is_live mask) n k first last alive))))
-pre_tree_in n mask i (suc t) s q r low high on prey =
+    let low : 0 < i = omega (arith, j.low) in
+    let each : AreSeated T own (is_live mask) n = own_seated (is_live mask) n in
+    let mover : IsGood T (own i) = each i low high on in
+    body_in T r (pre_body n mask i r 0 s q)
+    (pre_body_fit (InBody T r) any_set n mask i 0 s q few j tt tt (in_body T r (own i) mover) (spare_in T r i low mover) (λ k first last alive. in_body T r (own k) (each k first last alive))).fine
+pre_tree_in n mask i (suc t) s q {r} few j high on prey =
+    let T = IsSeated own (is_live mask) n in
+    let each : AreSeated T own (is_live mask) n = own_seated (is_live mask) n in
     let w = prey (omega arith) in
-    pre_body_in (IsSeated own (is_live mask) n) n mask i (suc t) s q r (own_seat_in (is_live mask) n i low high on) (own_seat_in (is_live mask) n (suc t) (omega arith) w.0 w.1)
-    (λ k first last alive. own_seat_in (is_live mask) n k first last alive)
-
-bear_tree_in : (n mask k g s : ℕ) (r : Ray) → 0 < k → k ≤ n → is_live mask k ≡ true → 0 < g → g ≤ n
-    → is_live mask g ≡ true → FreeIn (IsSeated own (is_live mask) n) (bear_tree n mask k r g s)
-bear_tree_in n mask k g s r low high alive_k first last target =
-    let T = IsSeated own (is_live mask) n in
-    let from : SeatIn T (own k) = own_seat_in (is_live mask) n k low high alive_k in
-    let to : SeatIn T (own g) = own_seat_in (is_live mask) n g first last target in
-    clear_as_in T r.far (and_all (tree.Among s (vars_to own (is_live mask) n)) (ray_atoms r (own k) (own g))) (λ l. on r (own k) (own g) Before (own l)) (is_live mask) k g n
-    (and_all_in T (tree.Among s (vars_to own (is_live mask) n)) (ray_atoms r (own k) (own g))
-    (among_in T s own (is_live mask) n (own_seat_in (is_live mask) n)) (atoms_in r.far r.dx r.dy from to))
-    (λ l begin end alive other. on_in r.far r.dx r.dy Before from to (own_seat_in (is_live mask) n l begin end alive))
+    fine_free T any_set (pre_body n mask i r (suc t) s q)
+    (pre_body_fit T any_set n mask i (suc t) s q few j tt tt (each i (omega (arith, j.low)) high on) (each (suc t) (omega arith) w.0 w.1) each).fine
 
 -- a variable that is free in the first stays free
 if_free : (b : Bool) (f g : Tree) (z : Var) → IsFree z f → IsFree z (if b then tree.And f g else f)
@@ -430,24 +255,18 @@ bear_free {n} mask k g s r {z} w =
 -- the free variables are the tracks, where those and no others are free
 pub tracks_are : (live : ℕ → Bool) (n : ℕ) (f : Tree) → FreeIn (IsSeated own live n) f → ((z : Var) → IsSeated own live n z → IsFree z f) → free_vars f ≡ vars_to own live n
 tracks_are live n f only all =
-    same_list 0 0 (free_vars f) (vars_to own live n) (rises_free f) (spans_rise 0 (2 * n) (vars_to own live n) (spans_own live n))
+    same_list 0 0 (free_vars f) (vars_to own live n) (rises_pairs 0 (free_vars f) (λ j y within. omega arith) (AllPairs-from_increasing (map (λ v. v.0) (free_vars f)) (free_vars-ascend f))) (spans_rise 0 (2 * n) (vars_to own live n) (spans_own live n))
     (λ z is. seated_in (only z ((free_vars-free f z).0 is)))
     (λ z is. (free_vars-free f z).1 (all z (seated own live n z is)))
 
 -- the free variables of twins are those of the live men
-pub twins_tracks : (n mask a b s : ℕ) → 0 < a → a ≤ n → is_live mask a ≡ true → 0 < b → b ≤ n → is_live mask b ≡ true
+pub twins_tracks : (n mask a b s : ℕ) → 0 < a → a ≤ n → is_live mask a ≡ true → 0 < b → b ≤ n → is_live mask b ≡ true → a ≢ b
     → free_vars (twins_tree n mask a b s) ≡ vars_to own (is_live mask) n
-twins_tracks n mask a b s low_a high_a on_a low_b high_b on_b =
+twins_tracks n mask a b s low_a high_a on_a low_b high_b on_b ne =
     let T = IsSeated own (is_live mask) n in
-    let first = own_seat_in (is_live mask) n a low_a high_a on_a in
-    let second = own_seat_in (is_live mask) n b low_b high_b on_b in
-    let among = tree.Among s (vars_to own (is_live mask) n) in
-    let across = difference (own a).x (own b).x Eq (pos 0) in
-    let along = difference (own a).y (own b).y Eq (pos 0) in
+    let each : AreSeated T own (is_live mask) n = own_seated (is_live mask) n in
     tracks_are (is_live mask) n (twins_tree n mask a b s)
-    (and_in T (tree.And among across) along
-    (and_in T among across (among_in T s own (is_live mask) n (own_seat_in (is_live mask) n)) (difference_in T (own a).x (own b).x Eq (pos 0) first.across second.across))
-    (difference_in T (own a).y (own b).y Eq (pos 0) first.along second.along))
+    (fine_free T any_set (twins_tree n mask a b s) (twins_fit T any_set n mask a b s low_a low_b ne tt (each a low_a high_a on_a) (each b low_b high_b on_b) each).fine)
     (λ z w. inl (inl (seated_in w)))
 
 -- tracks twice are the tracks
@@ -470,29 +289,29 @@ prey_is_live stock mask (suc t) side h low = ((stock_number stock (suc t) h.0 h.
 
 pub pre_tracks : (stock : List Man) (mask : ℕ) (o : Opt) (s q : ℕ) → length stock ≤ 8 → IsOptionOf stock mask o → free_vars (pre_of stock mask o s q) ≡ tracks_of stock (is_live mask)
 pre_tracks stock mask o s q few w =
-    let number : IsNumber stock o.man = stock_number stock o.man w.man w.is.is_man in
     tracks_are (is_live mask) (length stock) (pre_of stock mask o s q)
-    (pre_tree_in (length stock) mask o.man o.taken s q (ray_at stock o.man o.ray) number.low number.high w.is.live (prey_is_live stock mask o.taken w.man.side w.is.prey))
+    (pre_tree_in (length stock) mask o.man o.taken s q few (journey_is few (option_journey w)) (stock_number stock o.man w.man w.is.is_man).high w.is.live
+    (prey_is_live stock mask o.taken w.man.side w.is.prey))
     (λ z is. pre_free mask o.man o.taken s q (ray_at stock o.man o.ray) few is)
+
+bear_in : {stock : List Man} {mask k n g : ℕ} (s : ℕ) → IsBearer stock mask k n g → FreeIn (IsSeated own (is_live mask) (length stock)) (bear_of stock mask k n g s)
+bear_in {stock} {mask} {k} {n} {g} s w =
+    let T = IsSeated own (is_live mask) (length stock) in
+    let each : AreSeated T own (is_live mask) (length stock) = own_seated (is_live mask) (length stock) in
+    let from : IsNumber stock k = stock_number stock k w.man w.is.is_man in
+    let to : IsNumber stock g = stock_number stock g w.target w.is.is_target in
+    fine_free T any_set (bear_of stock mask k n g s)
+    (bear_fit T any_set (length stock) mask k g s (ray_at stock k n) from.low to.low w.is.apart (journey_step (bearer_journey w)) tt
+    (each k from.low from.high w.is.live) (each g to.low to.high w.is.target_live) each).fine
 
 pub bear_tracks : (stock : List Man) (mask k n g s : ℕ) → IsBearer stock mask k n g → free_vars (bear_of stock mask k n g s) ≡ tracks_of stock (is_live mask)
 bear_tracks stock mask k n g s w =
-    let from : IsNumber stock k = stock_number stock k w.man w.is.is_man in
-    let to : IsNumber stock g = stock_number stock g w.target w.is.is_target in
-    tracks_are (is_live mask) (length stock) (bear_of stock mask k n g s)
-    (bear_tree_in (length stock) mask k g s (ray_at stock k n) from.low from.high w.is.live to.low to.high w.is.target_live)
-    (λ z is. bear_free mask k g s (ray_at stock k n) is)
+    tracks_are (is_live mask) (length stock) (bear_of stock mask k n g s) (bear_in s w) (λ z is. bear_free mask k g s (ray_at stock k n) is)
 
 pub safe_tracks : (stock : List Man) (mask k n g s : ℕ) → IsBearer stock mask k n g → free_vars (safe_of stock mask k n g s) ≡ tracks_of stock (is_live mask)
 safe_tracks stock mask k n g s w =
-    let T = IsSeated own (is_live mask) (length stock) in
-    let from : IsNumber stock k = stock_number stock k w.man w.is.is_man in
-    let to : IsNumber stock g = stock_number stock g w.target w.is.is_target in
-    let bear : Tree = bear_of stock mask k n g s in
     tracks_are (is_live mask) (length stock) (safe_of stock mask k n g s)
-    (and_in T (tree.Among s (vars_to own (is_live mask) (length stock))) (tree.Not bear)
-    (among_in T s own (is_live mask) (length stock) (λ l begin end alive. own_seat_in (is_live mask) (length stock) l begin end alive))
-    (bear_tree_in (length stock) mask k g s (ray_at stock k n) from.low from.high w.is.live to.low to.high w.is.target_live))
+    (λ z is. elim is [ inl among ↦ seated own (is_live mask) (length stock) z among | inr bears ↦ bear_in s w z bears ])
     (λ z is. inl (seated_in is))
 
 -- the variable is free in one of a list
@@ -524,73 +343,32 @@ unless_any x y f z ne h = cases (x.0 == y.0) (λ e. same x.0 y.0 e)
     cases true e = absurd (ne (e refl))
     cases false e = inl h
 
--- what is free in both is free in either
-either_free : (z : Var) (b : Bool) (f g : Tree) → IsFree z f → IsFree z g → IsFree z (if b then f else g)
-either_free z true f g h k = h
-either_free z false f g h k = k
-
 -- the end's variables are free in the atom of a line that is no row and no column
 slanting_free : (dx dy : ℤ) (a b : Seat) → dx ≢ pos 0 → dy ≢ pos 0 → IsFree b.x (line dx dy a b) × IsFree b.y (line dx dy a b)
-slanting_free (pos zero) dy a b right up = absurd (right refl)
-slanting_free (pos (suc dx)) (pos zero) a b right up = absurd (up refl)
-slanting_free (negsuc dx) (pos zero) a b right up = absurd (up refl)
-slanting_free (pos (suc dx)) (pos (suc dy)) a b right up = (
-  either_free b.x (dx == dy) (rising a b) (leaping (pos (suc dx)) (pos (suc dy)) a b) (inl refl) (inl refl),
-  either_free b.y (dx == dy) (rising a b) (leaping (pos (suc dx)) (pos (suc dy)) a b) (inr (inr (inl refl))) (inr (inr (inl refl))),
-)
-slanting_free (pos (suc dx)) (negsuc dy) a b right up = (
-  either_free b.x (dx == dy) (falling a b) (leaping (pos (suc dx)) (negsuc dy) a b) (inl refl) (inl refl),
-  either_free b.y (dx == dy) (falling a b) (leaping (pos (suc dx)) (negsuc dy) a b) (inr (inr (inl refl))) (inr (inr (inl refl))),
-)
-slanting_free (negsuc dx) (pos (suc dy)) a b right up = (
-  either_free b.x (dx == dy) (falling a b) (leaping (negsuc dx) (pos (suc dy)) a b) (inl refl) (inl refl),
-  either_free b.y (dx == dy) (falling a b) (leaping (negsuc dx) (pos (suc dy)) a b) (inr (inr (inl refl))) (inr (inr (inl refl))),
-)
-slanting_free (negsuc dx) (negsuc dy) a b right up = (
-  either_free b.x (dx == dy) (rising a b) (leaping (negsuc dx) (negsuc dy) a b) (inl refl) (inl refl),
-  either_free b.y (dx == dy) (rising a b) (leaping (negsuc dx) (negsuc dy) a b) (inr (inr (inl refl))) (inr (inr (inl refl))),
-)
+slanting_free dx dy a b right up =
+    let both : IsOneOf b.x (b.x ∷ a.x ∷ b.y ∷ a.y ∷ []) × IsOneOf b.y (b.x ∷ a.x ∷ b.y ∷ a.y ∷ []) = (inl refl, inr (inr (inl refl))) in
+    line_holds (λ f. IsFree b.x f × IsFree b.y f) dx dy a b (record { column = λ e. absurd (right e); row = λ e. absurd (up e); slanting = λ _ _. (both, both, both) })
 
 -- so they are free in its list
 slanting_any : (dx dy : ℤ) (a b : Seat) (z : Var) → dx ≢ pos 0 → dy ≢ pos 0 → IsFree z (line dx dy a b) → AnyFree z (line_atoms dx dy a b)
-slanting_any (pos zero) dy a b z right up h = absurd (right refl)
-slanting_any (pos (suc dx)) (pos zero) a b z right up h = absurd (up refl)
-slanting_any (negsuc dx) (pos zero) a b z right up h = absurd (up refl)
-slanting_any (pos (suc dx)) (pos (suc dy)) a b z right up h = inl h
-slanting_any (pos (suc dx)) (negsuc dy) a b z right up h = inl h
-slanting_any (negsuc dx) (pos (suc dy)) a b z right up h = inl h
-slanting_any (negsuc dx) (negsuc dy) a b z right up h = inl h
+slanting_any dx dy a b z right up h =
+    line_atoms_hold (AnyFree z) dx dy a b (record { column = λ e. absurd (right e); row = λ _ e. absurd (up e); slanting = λ _ _. inl h })
 
 ordered_free : (d : ℤ) (x y : Var) (n : ℤ) → IsFree y (ordered d x y n)
 ordered_free (pos d) x y n = inr (inl refl)
 ordered_free (negsuc d) x y n = inl refl
 
-chosen_free : (z : Var) (m n : ℕ) (f g : Tree) → (m ≡ n → IsFree z f) → ((m ≡ n → ⊥) → IsFree z g) → IsFree z (if m == n then f else g)
-chosen_free z m n f g h k = cases (m == n) (λ e. h (grind (arith, nat_tests))) (λ e. k (λ same. differs m n e same))
-  where
-    differs : (a b : ℕ) → (a == b) ≡ false → a ≡ b → ⊥
-    differs a b e same = grind (arith, nat_tests)
-
-    cases : (b : Bool) → (b ≡ true → IsFree z f) → (b ≡ false → IsFree z g) → IsFree z (if b then f else g)
-    cases true h k = h refl
-    cases false h k = k refl
-
--- a direction along a row goes one to a side
-level_one : (dx dy : ℤ) → IsDirection dx dy → (unsigned_abs dx ≡ 1 → ⊥) → dy ≡ pos 0 → ⊥
-level_one dx dy (inl h) off none = off h.0
-level_one dx dy (inr h) off none = omega (arith, h.0, ap unsigned_abs none)
-
 -- where the ray moves, the end's variable is free in its atoms
-across_free : (far : Bool) (dx dy : ℤ) (a b : Seat) → IsDirection dx dy → dx ≢ pos 0 → b.x.0 ≢ a.x.0 → AnyFree b.x (atoms_as far dx dy a b)
-across_free true dx dy a b direction moves ne =
+across_free : (far : Bool) (dx dy : ℤ) (a b : Seat) → IsRayStep dx dy → dx ≢ pos 0 → b.x.0 ≢ a.x.0 → AnyFree b.x (atoms_as far dx dy a b)
+across_free true dx dy a b step moves ne =
     elim (same_or_not dy (pos 0)) [
       | inl level ↦
           any_right b.x (line_atoms dx dy a b) (ahead dx dy a b Before ∷ [])
-          (inl (chosen_free b.x (unsigned_abs dx) 1 (ordered dx a.x b.x (past Before)) (ordered dy a.y b.y (past Before))
-          (λ one. ordered_free dx a.x b.x (past Before)) (λ off. absurd (level_one dx dy direction off level))))
+          (inl (chosen_tree (IsFree b.x) (unsigned_abs dx) 1 (ordered dx a.x b.x (past Before)) (ordered dy a.y b.y (past Before))
+          (λ one. ordered_free dx a.x b.x (past Before)) (λ off. absurd (omega (arith, step.one off, ap unsigned_abs level)))))
       | inr up ↦ any_left b.x (line_atoms dx dy a b) (ahead dx dy a b Before ∷ []) (slanting_any dx dy a b b.x moves up (slanting_free dx dy a b moves up).0)
     ]
-across_free false dx dy a b direction moves ne =
+across_free false dx dy a b step moves ne =
     any_left b.x (unless_same b.x a.x (difference b.x a.x Eq dx)) (unless_same b.y a.y (difference b.y a.y Eq dy)) (unless_any b.x a.x (difference b.x a.x Eq dx) b.x ne (inl refl))
 
 along_free : (far : Bool) (dx dy : ℤ) (a b : Seat) → dy ≢ pos 0 → b.y.0 ≢ a.y.0 → AnyFree b.y (atoms_as far dx dy a b)
@@ -598,7 +376,7 @@ along_free true dx dy a b moves ne =
     elim (same_or_not dx (pos 0)) [
       | inl level ↦
           any_right b.y (line_atoms dx dy a b) (ahead dx dy a b Before ∷ [])
-          (inl (chosen_free b.y (unsigned_abs dx) 1 (ordered dx a.x b.x (past Before)) (ordered dy a.y b.y (past Before))
+          (inl (chosen_tree (IsFree b.y) (unsigned_abs dx) 1 (ordered dx a.x b.x (past Before)) (ordered dy a.y b.y (past Before))
           (λ one. absurd (omega (arith, one, ap unsigned_abs level))) (λ off. ordered_free dy a.y b.y (past Before))))
       | inr right ↦ any_left b.y (line_atoms dx dy a b) (ahead dx dy a b Before ∷ []) (slanting_any dx dy a b b.y right moves (slanting_free dx dy a b right moves).1)
     ]
@@ -617,30 +395,19 @@ with_first i j a b = grind (arith, nat_tests)
 with_other : (i j k : ℕ) (a b : Seat) → k ≢ i → k ≢ j → seats_with i a j b k ≡ own k
 with_other i j k a b first second = grind (arith, nat_tests)
 
-image_body_in : (n mask i t s : ℕ) (r : Ray) → 0 < i → i ≤ n → is_live mask i ≡ true → i ≢ t
-    → FreeIn (InBody (IsSeated own (without (is_live mask) t) n) r) (image_body n mask i r t s)
-image_body_in n mask i t s r low high on ne =
+image_tree_in : (n mask i t s : ℕ) {r : Ray} → n ≤ 8 → IsJourney i r t → i ≤ n → is_live mask i ≡ true → FreeIn (IsSeated own (without (is_live mask) t) n) (image_tree n mask i r t s)
+image_tree_in n mask i t s {r} few j high on =
     let T = IsSeated own (without (is_live mask) t) n in
-    let U = InBody T r in
-    let each : (k : ℕ) → 0 < k → k ≤ n → is_live mask k ≡ true → k ≢ t → SeatIn U (own k) = λ k first last alive untaken.
-    seat_body T r (own k) (own_seat_in (without (is_live mask) t) n k first last (kept_live (is_live mask k) k t alive untaken))
-    in
-    let mover : SeatIn T (own i) = own_seat_in (without (is_live mask) t) n i low high (kept_live (is_live mask i) i t on ne) in
-    let from : SeatIn U (spare r i) = spare_in T r i mover in
-    let to : SeatIn U (own i) = seat_body T r (own i) mover in
-    path_in U (tree.Among s (vars_to (old_seats r i t) (is_live mask) n)) r (spare r i) (own i) Onto (is_live mask) i t n
-    (among_in U s (old_seats r i t) (is_live mask) n (λ k first last alive. seats_in i t k from to (λ other untaken. each k first last alive untaken)))
-    from to each
+    let low : 0 < i = omega (arith, j.low) in
+    let each : AreSeated T own (without (is_live mask) t) n = own_seated (without (is_live mask) t) n in
+    let mover : IsGood T (own i) = each i low high (kept_live (is_live mask i) i t on j.apart) in
+    body_in T r (image_body n mask i r t s)
+    (image_body_fit (InBody T r) any_set n mask i t s few j tt (spare_in T r i low mover) (in_body T r (own i) mover) (λ k first last alive. in_body T r (own k) (each k first last alive))).fine
 
-image_tree_in : (n mask i t s : ℕ) (r : Ray) → 0 < i → i ≤ n → is_live mask i ≡ true → i ≢ t → FreeIn (IsSeated own (without (is_live mask) t) n) (image_tree n mask i r t s)
-image_tree_in n mask i t s r low high on ne =
-    let T = IsSeated own (without (is_live mask) t) n in
-    swept_in T r.dx elsewhere.x (ex_swept r.dy elsewhere.y (image_body n mask i r t s))
-    (swept_in (λ z. T z ⊎ ((z ≡ elsewhere.x) × (r.dx ≢ pos 0))) r.dy elsewhere.y (image_body n mask i r t s) (image_body_in n mask i t s r low high on ne))
-
-image_body_free : {n : ℕ} (mask i t s : ℕ) (r : Ray) {z : Var} → IsDirection r.dx r.dy → n ≤ 8 → 0 < i → i ≤ n → is_live mask i ≡ true
+image_body_free : {n : ℕ} (mask i t s : ℕ) {r : Ray} {z : Var} → n ≤ 8 → IsJourney i r t → i ≤ n → is_live mask i ≡ true
     → IsSeated own (without (is_live mask) t) n z → IsFree z (image_body n mask i r t s)
-image_body_free {n} mask i t s r {z} direction few low high alive_i w =
+image_body_free {n} mask i t s {r} {z} few j high alive_i w =
+    let low : 0 < i = omega (arith, j.low) in
     let among : Tree = tree.Among s (vars_to (old_seats r i t) (is_live mask) n) in
     let atoms : List Tree = ray_atoms r (spare r i) (own i) in
     let alive = was_live (is_live mask w.number) w.number t w.on in
@@ -657,7 +424,7 @@ image_body_free {n} mask i t s r {z} direction few low high alive_i w =
               | inl kept ↦ there i low high alive_i (subst (λ a. IsOf a z) (sym (with_first i t (spare r i) (own i))) (inl (across ∙ sym kept)))
               | inr moved ↦
                   let past : (own i).x.0 ≢ (spare r i).x.0 = λ same. let far : (spare r i).x.0 ≡ 16 = ap (λ (v : Var). v.0) moved.1 in omega (arith, same, far, few, high) in
-                  chained (and_all_any among atoms z (subst (λ v. AnyFree v atoms) (sym across) (across_free r.far r.dx r.dy (spare r i) (own i) direction moved.0 past)))
+                  chained (and_all_any among atoms z (subst (λ v. AnyFree v atoms) (sym across) (across_free r.far r.dx r.dy (spare r i) (own i) j.step moved.0 past)))
             ]
             | inr along ↦ elim (swept_or r.dy (own i).y elsewhere.y) [
               | inl kept ↦ there i low high alive_i (subst (λ a. IsOf a z) (sym (with_first i t (spare r i) (own i))) (inr (along ∙ sym kept)))
@@ -668,21 +435,18 @@ image_body_free {n} mask i t s r {z} direction few low high alive_i w =
           ]
     ]
 
-image_free : {n : ℕ} (mask i t s : ℕ) (r : Ray) {z : Var} → IsDirection r.dx r.dy → n ≤ 8 → 0 < i → i ≤ n → is_live mask i ≡ true
+image_free : {n : ℕ} (mask i t s : ℕ) {r : Ray} {z : Var} → n ≤ 8 → IsJourney i r t → i ≤ n → is_live mask i ≡ true
     → IsSeated own (without (is_live mask) t) n z → IsFree z (image_tree n mask i r t s)
-image_free {n} mask i t s r {z} direction few low high on w =
+image_free {n} mask i t s {r} {z} few j high on w =
     let small : z.0 < 16 = own_low few w in
     swept_free r.dx elsewhere.x (ex_swept r.dy elsewhere.y (image_body n mask i r t s)) z (not_var z 16 small)
-    (swept_free r.dy elsewhere.y (image_body n mask i r t s) z (not_var z 17 (omega (arith, small))) (image_body_free mask i t s r direction few low high on w))
+    (swept_free r.dy elsewhere.y (image_body n mask i r t s) z (not_var z 17 (omega (arith, small))) (image_body_free mask i t s few j high on w))
 
 pub image_tracks : (stock : List Man) (mask : ℕ) (o : Opt) (s : ℕ) → length stock ≤ 8 → IsOptionOf stock mask o
     → free_vars (image_of stock mask o s) ≡ tracks_of stock (without (is_live mask) o.taken)
 image_tracks stock mask o s few w =
-    let number : IsNumber stock o.man = stock_number stock o.man w.man w.is.is_man in
-    let ne : o.man ≢ o.taken = option_untaken w.is in
-    let r : Ray = ray_at stock o.man o.ray in
-    let direction : IsDirection r.dx r.dy =
-    subst (λ r. IsDirection r.dx r.dy) (ray_at_is stock o.man o.ray w.man w.ray w.is.is_man w.is.ray) (table_ray w.man.side w.man.kind o.ray w.ray w.is.ray).direction in
+    let j : IsJourney o.man (ray_at stock o.man o.ray) o.taken = journey_is few (option_journey w) in
+    let high : o.man ≤ length stock = (stock_number stock o.man w.man w.is.is_man).high in
     tracks_are (without (is_live mask) o.taken) (length stock) (image_of stock mask o s)
-    (image_tree_in (length stock) mask o.man o.taken s (ray_at stock o.man o.ray) number.low number.high w.is.live ne)
-    (λ z is. image_free mask o.man o.taken s (ray_at stock o.man o.ray) direction few number.low number.high w.is.live is)
+    (image_tree_in (length stock) mask o.man o.taken s few j high w.is.live)
+    (λ z is. image_free mask o.man o.taken s few j high w.is.live is)

@@ -5,6 +5,7 @@ pub mod Mean
 pub mod Meaning
 pub mod Options
 pub mod Pairs
+pub mod Paths
 pub mod Placed
 pub mod Seats
 pub mod Size

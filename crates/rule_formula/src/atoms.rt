@@ -1,14 +1,14 @@
 //! The atoms of rays.
 
 ghost use Rattle.std.specs.Prelude.{◌≡◌, ◌≢◌, ◌≤◌, ◌≤ℤ◌, IfOk, pos, neg_ℤ, negsuc, unsigned_abs};
-ghost use Rattle.game_rules.specs.Game.{IsDirection};
 ghost use Rattle.track_word.specs.Atom.{IsAtom};
 ghost use Rattle.lin_formula.specs.TreeOf.{tree_of};
 ghost use Rattle.rule_formula.specs.Seats.{IsSeat};
 ghost use Rattle.rule_formula.specs.Trees.{AreApart, IsCounted, IsDrawn, ahead as ahead_tree, falling as falling_tree, rising as rising_tree, leaping as leaping_tree, difference as difference_tree, line as line_tree, ordered as ordered_tree, past};
-ghost use Rattle.rule_formula.specs.Ways.{on_way};
+ghost use Rattle.rule_formula.specs.Ways.{on_stretch};
 ghost use Rattle.lin_formula.specs.Tree as tree;
 
+use crate::paths::Stretch;
 use crate::seats::Seat;
 use game_rules::Ray;
 use lin_formula::Formula;
@@ -16,19 +16,19 @@ use std::alloc::{AllocError, Global};
 use track_word::{Rel, Var};
 
 /// Both formulas.
-pub(crate) fn both(alloc: Global, a: Formula, b: Formula) -> Result<Formula, AllocError>
-    ensures { IfOk result (λ f. tree_of f ≡ tree.And (tree_of a) (tree_of b)) }
+pub(crate) fn both(alloc: Global, first: Formula, second: Formula) -> Result<Formula, AllocError>
+    ensures { IfOk result (λ f. tree_of f ≡ tree.And (tree_of first) (tree_of second)) }
 {
-    match lin_formula::and(alloc, a, b) {
+    match lin_formula::and(alloc, first, second) {
         Ok(f) => Ok(f),
         Err(_) => Err(AllocError),
     }
 }
 
-pub(crate) fn not(alloc: Global, a: Formula) -> Result<Formula, AllocError>
-    ensures { IfOk result (λ f. tree_of f ≡ tree.Not (tree_of a)) }
+pub(crate) fn not(alloc: Global, formula: Formula) -> Result<Formula, AllocError>
+    ensures { IfOk result (λ f. tree_of f ≡ tree.Not (tree_of formula)) }
 {
-    match lin_formula::not(alloc, a) {
+    match lin_formula::not(alloc, formula) {
         Ok(f) => Ok(f),
         Err(_) => Err(AllocError),
     }
@@ -62,29 +62,29 @@ pub(crate) fn difference(
     sum(alloc, &[(1, x), (-1, y)], rel, bound)
 }
 
-fn rising(alloc: Global, a: Seat, b: Seat) -> Result<Formula, AllocError>
-    requires from { IsSeat a }
-    requires to { IsSeat b }
-    requires apart { AreApart a b }
-    ensures { IfOk result (λ f. tree_of f ≡ rising_tree a b) }
+fn rising(alloc: Global, from: Seat, to: Seat) -> Result<Formula, AllocError>
+    requires from { IsSeat from }
+    requires to { IsSeat to }
+    requires apart { AreApart from to }
+    ensures { IfOk result (λ f. tree_of f ≡ rising_tree from to) }
 {
     sum(
         alloc,
-        &[(1, b.x), (-1, a.x), (-1, b.y), (1, a.y)],
+        &[(1, to.x), (-1, from.x), (-1, to.y), (1, from.y)],
         Rel::Eq,
         0,
     )
 }
 
-fn falling(alloc: Global, a: Seat, b: Seat) -> Result<Formula, AllocError>
-    requires from { IsSeat a }
-    requires to { IsSeat b }
-    requires apart { AreApart a b }
-    ensures { IfOk result (λ f. tree_of f ≡ falling_tree a b) }
+fn falling(alloc: Global, from: Seat, to: Seat) -> Result<Formula, AllocError>
+    requires from { IsSeat from }
+    requires to { IsSeat to }
+    requires apart { AreApart from to }
+    ensures { IfOk result (λ f. tree_of f ≡ falling_tree from to) }
 {
     sum(
         alloc,
-        &[(1, b.x), (-1, a.x), (1, b.y), (-1, a.y)],
+        &[(1, to.x), (-1, from.x), (1, to.y), (-1, from.y)],
         Rel::Eq,
         0,
     )
@@ -120,62 +120,62 @@ fn left_term(ray: Ray, var: Var) -> (i8, Var)
     (-ray.dx, var)
 }
 
-/// b is on the line through a in the direction of the ray, which goes by the steps of a knight.
-fn leaping(alloc: Global, ray: Ray, a: Seat, b: Seat) -> Result<Formula, AllocError>
-    requires from { IsSeat a }
-    requires to { IsSeat b }
-    requires apart { AreApart a b }
+/// The end is on the line through the start in the direction of the ray, which goes by the steps of a knight.
+fn leaping(alloc: Global, ray: Ray, from: Seat, to: Seat) -> Result<Formula, AllocError>
+    requires from { IsSeat from }
+    requires to { IsSeat to }
+    requires apart { AreApart from to }
     requires right { ray.dx ≢ pos 0 }
     requires up { ray.dy ≢ pos 0 }
     requires short_right { unsigned_abs ray.dx ≤ 2 }
     requires short_up { unsigned_abs ray.dy ≤ 2 }
-    ensures { IfOk result (λ f. tree_of f ≡ leaping_tree ray.dx ray.dy a b) }
+    ensures { IfOk result (λ f. tree_of f ≡ leaping_tree ray.dx ray.dy from to) }
 {
     let terms = [
-        up_term(ray, b.x),
-        down_term(ray, a.x),
-        left_term(ray, b.y),
-        right_term(ray, a.y),
+        up_term(ray, to.x),
+        down_term(ray, from.x),
+        left_term(ray, to.y),
+        right_term(ray, from.y),
     ];
     sum(alloc, &terms, Rel::Eq, 0)
 }
 
-/// b is on a line that is no row and no column, through a in the direction of the ray.
+/// The end is on a line that is no row and no column, through the start in the direction of the ray.
 #[tactic(auto, using(crate::proofs::LineTrees::lines))]
-fn slanting(alloc: Global, ray: Ray, a: Seat, b: Seat) -> Result<Formula, AllocError>
-    requires from { IsSeat a }
-    requires to { IsSeat b }
-    requires apart { AreApart a b }
+fn slanting(alloc: Global, ray: Ray, from: Seat, to: Seat) -> Result<Formula, AllocError>
+    requires from { IsSeat from }
+    requires to { IsSeat to }
+    requires apart { AreApart from to }
     requires right { ray.dx ≢ pos 0 }
     requires up { ray.dy ≢ pos 0 }
     requires short_right { unsigned_abs ray.dx ≤ 2 }
     requires short_up { unsigned_abs ray.dy ≤ 2 }
-    ensures { IfOk result (λ f. tree_of f ≡ line_tree ray.dx ray.dy a b) }
+    ensures { IfOk result (λ f. tree_of f ≡ line_tree ray.dx ray.dy from to) }
 {
     if ray.dx == ray.dy {
-        rising(alloc, a, b)
+        rising(alloc, from, to)
     } else if ray.dx == -ray.dy {
-        falling(alloc, a, b)
+        falling(alloc, from, to)
     } else {
-        leaping(alloc, ray, a, b)
+        leaping(alloc, ray, from, to)
     }
 }
 
-/// b is on the line through a in the direction of the ray.
-pub(crate) fn line(alloc: Global, ray: Ray, a: Seat, b: Seat) -> Result<Formula, AllocError>
-    requires from { IsSeat a }
-    requires to { IsSeat b }
-    requires drawn { IsDrawn ray.dx ray.dy a b }
+/// The end is on the line through the start in the direction of the ray.
+pub(crate) fn line(alloc: Global, ray: Ray, from: Seat, to: Seat) -> Result<Formula, AllocError>
+    requires from { IsSeat from }
+    requires to { IsSeat to }
+    requires drawn { IsDrawn ray.dx ray.dy from to }
     requires short_right { unsigned_abs ray.dx ≤ 2 }
     requires short_up { unsigned_abs ray.dy ≤ 2 }
-    ensures { IfOk result (λ f. tree_of f ≡ line_tree ray.dx ray.dy a b) }
+    ensures { IfOk result (λ f. tree_of f ≡ line_tree ray.dx ray.dy from to) }
 {
     if ray.dx == 0 {
-        difference(alloc, b.x, a.x, Rel::Eq, 0)
+        difference(alloc, to.x, from.x, Rel::Eq, 0)
     } else if ray.dy == 0 {
-        difference(alloc, b.y, a.y, Rel::Eq, 0)
+        difference(alloc, to.y, from.y, Rel::Eq, 0)
     } else {
-        slanting(alloc, ray, a, b)
+        slanting(alloc, ray, from, to)
     }
 }
 
@@ -216,51 +216,45 @@ fn ordered(alloc: Global, step: i8, x: Var, y: Var, bound: i32) -> Result<Formul
     }
 }
 
-/// b lies ahead of a in the direction of the ray, or with `Onto` level with a.
+/// The end lies ahead of the start in the direction of the ray, or with `Onto` level with it.
 pub(crate) fn ahead(
     alloc: Global,
     ray: Ray,
-    a: Seat,
-    b: Seat,
+    from: Seat,
+    to: Seat,
     extent: Extent,
 ) -> Result<Formula, AllocError>
-    requires { IsCounted ray.dx ray.dy a b }
-    ensures { IfOk result (λ f. tree_of f ≡ ahead_tree ray.dx ray.dy a b extent) }
+    requires { IsCounted ray.dx ray.dy from to }
+    ensures { IfOk result (λ f. tree_of f ≡ ahead_tree ray.dx ray.dy from to extent) }
 {
     let bound = extent.bound();
     if ray.dx.unsigned_abs() == 1 {
-        ordered(alloc, ray.dx, a.x, b.x, bound)
+        ordered(alloc, ray.dx, from.x, to.x, bound)
     } else {
-        ordered(alloc, ray.dy, a.y, b.y, bound)
+        ordered(alloc, ray.dy, from.y, to.y, bound)
     }
 }
 
-/// The squares of a ray from one seat, itself excluded, to another.
-#[derive(Clone, Copy)]
-pub(crate) struct Way {
-    pub(crate) ray: Ray,
-    pub(crate) from: Seat,
-    pub(crate) to: Seat,
-    pub(crate) extent: Extent,
-}
-
-/// The square in the seat is one of the way's. A ray of one step has its end alone, whatever the extent.
-pub(crate) fn on(alloc: Global, way: Way, z: Seat) -> Result<Formula, AllocError>
-    requires from { IsSeat way.from }
-    requires middle { IsSeat z }
-    requires first { AreApart way.from z }
-    requires last { AreApart z way.to }
-    requires direction { IsDirection way.ray.dx way.ray.dy }
-    ensures { IfOk result (λ f. tree_of f ≡ on_way way z) }
+/// The square in the seat is one of the stretch. A ray of one step has its end alone, whatever the extent.
+pub(crate) fn on(alloc: Global, stretch: Stretch, middle: Seat) -> Result<Formula, AllocError>
+    requires middle { IsSeat middle }
+    requires first { AreApart stretch.from middle }
+    requires last { AreApart middle stretch.to }
+    ensures { IfOk result (λ f. tree_of f ≡ on_stretch stretch middle) }
 {
-    if way.ray.far {
-        let line = line(alloc, way.ray, way.from, z)?;
-        let after_start = ahead(alloc, way.ray, way.from, z, Extent::Before)?;
+    let Stretch { ray, from, to, .. } = stretch;
+    if ray.far {
+        let line = line(alloc, ray, from, middle)?;
+        let after_start = ahead(alloc, ray, from, middle, Extent::Before)?;
         let started = both(alloc, line, after_start)?;
-        let up_to_end = ahead(alloc, way.ray, z, way.to, way.extent)?;
+        let up_to_end = ahead(alloc, ray, middle, to, stretch.extent)?;
         both(alloc, started, up_to_end)
     } else {
-        let across = difference(alloc, z.x, way.to.x, Rel::Eq, 0)?;
-        both(alloc, across, difference(alloc, z.y, way.to.y, Rel::Eq, 0)?)
+        let across = difference(alloc, middle.x, to.x, Rel::Eq, 0)?;
+        both(
+            alloc,
+            across,
+            difference(alloc, middle.y, to.y, Rel::Eq, 0)?,
+        )
     }
 }

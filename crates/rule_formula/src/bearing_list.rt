@@ -9,7 +9,7 @@ ghost use Rattle.rule_formula.specs.Fits.{IsGameMask};
 
 use crate::choices::{is_king, is_side, serves_captures};
 use crate::opt::Bearing;
-use crate::stock::{is_live, man_of};
+use crate::stock::{Force, is_live, man_of};
 use chess_game::{Position, ray_count};
 use game_rules::{Kind, Man, Side};
 use std::alloc::{AllocError, Global};
@@ -64,17 +64,17 @@ fn push_rays(
 
 fn push_man(
     bearings: &mut Bearings,
-    mask: u8,
-    side: Side,
+    force: Force,
     king: u8,
     number: u8,
     man: Man,
 ) -> Result<(), AllocError>
     requires low { 1 ≤ number }
     requires high { number ≤ 8 }
-    ensures { OnOk result (bearings.new.items ≡ bearings.old.items ++ man_bearings mask side king number (Some man)) }
+    ensures { OnOk result
+        (bearings.new.items ≡ bearings.old.items ++ man_bearings force.mask force.side king number (Some man)) }
 {
-    if !(is_live(mask, number) && is_side(man.side, side)) {
+    if !(is_live(force.mask, number) && is_side(man.side, force.side)) {
         return Ok(());
     }
     let count = ray_count(man.kind, man.side);
@@ -82,15 +82,15 @@ fn push_man(
 }
 
 /// The list itself.
-fn list(alloc: Global, stock: &Position, mask: u8, side: Side) -> Result<Bearings, AllocError>
-    ensures { IfOk result (λ all. all.items ≡ bearings_of stock.now.men mask side) }
+fn list(alloc: Global, stock: &Position, force: Force) -> Result<Bearings, AllocError>
+    ensures { IfOk result (λ all. all.items ≡ bearings_of stock.now.men force.mask force.side) }
 {
-    let king = king_number(stock, side.other());
+    let king = king_number(stock, force.side.other());
     let mut bearings = Vec::new(alloc);
     for n in 0..stock.count() {
         let number = n + 1;
         let man = man_of(stock, number);
-        push_man(&mut bearings, mask, side, king, number, man)?;
+        push_man(&mut bearings, force, king, number, man)?;
     }
     Ok(bearings)
 }
@@ -107,5 +107,5 @@ pub fn bearings(
     ensures list { IfOk result (λ all. all.items ≡ bearings_of stock.now.men mask side) }
     ensures exact { IfOk result (λ all. (b : Bearing) → Contains all.items b ↔ IsBearingOf stock.now.men mask side b) }
 {
-    list(alloc, stock, mask, side)
+    list(alloc, stock, Force { mask, side })
 }

@@ -1,18 +1,17 @@
 //! Chains of And.
 
-ghost use Rattle.std.specs.Prelude.{◌≡◌, ◌≢◌, ◌≤◌, ◌++◌, ◌∷◌, [], ℕ, IfOk, OnOk, pos, true};
-ghost use Rattle.game_rules.specs.Game.{IsDirection};
+ghost use Rattle.std.specs.Prelude.{◌≡◌, ◌≤◌, ◌++◌, ◌∷◌, [], IfOk, OnOk, true};
 ghost use Rattle.lin_formula.specs.TreeOf.{tree_of};
-ghost use Rattle.rule_formula.specs.Placed.{is_live as live_in};
-ghost use Rattle.rule_formula.specs.Seats.{IsSeat, own as own_seat};
-ghost use Rattle.rule_formula.specs.Trees.{AreApart, line_atoms, Suits, among_tree, and_all, difference as difference_tree, is_other as other_than, unless_same, ray_atoms};
-ghost use Rattle.rule_formula.specs.Ways.{clear_path, on_way};
+ghost use Rattle.rule_formula.specs.Placed.{is_live as live_in, without};
+ghost use Rattle.rule_formula.specs.Seats.{own as own_seat};
+ghost use Rattle.rule_formula.specs.Trees.{AreApart, among_tree, and_all, difference as difference_tree, is_other as other_than, line_atoms, ray_atoms, unless_same};
+ghost use Rattle.rule_formula.specs.Ways.{clear_path, on_stretch, passing_path};
 ghost use Rattle.lin_formula.specs.Tree as tree;
 
-use crate::atoms::{Extent, Way, ahead, both, difference, line, not, on};
+use crate::atoms::{Extent, ahead, both, difference, line, not, on};
+use crate::paths::{Path, Stretch};
 use crate::seats::{Seat, Seats, own};
-use crate::stock::is_live;
-use game_rules::Ray;
+use crate::stock::{LiveMen, is_live};
 use lin_formula::{Formula, SetId, among};
 use std::alloc::{AllocError, Global};
 use track_word::{Rel, Var};
@@ -26,143 +25,136 @@ fn push_seat(vars: &mut Vec<Var>, seat: Seat) -> Result<(), AllocError>
     Ok(())
 }
 
+/// Whether the man is live, and not the one who is gone.
+fn is_kept(mask: u8, gone: u8, man: u8) -> bool
+    requires low { 1 ≤ man }
+    requires high { man ≤ 8 }
+    ensures { result ≡ without (live_in mask) gone man }
+{
+    is_live(mask, man) && man != gone
+}
+
 /// The position with the men on their seats is in the set.
 pub(crate) fn among_seats(
     alloc: Global,
-    count: u8,
-    mask: u8,
+    men: LiveMen,
     gone: u8,
     seats: Seats,
     set: SetId,
 ) -> Result<Formula, AllocError>
-    requires { count ≤ 8 }
-    ensures { IfOk result (λ f. tree_of f ≡ among_tree count mask gone seats set.0) }
+    ensures { IfOk result (λ f. tree_of f ≡ among_tree men.count men.mask gone seats set.0) }
 {
     let mut vars = Vec::new(alloc);
-    for n in 0..count {
-        let k = n + 1;
-        if is_live(mask, k) && k != gone {
-            push_seat(&mut vars, seats.seat(k))?;
+    for n in 0..men.count {
+        let man = n + 1;
+        if is_kept(men.mask, gone, man) {
+            push_seat(&mut vars, seats.seat(man))?;
         }
     }
     among(alloc, set, &vars)
 }
 
 /// Also, x - y is the step, if these are two variables.
-fn and_step(alloc: Global, f: Formula, x: Var, y: Var, step: i8) -> Result<Formula, AllocError>
-    ensures { IfOk result (λ g. tree_of g ≡ and_all (tree_of f) (unless_same x y (difference_tree x y Rel.Eq step))) }
+fn and_step(alloc: Global, chain: Formula, x: Var, y: Var, step: i8) -> Result<Formula, AllocError>
+    ensures { IfOk result (λ f. tree_of f ≡ and_all (tree_of chain) (unless_same x y (difference_tree x y Rel.Eq step))) }
 {
     if x == y {
-        return Ok(f);
+        return Ok(chain);
     }
-    both(alloc, f, difference(alloc, x, y, Rel::Eq, i32::from(step))?)
+    both(
+        alloc,
+        chain,
+        difference(alloc, x, y, Rel::Eq, i32::from(step))?,
+    )
 }
 
-/// Also, b is on the line of the ray through a.
-fn and_line(alloc: Global, f: Formula, ray: Ray, a: Seat, b: Seat) -> Result<Formula, AllocError>
-    requires from { IsSeat a }
-    requires to { IsSeat b }
-    requires suits { Suits ray a b }
-    requires direction { IsDirection ray.dx ray.dy }
-    ensures { IfOk result (λ g. tree_of g ≡ and_all (tree_of f) (line_atoms ray.dx ray.dy a b)) }
+/// Also, the end is on the line of the ray through the start.
+fn and_line(alloc: Global, chain: Formula, stretch: Stretch) -> Result<Formula, AllocError>
+    ensures { IfOk result (λ f. tree_of f ≡ and_all (tree_of chain)
+        (line_atoms stretch.ray.dx stretch.ray.dy stretch.from stretch.to)) }
 {
+    let Stretch { ray, from, to, .. } = stretch;
     if ray.dx == 0 {
-        and_step(alloc, f, b.x, a.x, 0)
+        and_step(alloc, chain, to.x, from.x, 0)
     } else if ray.dy == 0 {
-        and_step(alloc, f, b.y, a.y, 0)
+        and_step(alloc, chain, to.y, from.y, 0)
     } else {
-        both(alloc, f, line(alloc, ray, a, b)?)
+        both(alloc, chain, line(alloc, ray, from, to)?)
     }
 }
 
-/// Also, b lies on the far ray from a.
+/// Also, the end lies on the far ray from the start.
 #[tactic(auto, using(crate::proofs::ChainLemmas::more))]
-fn and_far(alloc: Global, f: Formula, ray: Ray, a: Seat, b: Seat) -> Result<Formula, AllocError>
-    requires from { IsSeat a }
-    requires to { IsSeat b }
-    requires suits { Suits ray a b }
-    requires direction { IsDirection ray.dx ray.dy }
-    requires far { ray.far ≡ true }
-    ensures { IfOk result (λ g. tree_of g ≡ and_all (tree_of f) (ray_atoms ray a b)) }
+fn and_far(alloc: Global, chain: Formula, stretch: Stretch) -> Result<Formula, AllocError>
+    requires { stretch.ray.far ≡ true }
+    ensures { IfOk result (λ f. tree_of f ≡ and_all (tree_of chain) (ray_atoms stretch.ray stretch.from stretch.to)) }
 {
-    let drawn = and_line(alloc, f, ray, a, b)?;
-    both(alloc, drawn, ahead(alloc, ray, a, b, Extent::Before)?)
+    let Stretch { ray, from, to, .. } = stretch;
+    let drawn = and_line(alloc, chain, stretch)?;
+    both(alloc, drawn, ahead(alloc, ray, from, to, Extent::Before)?)
 }
 
-/// Also, b lies on the ray from a.
+/// Also, the end lies on the ray from the start.
 #[tactic(auto, using(crate::proofs::ChainLemmas::more))]
 pub(crate) fn and_ray(
     alloc: Global,
-    f: Formula,
-    ray: Ray,
-    a: Seat,
-    b: Seat,
+    chain: Formula,
+    stretch: Stretch,
 ) -> Result<Formula, AllocError>
-    requires from { IsSeat a }
-    requires to { IsSeat b }
-    requires suits { Suits ray a b }
-    requires direction { IsDirection ray.dx ray.dy }
-    ensures { IfOk result (λ g. tree_of g ≡ and_all (tree_of f) (ray_atoms ray a b)) }
+    ensures { IfOk result (λ f. tree_of f ≡ and_all (tree_of chain) (ray_atoms stretch.ray stretch.from stretch.to)) }
 {
+    let Stretch { ray, from, to, .. } = stretch;
     if ray.far {
-        return and_far(alloc, f, ray, a, b);
+        return and_far(alloc, chain, stretch);
     }
-    let across = and_step(alloc, f, b.x, a.x, ray.dx)?;
-    and_step(alloc, across, b.y, a.y, ray.dy)
+    let across = and_step(alloc, chain, to.x, from.x, ray.dx)?;
+    and_step(alloc, across, to.y, from.y, ray.dy)
 }
 
-/// A way, and the two men who may stand on it.
-#[derive(Clone, Copy)]
-pub(crate) struct Path {
-    pub(crate) way: Way,
-    pub(crate) first: u8,
-    pub(crate) second: u8,
-}
-
-/// Whether man k is live and neither of the two.
-fn is_other(mask: u8, path: Path, k: u8) -> bool
-    requires low { 1 ≤ k }
-    requires high { k ≤ 8 }
-    ensures { result ≡ other_than (live_in mask) path.first path.second k }
+/// Whether the man is live and neither of the two.
+fn is_other(mask: u8, path: Path, man: u8) -> bool
+    requires low { 1 ≤ man }
+    requires high { man ≤ 8 }
+    ensures { result ≡ other_than (live_in mask) path.first path.second man }
 {
-    is_live(mask, k) && (k != path.first && k != path.second)
+    is_live(mask, man) && (man != path.first && man != path.second)
 }
 
-/// Also, man k does not stand on the way.
-fn and_away(alloc: Global, f: Formula, way: Way, k: u8) -> Result<Formula, AllocError>
-    requires low { 1 ≤ k }
-    requires high { k ≤ 8 }
-    requires from { IsSeat way.from }
-    requires first { AreApart way.from (own_seat k) }
-    requires last { AreApart (own_seat k) way.to }
-    requires direction { IsDirection way.ray.dx way.ray.dy }
-    ensures { IfOk result (λ g. tree_of g ≡ tree.And (tree_of f) (tree.Not (on_way way (own_seat k)))) }
+/// Also, the man does not stand on the stretch.
+fn and_away(alloc: Global, chain: Formula, stretch: Stretch, man: u8) -> Result<Formula, AllocError>
+    requires low { 1 ≤ man }
+    requires high { man ≤ 8 }
+    requires first { AreApart stretch.from (own_seat man) }
+    requires last { AreApart (own_seat man) stretch.to }
+    ensures { IfOk result (λ f. tree_of f ≡ tree.And (tree_of chain) (tree.Not (on_stretch stretch (own_seat man)))) }
 {
-    let stands = on(alloc, way, own(k))?;
-    both(alloc, f, not(alloc, stands)?)
+    let stands = on(alloc, stretch, own(man))?;
+    both(alloc, chain, not(alloc, stands)?)
 }
 
-/// Also, none of the other live men stands on the way.
-pub(crate) fn and_clear(
-    alloc: Global,
-    f: Formula,
-    count: u8,
-    mask: u8,
-    path: Path,
-) -> Result<Formula, AllocError>
-    requires count { count ≤ 8 }
-    requires from { IsSeat path.way.from }
-    requires first { (k : ℕ) → 1 ≤ k → k ≤ 8 → k ≢ path.first → k ≢ path.second → AreApart path.way.from (own_seat k) }
-    requires last { (k : ℕ) → 1 ≤ k → k ≤ 8 → k ≢ path.first → k ≢ path.second → AreApart (own_seat k) path.way.to }
-    requires direction { IsDirection path.way.ray.dx path.way.ray.dy }
-    ensures { IfOk result (λ g. tree_of g ≡ clear_path (tree_of f) mask path count) }
+/// Also, none of the other live men stands on the path.
+fn and_clear(alloc: Global, chain: Formula, men: LiveMen, path: Path) -> Result<Formula, AllocError>
+    ensures { IfOk result (λ f. tree_of f ≡ clear_path (tree_of chain) men.mask path men.count) }
 {
-    let mut chain = f;
-    for n in 0..count {
-        let k = n + 1;
-        if is_other(mask, path, k) {
-            chain = and_away(alloc, chain, path.way, k)?;
+    let mut all = chain;
+    for n in 0..men.count {
+        let man = n + 1;
+        if is_other(men.mask, path, man) {
+            all = and_away(alloc, all, path.stretch, man)?;
         }
     }
-    Ok(chain)
+    Ok(all)
+}
+
+/// Also, the end lies on the ray from the start, and none of the other live men stands on the path.
+pub(crate) fn and_path(
+    alloc: Global,
+    chain: Formula,
+    men: LiveMen,
+    path: Path,
+) -> Result<Formula, AllocError>
+    ensures { IfOk result (λ f. tree_of f ≡ passing_path (tree_of chain) men.mask path men.count) }
+{
+    let along = and_ray(alloc, chain, path.stretch)?;
+    and_clear(alloc, along, men, path)
 }

@@ -7,7 +7,7 @@ ghost use Rattle.rule_formula.specs.Meaning.{IsOptionOfSide};
 ghost use Rattle.rule_formula.specs.Options.{captures_of, his_options, is_king as king_of, is_prey as prey_of, is_side as side_of, options_of, ray_options, rays_to};
 
 use crate::opt::Opt;
-use crate::stock::{is_live, man_of};
+use crate::stock::{Force, is_live, man_of};
 use chess_game::{Position, ray_count};
 use game_rules::{Kind, Man, Side};
 use std::alloc::{AllocError, Global};
@@ -15,19 +15,16 @@ use std::alloc::{AllocError, Global};
 /// The ways in which men may go. Most lists are short.
 type Opts = Vec<Opt>;
 
-pub(crate) fn is_side(a: Side, b: Side) -> bool
-    ensures { result ≡ side_of a b }
+pub(crate) fn is_side(his: Side, side: Side) -> bool
+    ensures { result ≡ side_of his side }
 {
-    matches!(
-        (a, b),
-        (Side::White, Side::White) | (Side::Black, Side::Black)
-    )
+    his == side
 }
 
 pub(crate) fn is_king(kind: Kind) -> bool
     ensures { result ≡ king_of kind }
 {
-    matches!(kind, Kind::King)
+    kind == Kind::King
 }
 
 /// Whether the ray serves moves onto an empty square.
@@ -50,52 +47,59 @@ pub(crate) fn serves_captures(kind: Kind, number: u8) -> bool
     }
 }
 
-/// Whether man k is a live enemy other than the king.
-fn is_prey(stock: &Position, mask: u8, side: Side, k: u8) -> bool
-    requires low { 1 ≤ k }
-    requires high { k ≤ length stock.now.men }
-    requires few { k ≤ 8 }
-    ensures { result ≡ prey_of stock.now.men mask side k }
+/// Whether the man of this number is a live enemy other than the king.
+fn is_prey(stock: &Position, force: Force, number: u8) -> bool
+    requires low { 1 ≤ number }
+    requires high { number ≤ length stock.now.men }
+    requires few { number ≤ 8 }
+    ensures { result ≡ prey_of stock.now.men force.mask force.side number }
 {
-    let man = man_of(stock, k);
-    is_live(mask, k) && !is_side(man.side, side) && !is_king(man.kind)
+    let man = man_of(stock, number);
+    is_live(force.mask, number) && !is_side(man.side, force.side) && !is_king(man.kind)
 }
 
 fn push_captures(
     options: &mut Opts,
     stock: &Position,
-    mask: u8,
-    side: Side,
+    force: Force,
     man: u8,
     ray: u8,
 ) -> Result<(), AllocError>
-    ensures { OnOk result (options.new.items ≡ options.old.items ++ captures_of stock.now.men mask side man ray) }
+    ensures { OnOk result
+        (options.new.items ≡ options.old.items ++ captures_of stock.now.men force.mask force.side man ray) }
 {
     for n in 0..stock.count() {
         let taken = n + 1;
-        if is_prey(stock, mask, side, taken) {
+        if is_prey(stock, force, taken) {
             options.push(Opt { man, ray, taken })?;
         }
     }
     Ok(())
 }
 
+/// A man who may go, by his number and his kind.
+#[derive(Clone, Copy)]
+struct Mover {
+    man: u8,
+    kind: Kind,
+}
+
 fn push_ray(
     options: &mut Opts,
     stock: &Position,
-    mask: u8,
-    side: Side,
-    kind: Kind,
-    man: u8,
+    force: Force,
+    mover: Mover,
     ray: u8,
 ) -> Result<(), AllocError>
-    ensures { OnOk result (options.new.items ≡ options.old.items ++ ray_options stock.now.men mask side kind man ray) }
+    ensures { OnOk result (options.new.items
+        ≡ options.old.items ++ ray_options stock.now.men force.mask force.side mover.kind mover.man ray) }
 {
+    let Mover { man, kind } = mover;
     if serves_moves(kind, ray) {
         options.push(Opt { man, ray, taken: 0 })?;
     }
     if serves_captures(kind, ray) {
-        push_captures(options, stock, mask, side, man, ray)?;
+        push_captures(options, stock, force, man, ray)?;
     }
     Ok(())
 }
@@ -103,16 +107,15 @@ fn push_ray(
 fn push_rays(
     options: &mut Opts,
     stock: &Position,
-    mask: u8,
-    side: Side,
-    kind: Kind,
-    man: u8,
+    force: Force,
+    mover: Mover,
     count: u8,
 ) -> Result<(), AllocError>
-    ensures { OnOk result (options.new.items ≡ options.old.items ++ rays_to stock.now.men mask side kind man count) }
+    ensures { OnOk result (options.new.items
+        ≡ options.old.items ++ rays_to stock.now.men force.mask force.side mover.kind mover.man count) }
 {
-    for number in 0..count {
-        push_ray(options, stock, mask, side, kind, man, number)?;
+    for ray in 0..count {
+        push_ray(options, stock, force, mover, ray)?;
     }
     Ok(())
 }
@@ -120,32 +123,35 @@ fn push_rays(
 fn push_man(
     options: &mut Opts,
     stock: &Position,
-    mask: u8,
-    side: Side,
+    force: Force,
     number: u8,
     man: Man,
 ) -> Result<(), AllocError>
     requires low { 1 ≤ number }
     requires high { number ≤ 8 }
-    ensures { OnOk result (options.new.items ≡ options.old.items ++ his_options stock.now.men mask side number man) }
+    ensures { OnOk result
+        (options.new.items ≡ options.old.items ++ his_options stock.now.men force.mask force.side number man) }
 {
-    if !(is_live(mask, number) && is_side(man.side, side)) {
+    if !(is_live(force.mask, number) && is_side(man.side, force.side)) {
         return Ok(());
     }
-    let count = ray_count(man.kind, man.side);
-    push_rays(options, stock, mask, side, man.kind, number, count)
+    let mover = Mover {
+        man: number,
+        kind: man.kind,
+    };
+    push_rays(options, stock, force, mover, ray_count(man.kind, man.side))
 }
 
 /// The list itself.
-fn list(alloc: Global, stock: &Position, mask: u8, side: Side) -> Result<Opts, AllocError>
-    ensures list { IfOk result (λ all. all.items ≡ options_of stock.now.men mask side) }
+fn list(alloc: Global, stock: &Position, force: Force) -> Result<Opts, AllocError>
+    ensures list { IfOk result (λ all. all.items ≡ options_of stock.now.men force.mask force.side) }
     ensures few { length stock.now.men ≤ 8 }
 {
     let mut options = Vec::new(alloc);
     for n in 0..stock.count() {
         let number = n + 1;
         let man = man_of(stock, number);
-        push_man(&mut options, stock, mask, side, number, man)?;
+        push_man(&mut options, stock, force, number, man)?;
     }
     Ok(options)
 }
@@ -161,5 +167,5 @@ pub fn options(
     ensures exact { IfOk result (λ all. (o : Opt) → Contains all.items o ↔ IsOptionOfSide stock.now.men mask side o) }
     ensures few { IfOk result (λ all. length all.items ≤ 1000) }
 {
-    list(alloc, stock, mask, side)
+    list(alloc, stock, Force { mask, side })
 }

@@ -1,35 +1,51 @@
 //! The formulas of the rules.
 
-ghost use Rattle.std.specs.Prelude.{◌≡◌, ◌≢◌, ◌≤◌, ◌<◌, IfOk, IfSome, Some, length, pos};
+ghost use Rattle.std.specs.Prelude.{◌≡◌, ◌≤◌, ◌<◌, IfOk, IfSome, Some, length};
 ghost use Rattle.game_rules.specs.declared.men.Man.{Man};
-ghost use Rattle.game_rules.specs.Game.{IsDirection};
 ghost use Rattle.game_rules.specs.Rays.{ray_of};
 ghost use Rattle.lin_formula.specs.TreeOf.{tree_of};
+ghost use Rattle.rule_formula.specs.Paths.{HasJourney, IsRayStep};
 ghost use Rattle.rule_formula.specs.Placed.{IsLiveIn, is_live as live_in};
 ghost use Rattle.mask_sets.specs.Stock.{stock_man};
-ghost use Rattle.rule_formula.specs.Trees.{bear_of, image_of, pre_of, safe_of, tracks_of, twins_tree};
+ghost use Rattle.rule_formula.specs.Trees.{bear_of, image_of, pre_of, ray_at, safe_of, tracks_of, twins_tree};
 ghost use Rattle.rule_formula.specs.Meaning.{IsBear, IsBearer, IsImage, IsOptionOf, IsPre, IsSafe, IsTwins};
 ghost use Rattle.rule_formula.specs.Seats.{own as own_seat, vars_to};
 ghost use Rattle.rule_formula.specs.Size.{IsModest, NamesBeforeAndAfter, NamesOnly};
 
 use crate::build::{bear, image, pre, safe, twins};
-use crate::opt::Opt;
-use crate::stock::man_of;
+use crate::opt::{Bearing, Opt, Pair, StepSets};
+use crate::paths::Journey;
+use crate::stock::{LiveMen, live_men, man_of};
 use chess_game::{Position, ray};
 use game_rules::Ray;
 use lin_formula::{Formula, SetId};
 use std::alloc::{AllocError, Global};
 
-/// The ray of this number of man k.
+/// The man's ray of this number.
 #[tactic(auto, using(crate::proofs::KindLemmas::moving))]
-fn ray_of_man(stock: &Position, k: u8, number: u8) -> Option<Ray>
-    requires low { 1 ≤ k }
-    requires high { k ≤ length stock.now.men }
-    ensures ray { (m : Man) → stock_man stock.now.men k ≡ Some m → result ≡ ray_of m.kind m.side number }
-    ensures direction { IfSome result (λ r. IsDirection r.dx r.dy) }
+fn ray_of_man(stock: &Position, man: u8, number: u8) -> Option<Ray>
+    requires low { 1 ≤ man }
+    requires high { man ≤ length stock.now.men }
+    ensures ray { (m : Man) → stock_man stock.now.men man ≡ Some m → result ≡ ray_of m.kind m.side number }
+    ensures step { IfSome result (λ r. IsRayStep r.dx r.dy) }
 {
-    let man = man_of(stock, k);
+    let man = man_of(stock, man);
     ray(man.kind, man.side, number)
+}
+
+/// The man's way along his ray of this number, by which he takes the other, or with 0 nobody.
+fn journey(stock: &Position, man: u8, number: u8, taken: u8) -> Journey
+    requires { HasJourney stock.now.men man number taken }
+    ensures man { result.man ≡ man }
+    ensures ray { result.ray ≡ ray_at stock.now.men man number }
+    ensures taken { result.taken ≡ taken }
+    ensures few { length stock.now.men ≤ 8 }
+{
+    let _few = stock.count();
+    match ray_of_man(stock, man, number) {
+        Some(ray) => Journey { man, ray, taken },
+        None => unreachable!(),
+    }
 }
 
 /// The image, as a tree.
@@ -44,11 +60,8 @@ fn image_at(
     ensures tree { IfOk result (λ f. tree_of f ≡ image_of stock.now.men mask opt source.0) }
     ensures few { length stock.now.men ≤ 8 }
 {
-    let count = stock.count();
-    match ray_of_man(stock, opt.man, opt.ray) {
-        Some(ray) => image(alloc, count, mask, opt.man, ray, opt.taken, source),
-        None => unreachable!(),
-    }
+    let journey = journey(stock, opt.man, opt.ray, opt.taken);
+    image(alloc, live_men(stock, mask), journey, source)
 }
 
 /// The positions to which a step by the option leads from those of the source, whose live men are those of the mask.
@@ -74,37 +87,32 @@ fn pre_at(
     stock: &Position,
     mask: u8,
     opt: Opt,
-    source: SetId,
-    target: SetId,
+    sets: StepSets,
 ) -> Result<Formula, AllocError>
     requires { IsOptionOf stock.now.men mask opt }
-    ensures tree { IfOk result (λ f. tree_of f ≡ pre_of stock.now.men mask opt source.0 target.0) }
+    ensures tree { IfOk result (λ f. tree_of f ≡ pre_of stock.now.men mask opt sets.before.0 sets.after.0) }
     ensures few { length stock.now.men ≤ 8 }
 {
-    let count = stock.count();
-    match ray_of_man(stock, opt.man, opt.ray) {
-        Some(ray) => pre(alloc, count, mask, opt.man, ray, opt.taken, source, target),
-        None => unreachable!(),
-    }
+    let journey = journey(stock, opt.man, opt.ray, opt.taken);
+    pre(alloc, live_men(stock, mask), journey, sets)
 }
 
-/// The positions of the source from which a step by the option leads into the target. The live men of the source are those of the
-/// mask, and those of the target are the same without the man that is taken.
+/// The positions of the set before the step from which a step by the option leads into the set after it. The live men of the one set
+/// are those of the mask, and those of the other are the same without the man that is taken.
 pub fn pre_formula(
     alloc: Global,
     stock: &Position,
     mask: u8,
     opt: Opt,
-    source: SetId,
-    target: SetId,
+    sets: StepSets,
 ) -> Result<Formula, AllocError>
     requires { IsOptionOf stock.now.men mask opt }
-    ensures tree { IfOk result (λ f. tree_of f ≡ pre_of stock.now.men mask opt source.0 target.0) }
-    ensures means { IfOk result (λ f. IsPre stock.now.men mask opt source.0 target.0 (tree_of f)) }
+    ensures tree { IfOk result (λ f. tree_of f ≡ pre_of stock.now.men mask opt sets.before.0 sets.after.0) }
+    ensures means { IfOk result (λ f. IsPre stock.now.men mask opt sets.before.0 sets.after.0 (tree_of f)) }
     ensures modest { IfOk result (λ f. IsModest (tree_of f)) }
-    ensures names { IfOk result (λ f. NamesBeforeAndAfter stock.now.men mask opt source.0 target.0 (tree_of f)) }
+    ensures names { IfOk result (λ f. NamesBeforeAndAfter stock.now.men mask opt sets.before.0 sets.after.0 (tree_of f)) }
 {
-    pre_at(alloc, stock, mask, opt, source, target)
+    pre_at(alloc, stock, mask, opt, sets)
 }
 
 /// The positions in which the man bears on the king, as a tree.
@@ -112,39 +120,35 @@ fn bear_at(
     alloc: Global,
     stock: &Position,
     mask: u8,
-    man: u8,
-    ray: u8,
-    king: u8,
+    bearing: Bearing,
     source: SetId,
 ) -> Result<Formula, AllocError>
-    requires { IsBearer stock.now.men mask man ray king }
-    ensures tree { IfOk result (λ f. tree_of f ≡ bear_of stock.now.men mask man ray king source.0) }
+    requires { IsBearer stock.now.men mask bearing.man bearing.ray bearing.king }
+    ensures tree { IfOk result (λ f. tree_of f
+        ≡ bear_of stock.now.men mask bearing.man bearing.ray bearing.king source.0) }
     ensures few { length stock.now.men ≤ 8 }
 {
-    let count = stock.count();
-    match ray_of_man(stock, man, ray) {
-        Some(ray) => bear(alloc, count, mask, man, ray, king, source),
-        None => unreachable!(),
-    }
+    let journey = journey(stock, bearing.man, bearing.ray, bearing.king);
+    bear(alloc, live_men(stock, mask), journey, source)
 }
 
-/// The positions of the source in which the man bears along the ray of this number on the king.
+/// The positions of the source in which the man bears on the king.
 pub fn bear_formula(
     alloc: Global,
     stock: &Position,
     mask: u8,
-    man: u8,
-    ray: u8,
-    king: u8,
+    bearing: Bearing,
     source: SetId,
 ) -> Result<Formula, AllocError>
-    requires { IsBearer stock.now.men mask man ray king }
-    ensures tree { IfOk result (λ f. tree_of f ≡ bear_of stock.now.men mask man ray king source.0) }
-    ensures means { IfOk result (λ f. IsBear stock.now.men mask man ray king source.0 (tree_of f)) }
+    requires { IsBearer stock.now.men mask bearing.man bearing.ray bearing.king }
+    ensures tree { IfOk result (λ f. tree_of f
+        ≡ bear_of stock.now.men mask bearing.man bearing.ray bearing.king source.0) }
+    ensures means { IfOk result (λ f.
+        IsBear stock.now.men mask bearing.man bearing.ray bearing.king source.0 (tree_of f)) }
     ensures modest { IfOk result (λ f. IsModest (tree_of f)) }
     ensures names { IfOk result (λ f. NamesOnly source.0 (tracks_of stock.now.men (live_in mask)) (tree_of f)) }
 {
-    bear_at(alloc, stock, mask, man, ray, king, source)
+    bear_at(alloc, stock, mask, bearing, source)
 }
 
 /// The positions in which the man does not bear on the king, as a tree.
@@ -152,56 +156,57 @@ fn safe_at(
     alloc: Global,
     stock: &Position,
     mask: u8,
-    man: u8,
-    ray: u8,
-    king: u8,
+    bearing: Bearing,
     source: SetId,
 ) -> Result<Formula, AllocError>
-    requires { IsBearer stock.now.men mask man ray king }
-    ensures tree { IfOk result (λ f. tree_of f ≡ safe_of stock.now.men mask man ray king source.0) }
+    requires { IsBearer stock.now.men mask bearing.man bearing.ray bearing.king }
+    ensures tree { IfOk result (λ f. tree_of f
+        ≡ safe_of stock.now.men mask bearing.man bearing.ray bearing.king source.0) }
     ensures few { length stock.now.men ≤ 8 }
 {
-    let count = stock.count();
-    match ray_of_man(stock, man, ray) {
-        Some(ray) => safe(alloc, count, mask, man, ray, king, source),
-        None => unreachable!(),
-    }
+    let journey = journey(stock, bearing.man, bearing.ray, bearing.king);
+    safe(alloc, live_men(stock, mask), journey, source)
 }
 
-/// The positions of the source in which the man does not bear along the ray of this number on the king.
+/// The positions of the source in which the man does not bear on the king.
 pub fn safe_formula(
     alloc: Global,
     stock: &Position,
     mask: u8,
-    man: u8,
-    ray: u8,
-    king: u8,
+    bearing: Bearing,
     source: SetId,
 ) -> Result<Formula, AllocError>
-    requires { IsBearer stock.now.men mask man ray king }
-    ensures tree { IfOk result (λ f. tree_of f ≡ safe_of stock.now.men mask man ray king source.0) }
-    ensures means { IfOk result (λ f. IsSafe stock.now.men mask man ray king source.0 (tree_of f)) }
+    requires { IsBearer stock.now.men mask bearing.man bearing.ray bearing.king }
+    ensures tree { IfOk result (λ f. tree_of f
+        ≡ safe_of stock.now.men mask bearing.man bearing.ray bearing.king source.0) }
+    ensures means { IfOk result (λ f.
+        IsSafe stock.now.men mask bearing.man bearing.ray bearing.king source.0 (tree_of f)) }
     ensures modest { IfOk result (λ f. IsModest (tree_of f)) }
     ensures names { IfOk result (λ f. NamesOnly source.0 (tracks_of stock.now.men (live_in mask)) (tree_of f)) }
 {
-    safe_at(alloc, stock, mask, man, ray, king, source)
+    safe_at(alloc, stock, mask, bearing, source)
 }
 
-/// The positions of the source in which men a and b stand on one square.
+/// The positions of the source in which the two men stand on one square.
 pub fn twins_formula(
     alloc: Global,
-    a: u8,
-    b: u8,
+    first: u8,
+    second: u8,
     mask: u8,
     source: SetId,
 ) -> Result<Formula, AllocError>
-    requires order { a < b }
-    requires first { IsLiveIn mask a }
-    requires second { IsLiveIn mask b }
-    ensures tree { IfOk result (λ f. tree_of f ≡ twins_tree 8 mask a b source.0) }
-    ensures means { IfOk result (λ f. IsTwins mask a b source.0 (tree_of f)) }
+    requires order { first < second }
+    requires first { IsLiveIn mask first }
+    requires second { IsLiveIn mask second }
+    ensures tree { IfOk result (λ f. tree_of f ≡ twins_tree 8 mask first second source.0) }
+    ensures means { IfOk result (λ f. IsTwins mask first second source.0 (tree_of f)) }
     ensures modest { IfOk result (λ f. IsModest (tree_of f)) }
     ensures names { IfOk result (λ f. NamesOnly source.0 (vars_to own_seat (live_in mask) 8) (tree_of f)) }
 {
-    twins(alloc, 8, mask, a, b, source)
+    twins(
+        alloc,
+        LiveMen { count: 8, mask },
+        Pair { first, second },
+        source,
+    )
 }

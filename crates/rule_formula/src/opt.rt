@@ -1,8 +1,10 @@
-//! The ways in which men may go, and bear, and two men together.
+//! The ways in which men may go, and bear, two men together, and the sets of a step.
 
 ghost use Rattle.std.specs.Prelude.{◌≡◌, ◌<◌};
 ghost use Rattle.rule_formula.specs.Fits.{mask_without, target_of};
 ghost use Rattle.rule_formula.specs.Placed.{IsLiveIn};
+
+use lin_formula::SetId;
 
 /// The mask without the man of this number.
 #[tactic(auto, using(crate::proofs::MaskLemmas::bits))]
@@ -56,4 +58,11 @@ pub struct Pair {
     pub first: u8,
     /// The number of the other, who comes later.
     pub second: u8,
+}
+
+/// Two sets of positions: those before a step, and those after it.
+#[derive(Clone, Copy, PartialEq, Eq)]
+pub struct StepSets {
+    pub before: SetId,
+    pub after: SetId,
 }

@@ -4,6 +4,7 @@ ghost use Rattle.std.specs.Prelude.{◌≡◌, ◌≤◌, ◌≢◌, ℕ};
 ghost use Rattle.rule_formula.specs.Trees.{AreApart, Suits};
 ghost use Rattle.rule_formula.specs.Seats.{IsSeat, new_seat as new_place, own as own_seat, seat_of, spare as spare_seat, swept as swept_var};
 
+use crate::paths::Journey;
 use game_rules::Ray;
 use track_word::Var;
 
@@ -20,18 +21,18 @@ pub(crate) const ELSEWHERE: Seat = Seat {
     y: Var(17),
 };
 
-/// The variables of man k.
-pub(crate) fn own(k: u8) -> Seat
-    requires low { 1 ≤ k }
-    requires high { k ≤ 8 }
-    ensures own { result ≡ own_seat k }
+/// The variables of the man of this number.
+pub(crate) fn own(man: u8) -> Seat
+    requires low { 1 ≤ man }
+    requires high { man ≤ 8 }
+    ensures own { result ≡ own_seat man }
     ensures seat { IsSeat result }
-    ensures apart { (j : ℕ) → 1 ≤ j → j ≢ k → AreApart result (own_seat j) }
-    ensures away { (j : ℕ) → 1 ≤ j → j ≢ k → AreApart (own_seat j) result }
+    ensures apart { (k : ℕ) → 1 ≤ k → k ≢ man → AreApart result (own_seat k) }
+    ensures away { (k : ℕ) → 1 ≤ k → k ≢ man → AreApart (own_seat k) result }
 {
     Seat {
-        x: Var(2 * k - 2),
-        y: Var(2 * k - 1),
+        x: Var(2 * man - 2),
+        y: Var(2 * man - 1),
     }
 }
 
@@ -42,36 +43,36 @@ fn swept(step: i8, kept: Var, spare: Var) -> Var
     if step == 0 { kept } else { spare }
 }
 
-/// Where man i comes from, or goes to: he keeps the variable that the ray leaves alone.
-pub(crate) fn spare(ray: Ray, i: u8) -> Seat
-    requires low { 1 ≤ i }
-    requires high { i ≤ 8 }
-    ensures spare { result ≡ spare_seat ray i }
+/// Where the man comes from, or goes to: he keeps the variable that the ray leaves alone.
+pub(crate) fn spare(ray: Ray, man: u8) -> Seat
+    requires low { 1 ≤ man }
+    requires high { man ≤ 8 }
+    ensures spare { result ≡ spare_seat ray man }
     ensures seat { IsSeat result }
-    ensures from { Suits ray result (own_seat i) }
-    ensures to { Suits ray (own_seat i) result }
-    ensures apart { (k : ℕ) → 1 ≤ k → k ≤ 8 → k ≢ i → AreApart result (own_seat k) }
-    ensures away { (k : ℕ) → 1 ≤ k → k ≤ 8 → k ≢ i → AreApart (own_seat k) result }
+    ensures from { Suits ray result (own_seat man) }
+    ensures to { Suits ray (own_seat man) result }
+    ensures apart { (k : ℕ) → 1 ≤ k → k ≤ 8 → k ≢ man → AreApart result (own_seat k) }
+    ensures away { (k : ℕ) → 1 ≤ k → k ≤ 8 → k ≢ man → AreApart (own_seat k) result }
 {
-    let own = own(i);
+    let own = own(man);
     Seat {
         x: swept(ray.dx, own.x, ELSEWHERE.x),
         y: swept(ray.dy, own.y, ELSEWHERE.y),
     }
 }
 
-/// Where man i goes: onto the square of man t, or with no t along the ray.
-pub(crate) fn new_seat(ray: Ray, i: u8, t: u8) -> Seat
-    requires low { 1 ≤ i }
-    requires high { i ≤ 8 }
-    requires taken { t ≤ 8 }
-    requires apart { i ≢ t }
-    ensures seat { result ≡ new_place ray i t }
+/// Where the man goes: onto the square of him who is taken, or with nobody taken along the ray.
+pub(crate) fn new_seat(journey: Journey) -> Seat
+    ensures seat { result ≡ new_place journey.ray journey.man journey.taken }
     ensures kind { IsSeat result }
-    ensures to { Suits ray (own_seat i) result }
-    ensures away { (k : ℕ) → 1 ≤ k → k ≤ 8 → k ≢ i → k ≢ t → AreApart (own_seat k) result }
+    ensures to { Suits journey.ray (own_seat journey.man) result }
+    ensures away { (k : ℕ) → 1 ≤ k → k ≤ 8 → k ≢ journey.man → k ≢ journey.taken → AreApart (own_seat k) result }
 {
-    if t == 0 { spare(ray, i) } else { own(t) }
+    if journey.taken == 0 {
+        spare(journey.ray, journey.man)
+    } else {
+        own(journey.taken)
+    }
 }
 
 /// Where the men's squares stand: two of them elsewhere, and the others in their own variables.
@@ -84,17 +85,17 @@ pub(crate) struct Seats {
 }
 
 impl Seats {
-    pub(crate) fn seat(&self, k: u8) -> Seat
-        requires low { 1 ≤ k }
-        requires high { k ≤ 8 }
-        ensures { result ≡ seat_of self.now k }
+    pub(crate) fn seat(&self, man: u8) -> Seat
+        requires low { 1 ≤ man }
+        requires high { man ≤ 8 }
+        ensures { result ≡ seat_of self.now man }
     {
-        if k == self.first {
+        if man == self.first {
             self.first_seat
-        } else if k == self.second {
+        } else if man == self.second {
             self.second_seat
         } else {
-            own(k)
+            own(man)
         }
     }
 }

@@ -1,11 +1,11 @@
-//! The men of a position, by number.
+//! The men of a position, by number, and those of a mask.
 
 ghost use Rattle.std.specs.Prelude.{◌≡◌, ◌≤◌, Some, length};
 ghost use Rattle.rule_formula.specs.Placed.{is_live as live_in};
 ghost use Rattle.mask_sets.specs.Stock.{stock_man};
 
 use chess_game::Position;
-use game_rules::Man;
+use game_rules::{Man, Side};
 
 /// The man of this number, counted from 1.
 #[tactic(auto, using(crate::proofs::PlacedLemmas::numbers))]
@@ -17,11 +17,37 @@ pub(crate) fn man_of(stock: &Position, number: u8) -> Man
     stock.man(number)
 }
 
-/// Whether man k is in the mask.
-pub(crate) fn is_live(mask: u8, k: u8) -> bool
-    requires low { 1 ≤ k }
-    requires high { k ≤ 8 }
-    ensures { result ≡ live_in mask k }
+/// Whether the man of this number is in the mask.
+pub(crate) fn is_live(mask: u8, number: u8) -> bool
+    requires low { 1 ≤ number }
+    requires high { number ≤ 8 }
+    ensures { result ≡ live_in mask number }
 {
-    mask >> (k - 1) & 1 == 1
+    mask >> (number - 1) & 1 == 1
+}
+
+/// The men of a mask, out of so many.
+#[derive(Clone, Copy)]
+pub(crate) struct LiveMen {
+    pub(crate) count: u8,
+    pub(crate) mask: u8,
+    ghost few: { count ≤ 8 },
+}
+
+/// The men of the mask, out of those of the position.
+pub(crate) fn live_men(stock: &Position, mask: u8) -> LiveMen
+    ensures count { result.count ≡ length stock.now.men }
+    ensures mask { result.mask ≡ mask }
+{
+    LiveMen {
+        count: stock.count(),
+        mask,
+    }
+}
+
+/// The men of a side in a mask.
+#[derive(Clone, Copy)]
+pub(crate) struct Force {
+    pub(crate) mask: u8,
+    pub(crate) side: Side,
 }

@@ -7,5 +7,5 @@ line-requires-clause-drawn c = apart_drawn _ _ c.requires.first
 pub ahead-requires : goal.ahead-requires
 ahead-requires c = apart_counted _ _ c.requires.first
 
-pub ahead-requires-then-way : goal.ahead-requires-then-way
-ahead-requires-then-way c = apart_counted _ _ c.requires.last
+pub ahead-requires-then-ray : goal.ahead-requires-then-ray
+ahead-requires-then-ray c = apart_counted _ _ c.requires.last

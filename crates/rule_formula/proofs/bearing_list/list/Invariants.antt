@@ -3,4 +3,4 @@ use Rattle.rule_formula.specs.Bearings.{bearings_to}
 use Rattle.rule_formula.proofs.bearing_list.list.Given as goal
 
 abbrev pub invariant-loop-n : goal.invariant-loop-n
-invariant-loop-n l = l.bearings.items ≡ bearings_to l.stock.men l.mask l.side l.king l.n
+invariant-loop-n l = l.bearings.items ≡ bearings_to l.stock.men l.force.mask l.force.side l.king l.n

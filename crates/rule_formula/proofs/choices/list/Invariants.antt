@@ -3,4 +3,4 @@ use Rattle.rule_formula.specs.Options.{options_to}
 use Rattle.rule_formula.proofs.choices.list.Given as goal
 
 abbrev pub invariant-loop-n : goal.invariant-loop-n
-invariant-loop-n l = l.options.items ≡ options_to l.stock.men l.mask l.side l.n
+invariant-loop-n l = l.options.items ≡ options_to l.stock.men l.force.mask l.force.side l.n

@@ -1,13 +1,15 @@
 use Rattle.std.proofs.lemmas.Result.{IfOk-weaker}
 use Rattle.rule_formula.specs.Trees.{safe_tree}
-use Rattle.rule_formula.proofs.MeaningLemmas.{found_ray, tree_at}
+use Rattle.rule_formula.proofs.PathLemmas.{bearer_journey, tree_at}
 use Rattle.rule_formula.proofs.formulas.safe_at.Goals as goal
+
+pub journey-journey-requires : goal.journey-journey-requires
+journey-journey-requires c = bearer_journey c.requires
 
 pub returns-clause-tree : goal.returns-clause-tree
 returns-clause-tree c =
     let a = c.args in
-    let w = c.requires in
-    let same = found_ray a.stock.now.men a.man a.ray w.man c.in-Some.ray w.ray w.is.is_man w.is.ray (c.in-Some.ensures.ray w.man w.is.is_man) in
+    let j = c.journey-journey.ensures in
     IfOk-weaker c.safe.result _ _
-    (λ f h. tree_at (λ n r. safe_tree n a.mask a.man r a.king a.source.0) _ _ _ _ _ h c.count-count.ensures.count same)
+    (λ f h. tree_at (λ n m i r t. safe_tree n m i r t a.source.0) _ _ _ _ _ _ _ _ _ _ _ h c.live_men.ensures.count c.live_men.ensures.mask j.man j.ray j.taken)
     c.safe.ensures

@@ -1,0 +1,35 @@
+//! How men go along rays, and over what squares.
+
+ghost use Rattle.rule_formula.specs.Paths.{IsJourney, IsPassedBy, IsStretch};
+
+use crate::atoms::Extent;
+use crate::seats::Seat;
+use game_rules::Ray;
+
+/// A man's way along a ray, and whom he takes at its end: with 0 nobody.
+#[derive(Clone, Copy)]
+pub(crate) struct Journey {
+    pub(crate) man: u8,
+    pub(crate) ray: Ray,
+    pub(crate) taken: u8,
+    ghost is: { IsJourney man ray taken },
+}
+
+/// The squares of a ray from one seat, itself excluded, to another.
+#[derive(Clone, Copy)]
+pub(crate) struct Stretch {
+    pub(crate) ray: Ray,
+    pub(crate) from: Seat,
+    pub(crate) to: Seat,
+    pub(crate) extent: Extent,
+    ghost is: { IsStretch ray from to },
+}
+
+/// A stretch, and the two men who may stand on it.
+#[derive(Clone, Copy)]
+pub(crate) struct Path {
+    pub(crate) stretch: Stretch,
+    pub(crate) first: u8,
+    pub(crate) second: u8,
+    ghost passed: { IsPassedBy stretch.from stretch.to first second },
+}
