@@ -1,11 +1,3 @@
-pub mod Tuples
-pub mod Ways
-pub mod Bridges
-pub mod Hits
-pub mod Slopes
-pub mod Meets
-pub mod Firsts
-pub mod Counted
-pub mod Picks
-pub mod Once
-pub mod HisRays
+pub mod Held
+pub mod Games
+pub mod FirstLemmas

@@ -1,4 +1,2 @@
-pub mod Choice
-pub mod Along
-pub mod Aims
-pub mod Squares
+pub mod Game
+pub mod Firsts

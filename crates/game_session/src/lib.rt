@@ -1,19 +1,10 @@
-//! What a game needs, whoever plays: moves in the order of the rays, the first of them that leads into a set of positions, and how many do along one
-//! ray. `specs/Choice` says which move is the first, `specs/Along` how far moves along a ray go, `specs/Aims` what is asked of the sets.
+//! A game that the winner plays: his moves lead into the sets of a solved position, those of a plan or those of a claim that is won, and the other
+//! side's are typed. `specs/Game` says what a session keeps, which move is the winner's, and what comes of any list of replies.
 #![tactic(auto)]
 
-mod aim;
-mod choice;
+mod first_line;
 pub mod laws;
-mod men_frame;
-mod movers;
-mod pick;
-mod ray_moves;
-mod ray_pick;
-mod ray_way;
+mod session;
 
-pub use aim::{Aim, ManRay};
-pub use choice::Choice;
-pub use movers::{has_ray, his_ray};
-pub use pick::first_move;
-pub use ray_moves::{RayMoves, count_along, moves_along};
+pub use first_line::{FirstLine, first_moves};
+pub use session::{Played, Session, TooWide};

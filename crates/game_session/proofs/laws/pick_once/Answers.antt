@@ -1,6 +1,0 @@
-use Rattle.mask_sets.specs.Sets.{IsIn}
-use Rattle.game_session.proofs.Once as once
-use Rattle.game_session.proofs.laws.pick_once.Goals as goal
-
-pub returns : goal.returns
-returns c = λ sets f p. once.pick_once (IsIn sets) f p

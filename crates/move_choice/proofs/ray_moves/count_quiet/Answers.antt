@@ -1,0 +1,11 @@
+use Rattle.std.proofs.Common.{◌≡◌, sym, ap, ◌∙◌}
+use Rattle.std.proofs.lemmas.Option.{same_Some}
+use Rattle.game_rules.specs.Rays.{serves_moves}
+use Rattle.move_choice.proofs.Counted.{none_unserved}
+use Rattle.move_choice.proofs.ray_moves.count_quiet.Goals as goal
+
+pub returns-then-not-serves_moves-clause-few : goal.returns-then-not-serves_moves-clause-few
+returns-then-not-serves_moves-clause-few c =
+    let m = c.args.along.now.mover in
+    let same : m.man ≡ c.man-kind.result = same_Some m.man c.man-kind.result (sym m.is_man ∙ c.man-kind.ensures) in
+    none_unserved c.args.along.now.aim.now.sets.now m (ap (λ k. serves_moves k.kind c.args.along.now.his.number) same ∙ (sym c.serves_moves.ensures ∙ c.if-not-serves_moves.true))
