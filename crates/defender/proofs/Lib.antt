@@ -1,0 +1,9 @@
+pub mod FirstSteps
+mod Zips
+mod Rooms
+mod UnwonParts
+mod SetsInto
+pub mod UnwonTables
+mod AnyMoves
+pub mod Defending
+pub mod Fitting
