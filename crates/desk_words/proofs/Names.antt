@@ -1,15 +1,16 @@
 -- Where an order has a name, its words are so many.
 use Rattle.std.proofs.Common.{◌≡◌, ◌<◌, ◌≤◌, ℕ, List, [], ◌∷◌, length, map, Ok, Err, inl, inr, sym, subst, arith}
 use Rattle.std.proofs.lemmas.List.{length-map}
-use Rattle.desk_words.specs.Order.{Asks, Ordered, OrderedBy, Row, moves_name_and_budget, name_and_budget, rows}
+use Rattle.desk_words.specs.Order.{Asks, Ordered, OrderedBy, Row, moves_name_and_budget, name_and_budget, rows, two_names}
 use Rattle.desk_words.specs.declared.order.Order.{Order}
-use Rattle.desk_words.specs.declared.order.Order.TheVariants.{Keep, Check, Resume}
+use Rattle.desk_words.specs.declared.order.Order.TheVariants.{Keep, Check, Resume, Migrate}
 
 -- so many words stand behind the command
 abbrev IsLong : Order → List (List ℕ) → Type 0
 IsLong (Keep moves budget) words = 2 ≤ length words
 IsLong (Check budget) words = 1 ≤ length words
 IsLong (Resume budget) words = 1 ≤ length words
+IsLong Migrate words = 2 ≤ length words
 IsLong order words = Unit {0}
 
 -- so it is with what a command orders
@@ -27,6 +28,12 @@ two_words [] asked reads = absurd (cc)
 two_words (moves ∷ []) asked reads = absurd (cc)
 two_words (moves ∷ name ∷ words) asked reads = omega arith
 
+-- two names
+both_names : (words : List (List ℕ)) (asked : Unit {0}) → Asks two_names words (Ok asked) → 2 ≤ length words
+both_names [] asked reads = absurd (cc)
+both_names (from ∷ []) asked reads = absurd (cc)
+both_names (from ∷ to ∷ words) asked reads = omega arith
+
 -- and with what each of these commands does
 data AreLong : List Row → Type 1 where
   none : AreLong []
@@ -35,8 +42,10 @@ data AreLong : List Row → Type 1 where
 rows_long : AreLong rows
 rows_long =
     also (λ words asked reads. tt) (also (λ words asked reads. tt) (also (λ words asked reads. tt) (also (λ words asked reads. tt)
-    (also two_words (also one_name (also one_name
-    (also (λ words asked reads. tt) (also (λ words asked reads. tt) (also (λ words asked reads. tt) none)))))))))
+    (also (λ words asked reads. tt)
+    (also two_words (also (λ words asked reads. tt) (also one_name (also one_name
+    (also both_names
+    (also (λ words asked reads. tt) (also (λ words asked reads. tt) none)))))))))))
 
 named_long : {commands : List Row} → AreLong commands → (name : List ℕ) (words : List (List ℕ)) (order : Order) → OrderedBy commands name words (Ok order) → IsLong order words
 named_long none name words order is = absurd (cc)
@@ -61,3 +70,8 @@ module _ {A : Type 0} (f : A → List ℕ) where
   resume_long [] budget h = absurd (cc)
   resume_long (word ∷ words) budget h =
       let long : 1 ≤ length (map f words) = named_long rows_long (f word) (map f words) (Resume budget) h in omega (arith, long, length-map words f)
+
+  pub migrate_long : (words : List A) → Ordered (map f words) (Ok Migrate) → 2 < length words
+  migrate_long [] h = absurd (cc)
+  migrate_long (word ∷ words) h =
+      let long : 2 ≤ length (map f words) = named_long rows_long (f word) (map f words) Migrate h in omega (arith, long, length-map words f)

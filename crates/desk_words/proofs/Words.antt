@@ -1,10 +1,11 @@
 -- Words that are numbers, and words behind a command.
-use Rattle.std.proofs.Common.{◌≡◌, ◌≢◌, ℕ, ◌<◌, ◌≤◌, ◌^◌, List, [], ◌∷◌, length, get_or, drop, map, Result, Err, inl, inr, subst, take, ◌-◌, arith}
+use Rattle.std.proofs.Common.{◌≡◌, ◌≢◌, ℕ, zero, suc, ◌<◌, ◌≤◌, ◌^◌, List, [], ◌∷◌, length, get_or, drop, map, Result, Err, inl, inr, subst, take, ◌-◌, arith}
 use Rattle.std.specs.Char.{IsAsciiDigit}
 use Rattle.std.specs.List.{All}
 use Rattle.std.specs.Str.Parse.{AllDigits, digits_value, ParsesUnsigned}
 use Rattle.std.proofs.lemmas.Str.Parse.{IsNumeralModel, numerals_by_value, tells_digits, parse_plain}
 use Rattle.std.proofs.lemmas.List.Elements.{All-head, All-tail}
+use Rattle.std.proofs.lemmas.Grind.{same_number_lists}
 use Rattle.std.proofs.lemmas.List.{take_rest}
 use Rattle.limits.specs.declared.numbers.TheConstants.{MOST_MOVES}
 use Rattle.desk_words.specs.Order.{IsNaturalText, Asks, Ordered, OrderedBy, ReadsNumber, moves_name_and_budget, rows}
@@ -51,3 +52,19 @@ moves_refused f answer why (a ∷ b ∷ []) first low high at reads is = absurd 
 moves_refused {A} f answer why (a ∷ b ∷ c ∷ []) first low high at reads is =
     let P : A → Type 0 = λ w. ReadsNumber (f w) 0 MOST_MOVES (Err why) in (Err why, subst P at reads, is)
 moves_refused f answer why (a ∷ b ∷ c ∷ d ∷ words) first low high at reads is = absurd (omega arith)
+
+-- eight bytes, one by one
+pub eight_bytes : (xs : List ℕ) (a b c d e f g h : ℕ) → length xs ≡ 8 → get_or xs 0 0 ≡ a → get_or xs 1 0 ≡ b → get_or xs 2 0 ≡ c → get_or xs 3 0 ≡ d
+    → get_or xs 4 0 ≡ e → get_or xs 5 0 ≡ f → get_or xs 6 0 ≡ g → get_or xs 7 0 ≡ h → xs ≡ a ∷ b ∷ c ∷ d ∷ e ∷ f ∷ g ∷ h ∷ []
+eight_bytes xs a b c d e f g h long i j k l m n o p = same_number_lists xs (a ∷ b ∷ c ∷ d ∷ e ∷ f ∷ g ∷ h ∷ []) long at
+  where
+    at : (q : ℕ) → q < length xs → get_or xs q 0 ≡ get_or (a ∷ b ∷ c ∷ d ∷ e ∷ f ∷ g ∷ h ∷ []) q 0
+    at zero less = i
+    at (suc zero) less = j
+    at (suc (suc zero)) less = k
+    at (suc (suc (suc zero))) less = l
+    at (suc (suc (suc (suc zero)))) less = m
+    at (suc (suc (suc (suc (suc zero))))) less = n
+    at (suc (suc (suc (suc (suc (suc zero)))))) less = o
+    at (suc (suc (suc (suc (suc (suc (suc zero))))))) less = p
+    at (suc (suc (suc (suc (suc (suc (suc (suc q)))))))) less = absurd (omega (arith, less, long))

@@ -9,7 +9,7 @@ use Rattle.desk_words.specs.declared.order.TheConstants.{DEFAULT_STATES}
 use Rattle.desk_words.specs.declared.order.Asked.{Asked}
 use Rattle.desk_words.specs.declared.order.Asked.TheVariants as asked
 use Rattle.desk_words.specs.declared.order.Order.{Order}
-use Rattle.desk_words.specs.declared.order.Order.TheVariants.{Decide, Least, First, Play, Keep, Check, Resume, Show, Drill, Arith}
+use Rattle.desk_words.specs.declared.order.Order.TheVariants.{Decide, Least, First, Describe, Play, Keep, Check, Resume, Migrate, Show, Drill, Arith}
 use Rattle.desk_words.specs.declared.order.TextOrder.{TextOrder}
 use Rattle.desk_words.specs.declared.order.TextOrder.TheVariants as text_orders
 use Rattle.desk_words.specs.declared.order.UsageWhy.{UsageWhy}
@@ -132,6 +132,10 @@ moves_name_and_budget = Numeral 0 MOST_MOVES (λ moves. Named (Budgeted (λ budg
 abbrev pub name_and_budget : Words ℕ
 name_and_budget = Named (Budgeted (λ budget. budget))
 
+-- two names
+abbrev pub two_names : Words (Unit {0})
+two_names = Named (Named (End tt))
+
 -- a budget alone
 abbrev pub budget_alone : Words ℕ
 budget_alone = Budgeted (λ budget. budget)
@@ -154,20 +158,27 @@ pub record Row : Type 1 where
 abbrev pub row : List ℕ → {A : Type 0} → Words A → (A → Order) → Row
 row name {A} words order = record { name = name; Told = A; words = words; order = order }
 
--- the commands, a row each
+-- the commands that read no position text, a row each
+abbrev pub textless_rows : List Row
+textless_rows =
+    row (codes "check") name_and_budget (λ budget. Check budget)
+    ∷ row (codes "resume") name_and_budget (λ budget. Resume budget)
+    ∷ row (codes "migrate") two_names (λ asked. Migrate)
+    ∷ row (codes "drill") seed_and_count (λ asked. Drill asked.0 asked.1)
+    ∷ row (codes "arith") budget_alone (λ budget. Arith budget)
+    ∷ []
+
+-- the commands, a row each: those of a position text, and the others
 abbrev pub rows : List Row
 rows =
     row (codes "decide") moves_and_budget (λ asked. Decide asked.0 asked.1)
     ∷ row (codes "least") moves_and_budget (λ asked. Least asked.0 asked.1)
     ∷ row (codes "first") moves_and_budget (λ asked. First asked.0 asked.1)
+    ∷ row (codes "describe") moves_and_budget (λ asked. Describe asked.0 asked.1)
     ∷ row (codes "play") moves_and_budget (λ asked. Play asked.0 asked.1)
     ∷ row (codes "keep") moves_name_and_budget (λ asked. Keep asked.0 asked.1)
-    ∷ row (codes "check") name_and_budget (λ budget. Check budget)
-    ∷ row (codes "resume") name_and_budget (λ budget. Resume budget)
     ∷ row (codes "show") no_words (λ asked. Show)
-    ∷ row (codes "drill") seed_and_count (λ asked. Drill asked.0 asked.1)
-    ∷ row (codes "arith") budget_alone (λ budget. Arith budget)
-    ∷ []
+    ∷ textless_rows
 
 -- what words order, where they ask this
 abbrev pub OrdersAs : {A : Type 0} → Words A → (A → Order) → List (List ℕ) → Result Order UsageWhy → Type 0
@@ -198,6 +209,7 @@ abbrev pub as_order : TextOrder → Order
 as_order (text_orders.Decide moves budget) = Decide moves budget
 as_order (text_orders.Least limit budget) = Least limit budget
 as_order (text_orders.First moves budget) = First moves budget
+as_order (text_orders.Describe moves budget) = Describe moves budget
 as_order (text_orders.Play moves budget) = Play moves budget
 as_order (text_orders.Keep moves budget name) = Keep moves budget
 as_order text_orders.Show = Show
@@ -217,11 +229,18 @@ pub record IsOfFile (order : Order) (name : List ℕ) (words : List (List ℕ)) 
   pub ordered : Ordered words (Ok order)
   pub named : name_in order words ≡ Some name
 
+-- the words are an order that the claim of the file of the one name be kept under the other
+pub record IsOfFiles (from to : List ℕ) (words : List (List ℕ)) : Type 0 where
+  pub ordered : Ordered words (Ok Migrate)
+  pub from_named : slice_get words 1 ≡ Some from
+  pub to_named : slice_get words 2 ≡ Some to
+
 -- the words ask this
 abbrev pub IsAsked : Asked → (words : List (List ℕ)) → Type 0
 IsAsked (asked.Text order) words = IsOrderOf order words
 IsAsked (asked.Check name budget) words = IsOfFile (Check budget) name.now words
 IsAsked (asked.Resume name budget) words = IsOfFile (Resume budget) name.now words
+IsAsked (asked.Migrate from to) words = IsOfFiles from.now to.now words
 IsAsked (asked.Drill seed count) words = Ordered words (Ok (Drill seed count))
 IsAsked (asked.Arith budget) words = Ordered words (Ok (Arith budget))
 
@@ -230,6 +249,7 @@ abbrev pub IsWithinLimits : Order → Type 0
 IsWithinLimits (Decide moves budget) = moves ≤ MOST_MOVES
 IsWithinLimits (Least limit budget) = limit ≤ MOST_MOVES
 IsWithinLimits (First moves budget) = moves ≤ MOST_MOVES
+IsWithinLimits (Describe moves budget) = moves ≤ MOST_MOVES
 IsWithinLimits (Play moves budget) = moves ≤ MOST_MOVES
 IsWithinLimits (Keep moves budget) = moves ≤ MOST_MOVES
 IsWithinLimits (Drill seed count) = (seed ≤ most_seed) × (count ≤ most_positions)

@@ -3,7 +3,7 @@
 ghost use Rattle.std.specs.Prelude.{◌≡◌, ◌↔◌, ◌<◌, ◌≤◌, slice_get, length, Ok, Some, IsTrue, IfOk};
 ghost use Rattle.std.specs.Char.{IsAsciiDigit};
 ghost use Rattle.std.specs.List.{All};
-ghost use Rattle.desk_words.specs.Order.{Asks, IsAsked, IsAskedWithin, IsName, IsNameByte, IsNaturalText, IsWithinLimits, Ordered, OrderedBy, OrdersAs, ReadsName, ReadsNumber, budget_alone, most_seed, moves_and_budget, moves_name_and_budget, name_and_budget, no_words, rows, seed_and_count, texts, usage_line};
+ghost use Rattle.desk_words.specs.Order.{Asks, IsAsked, IsAskedWithin, IsName, IsNameByte, IsNaturalText, IsWithinLimits, Ordered, OrderedBy, OrdersAs, ReadsName, ReadsNumber, budget_alone, most_seed, moves_and_budget, moves_name_and_budget, name_and_budget, no_words, rows, seed_and_count, textless_rows, texts, two_names, usage_line};
 
 use limits::{Budget, MOST_MOVES, MOST_STATES};
 
@@ -19,8 +19,11 @@ const MOST_NAME_BYTES: usize = 32;
 /// Where the name stands among the words of `keep`, counted from 0.
 const KEEP_NAME: usize = 2;
 
-/// Where it stands among those of `check` and of `resume`.
+/// Where it stands among those of `check` and of `resume`, and the name of the file that is read among those of `migrate`.
 const FILE_NAME: usize = 1;
+
+/// Where the name of the file that is kept stands among those of `migrate`.
+const NEW_NAME: usize = 2;
 
 /// What is to be done.
 #[derive(Clone, Copy, PartialEq, Eq)]
@@ -31,6 +34,9 @@ pub enum Order {
     Least { limit: u8, budget: Budget },
     /// Name, ray by ray, the first moves by which White mates within so many moves of his own. The budget is that of `Decide`.
     First { moves: u8, budget: Budget },
+    /// Describe, ray by ray, at which distances first moves lead to mate within so many moves of his own. The budget is that of `Decide`, of the
+    /// formula of each ray, and of the formulas by which periods are tried.
+    Describe { moves: u8, budget: Budget },
     /// Play a game in which White mates within so many moves of his own, whatever is replied. The budget is that of `Decide`.
     Play { moves: u8, budget: Budget },
     /// Keep a file of the sets by which White mates within so many moves of his own, if he does. The budget is that of `Decide`.
@@ -39,6 +45,8 @@ pub enum Order {
     Check { budget: Budget },
     /// Check the file of a name, and play the game by its sets. The budget is that of `Check`.
     Resume { budget: Budget },
+    /// Keep the claim of the file of a name under another name, in a file of the newest version.
+    Migrate,
     /// Write the position, whether its side to move is in check, and how many men are live.
     Show,
     /// Say from how many of so many positions, which follow from the seed, White mates in one move.
@@ -59,6 +67,10 @@ pub enum TextOrder<'a> {
         budget: Budget,
     },
     First {
+        moves: u8,
+        budget: Budget,
+    },
+    Describe {
         moves: u8,
         budget: Budget,
     },
@@ -83,6 +95,8 @@ pub enum Asked<'a> {
     Check { name: &'a str, budget: Budget },
     /// That the game be played by the file of the name.
     Resume { name: &'a str, budget: Budget },
+    /// That the claim of the file of the one name be kept under the other.
+    Migrate { from: &'a str, to: &'a str },
     /// Of positions that follow from the seed.
     Drill { seed: u64, count: u8 },
     /// Of the formula that the first line is.
@@ -101,6 +115,9 @@ impl Order {
             Order::Decide { moves, budget } => Asked::Text(TextOrder::Decide { moves, budget }),
             Order::Least { limit, budget } => Asked::Text(TextOrder::Least { limit, budget }),
             Order::First { moves, budget } => Asked::Text(TextOrder::First { moves, budget }),
+            Order::Describe { moves, budget } => {
+                Asked::Text(TextOrder::Describe { moves, budget })
+            }
             Order::Play { moves, budget } => Asked::Text(TextOrder::Play { moves, budget }),
             Order::Keep { moves, budget } => {
                 let name = word_at(words, KEEP_NAME);
@@ -117,6 +134,11 @@ impl Order {
             Order::Resume { budget } => {
                 let name = word_at(words, FILE_NAME);
                 Asked::Resume { name, budget }
+            }
+            Order::Migrate => {
+                let from = word_at(words, FILE_NAME);
+                let to = word_at(words, NEW_NAME);
+                Asked::Migrate { from, to }
             }
             Order::Show => Asked::Text(TextOrder::Show),
             Order::Drill { seed, count } => Asked::Drill { seed, count },
@@ -178,11 +200,23 @@ fn order_named(name: &str, words: &[String]) -> Result<Order, UsageWhy>
         b"decide" => decide_order(words),
         b"least" => least_order(words),
         b"first" => first_order(words),
+        b"describe" => describe_order(words),
         b"play" => play_order(words),
         b"keep" => keep_order(words),
+        b"show" => show_order(words),
+        _ => textless_order_named(name, words),
+    }
+}
+
+/// The order that the words behind a name are, which is to be that of a command that reads no position text.
+fn textless_order_named(name: &str, words: &[String]) -> Result<Order, UsageWhy>
+    ensures ordered { OrderedBy textless_rows name.now (texts words.now) result }
+    ensures within { IfOk result IsWithinLimits }
+{
+    match name.as_bytes() {
         b"check" => check_order(words),
         b"resume" => resume_order(words),
-        b"show" => show_order(words),
+        b"migrate" => migrate_order(words),
         b"drill" => drill_order(words),
         b"arith" => arith_order(words),
         _ => Err(UsageWhy::Unknown),
@@ -214,6 +248,15 @@ fn first_order(words: &[String]) -> Result<Order, UsageWhy>
 {
     let (moves, budget) = read_moves_and_budget(words)?;
     Ok(Order::First { moves, budget })
+}
+
+/// The order that the words behind `describe` are.
+fn describe_order(words: &[String]) -> Result<Order, UsageWhy>
+    ensures ordered { OrdersAs moves_and_budget (λ asked. Order.Describe asked.0 asked.1) (texts words.now) result }
+    ensures within { IfOk result IsWithinLimits }
+{
+    let (moves, budget) = read_moves_and_budget(words)?;
+    Ok(Order::Describe { moves, budget })
 }
 
 /// The order that the words behind `play` are.
@@ -250,6 +293,15 @@ fn resume_order(words: &[String]) -> Result<Order, UsageWhy>
 {
     let budget = read_name_and_budget(words)?;
     Ok(Order::Resume { budget })
+}
+
+/// The order that the words behind `migrate` are.
+fn migrate_order(words: &[String]) -> Result<Order, UsageWhy>
+    ensures ordered { OrdersAs two_names (λ asked. Order.Migrate) (texts words.now) result }
+    ensures within { IfOk result IsWithinLimits }
+{
+    read_two_names(words)?;
+    Ok(Order::Migrate)
 }
 
 /// The order that the words behind `show` are.
@@ -323,6 +375,19 @@ fn read_name_and_budget(words: &[String]) -> Result<Budget, UsageWhy>
         [name, budget] => {
             read_name(name.as_str())?;
             read_budget(budget.as_str())
+        }
+        _ => Err(UsageWhy::Count),
+    }
+}
+
+/// A name, and another one, or the same.
+fn read_two_names(words: &[String]) -> Result<(), UsageWhy>
+    ensures { Asks two_names (texts words.now) result }
+{
+    match words {
+        [from, to] => {
+            read_name(from.as_str())?;
+            read_name(to.as_str())
         }
         _ => Err(UsageWhy::Count),
     }
