@@ -1,5 +1,3 @@
-pub mod FileClaims
-pub mod OneFinding
 pub mod Playing
+pub mod Resuming
 pub mod Rows
-pub mod Shelves

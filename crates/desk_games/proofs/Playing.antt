@@ -14,18 +14,18 @@ use Rattle.chess_text.specs.PositionText.{text_of_lines}
 use Rattle.chess_game.specs.declared.way.Frame.{Frame}
 use Rattle.game_report.specs.Laws.{seen, strategy_by}
 use Rattle.game_report.specs.Played.{IsDue, IsPlayed, Ports, is_short}
-use Rattle.game_report.specs.Report.{IsReport, Match, ending_line}
-use Rattle.game_report.specs.Report as game
+use Rattle.game_report.specs.GameReport.{IsReport, Match, ending_line}
+use Rattle.game_report.specs.GameReport as game
 use Rattle.desk_text.specs.Taken.{TakesLines}
 use Rattle.game_report.specs.declared.play.Ending.{Ending}
 use Rattle.game_report.specs.declared.play.Ending.TheVariants.{Mated, Wide, Quit, NoLine, Many, CutAt, LongAt}
 use Rattle.game_report.specs.declared.play.GameError.{GameError}
 use Rattle.game_report.specs.declared.play.GameError.TheVariants.{Read, Write}
-use Rattle.white_player.specs.Game.{Game, start_of}
+use Rattle.game_session.specs.Game.{Game, start_of}
 use Rattle.winning_sets.specs.Claimed.{claim_of}
 use Rattle.winning_sets.specs.Solve.{IsOf, Solution}
 use Rattle.winning_sets.specs.declared.origin.Origin.TheVariants as origin
-use Rattle.desk_report.specs.Outcome.{DoesReport, Ends, NeverMisses, Report, Seen, Writes, of_sink, of_streams, reported_on}
+use Rattle.desk_report.specs.Outcome.{DoesReport, RunEndsAs, NeverMisses, Report, Seen, Writes, of_sink, of_streams, reported_on}
 use Rattle.desk_report.specs.ByLines.{EndsByLines, IsDueBy}
 use Rattle.desk_games.specs.Play.{Finishes, PlayReports, as_played, first_match, status_of}
 use Rattle.desk_games.specs.Resume.{claimed_match}
@@ -83,7 +83,7 @@ module _ (reports : Lines → Report → Type 0) (may_lack : List ℕ → Type 0
   -- a command that has the sink alone takes nothing more
   module _ (held : List ℕ) (few : length held ≤ 256) (left before after : Option (List ℕ)) (reads writes later : ℕ) where
     pub still : (status : Status) (says : Report → Type 0) (lacks : Type 0) → ((report : Report) (lines : Lines) → says report → reports lines report)
-        → (lacks → may_lack []) → Ends status says lacks NeverMisses (of_sink files before writes) (of_sink files after later)
+        → (lacks → may_lack []) → RunEndsAs status says lacks NeverMisses (of_sink files before writes) (of_sink files after later)
         → EndsByLines reports may_lack may_miss status held held (of_streams files left before reads writes) (of_streams files left after reads later)
     still status says lacks more lack ends =
         let old = of_streams files left before reads writes in
@@ -101,7 +101,7 @@ module _ (reports : Lines → Report → Type 0) (may_lack : List ℕ → Type 0
               (at_sink files old new refl refl status says lacks ends);
         }
 
-  module _ (number : ℕ) (g : Match) (says : (lines : Lines) (played : game.Report) → IsReport number lines g played → reports lines (as_played files played)) where
+  module _ (number : ℕ) (g : Match) (says : (lines : Lines) (played : game.GameReport) → IsReport number lines g played → reports lines (as_played files played)) where
     -- each line that the game has read was due
     replies_due : (held pending : List ℕ) → TakesLines (IsDue number g) held pending → TakesLines (IsDueBy reports) held pending
     replies_due held pending t = record {
@@ -113,7 +113,7 @@ module _ (reports : Lines → Report → Type 0) (may_lack : List ℕ → Type 0
     }
 
     done_as : (ending : Ending) (due : Report → Type 0) (lacks : Type 0) (misses : Option (List ℕ) → Type 0) (report : Report) (old new : Seen)
-        → due report → DoesReport (status_of ending) report old new → Ends (status_of ending) due lacks misses old new
+        → due report → DoesReport (status_of ending) report old new → RunEndsAs (status_of ending) due lacks misses old new
     done_as Mated due lacks misses report old new right does = (report, right, does)
     done_as Wide due lacks misses report old new right does = (report, right, does)
     done_as Quit due lacks misses report old new right does = (report, right, does)
@@ -146,7 +146,7 @@ module _ (reports : Lines → Report → Type 0) (may_lack : List ℕ → Type 0
           IsPlayed answer number g after (record { pending = held; left = left_old; written = before }) (record { pending = pending; left = left_new; written = between })
 
       -- what is written after the game comes behind its text
-      writes_both : (report : game.Report) (line : List ℕ) → Appends before between report.text → writes ≤ later_writes
+      writes_both : (report : game.GameReport) (line : List ℕ) → Appends before between report.text → writes ≤ later_writes
           → Writes [] line between done (HasRisen later_writes last_writes) → Writes report.text line before done (HasRisen writes last_writes)
       writes_both report line wrote never_falls wrote_line =
           then_line report.text before (HasRisen writes last_writes) wrote (later_risen writes later_writes last_writes never_falls) wrote_line
@@ -218,6 +218,6 @@ module _ (reports : Lines → Report → Type 0) (may_lack : List ℕ → Type 0
 
 -- the game that `play` reports
 pub reports_game : (n budget : ℕ) (problem : Problem) (files : Files) → FitsBudget problem budget n → Value problem.winner n problem.position
-    → (lines : Lines) (played : game.Report) → IsReport problem.lines lines (first_match n problem) played
+    → (lines : Lines) (played : game.GameReport) → IsReport problem.lines lines (first_match n problem) played
     → PlayReports n budget problem lines files (as_played files played)
 reports_game n budget problem files fits value lines played right = inr (fits, inr (value, (played, right, refl)))

@@ -1,6 +1,2 @@
-pub mod Check
-pub mod FileLines
-pub mod FileClaim
-pub mod Keep
 pub mod Play
 pub mod Resume

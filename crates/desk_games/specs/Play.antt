@@ -8,8 +8,8 @@ use Rattle.desk_base.specs.declared.sink.Sink.{Ghosts as SinkModel}
 use Rattle.desk_base.specs.declared.source.Source.{Ghosts as SourceModel}
 use Rattle.game_rules.specs.Game.{Value}
 use Rattle.game_report.specs.Played.{is_short}
-use Rattle.game_report.specs.Report.{ByKept, IsReport, Match, ending_line}
-use Rattle.game_report.specs.Report as game
+use Rattle.game_report.specs.GameReport.{ByKept, IsReport, Match, ending_line}
+use Rattle.game_report.specs.GameReport as game
 use Rattle.game_report.specs.declared.play.Ending.{Ending}
 use Rattle.game_report.specs.declared.play.Ending.TheVariants.{Mated, Wide, Quit, NoLine, Many, CutAt, LongAt}
 use Rattle.game_report.specs.declared.play.GameError.{GameError}
@@ -46,7 +46,7 @@ status_of (CutAt number) = is.Text
 status_of (LongAt number) = is.Text
 
 -- a run that reports a game, and leaves these files
-abbrev pub as_played : Files → game.Report → Report
+abbrev pub as_played : Files → game.GameReport → Report
 as_played files played =
     record {
       status = status_of played.ending;
@@ -62,7 +62,7 @@ abbrev pub PlayedReports : ℕ → Problem → Lines → Files → Report → Ty
 PlayedReports n problem lines files report =
     ((Value problem.winner n problem.position → ⊥) × (report ≡ done_with files (no_mate_line n)))
     ⊎ (Value problem.winner n problem.position
-    × ((played : game.Report) × IsReport problem.lines lines (first_match n problem) played
+    × ((played : game.GameReport) × IsReport problem.lines lines (first_match n problem) played
     × (report ≡ as_played files played)))
 
 -- the same, or the first step that exceeds the budget

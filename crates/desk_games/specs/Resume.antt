@@ -6,12 +6,12 @@ use Rattle.desk_base.specs.Lines.{Lines}
 use Rattle.desk_base.specs.declared.files.Shelf.{Ghosts as ShelfModel}
 use Rattle.desk_base.specs.declared.sink.Sink.{Ghosts as SinkModel}
 use Rattle.desk_base.specs.declared.source.Source.{Ghosts as SourceModel}
-use Rattle.game_report.specs.Report.{ByClaim, IsReport, Match}
-use Rattle.game_report.specs.Report as game
+use Rattle.game_report.specs.GameReport.{ByClaim, IsReport, Match}
+use Rattle.game_report.specs.GameReport as game
 use Rattle.mate_plan.specs.Claim.{Claim}
 use Rattle.winning_sets.specs.Claimed.{claim_of}
 use Rattle.winning_sets.specs.Solve.{Solution}
-use Rattle.desk_games.specs.FileClaim.{MissesFetch, OfFile, OnFiles}
+use Rattle.desk_files.specs.FileClaim.{MissesFetch, OfChecked, OnFiles}
 use Rattle.desk_report.specs.Outcome.{NeverMisses, Report, Seen}
 use Rattle.desk_report.specs.ByLines.{EndsByLines}
 use Rattle.desk_report.specs.Ports.{ports_seen, streams_seen}
@@ -34,11 +34,11 @@ claimed_match c =
 -- the game with these lines that is played by a claim
 abbrev pub GameReports : Lines → Files → Claim → Report → Type 0
 GameReports lines files c report =
-    (played : game.Report) × IsReport 0 lines (claimed_match c) played × (report ≡ as_played files played)
+    (played : game.GameReport) × IsReport 0 lines (claimed_match c) played × (report ≡ as_played files played)
 
 -- the game by the claim of the file of the name, or the first reason why there is none
 abbrev pub ResumeReports : (budget : ℕ) → Lines → (name : List ℕ) → Files → Report → Type 0
-ResumeReports budget lines name files = OfFile (GameReports lines files) budget name files
+ResumeReports budget lines name files = OfChecked (GameReports lines files) budget name files
 
 -- where memory may be wanting: nothing was taken
 abbrev pub LacksBefore : (bytes : List ℕ) → Type 0

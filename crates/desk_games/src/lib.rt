@@ -1,11 +1,6 @@
-//! The commands that play games and keep files: the game that the winner of a problem plays against replies, the file of the sets by which he mates, and,
-//! of a file that was kept, whether its claim keeps all rules and the game that is played by it. Each has a file under `specs` that says what is
-//! reported of it; `specs/FileClaim` says what comes of the file of a name.
+//! The commands that play games: the game that the winner of a problem plays against replies, and the one that is played by the claim of a file that was
+//! kept. Each has a file under `specs` that says what is reported of it.
 #![tactic(auto)]
 
-pub mod check;
-mod file_claim;
-mod file_line;
-pub mod keep;
 pub mod play;
 pub mod resume;

@@ -2,7 +2,7 @@
 
 ghost use Rattle.std.specs.Prelude.{◌≡◌, ◌≤◌, [], length};
 ghost use Rattle.desk_base.specs.Reading.{GoesOn};
-ghost use Rattle.game_report.specs.Report.{ending_line};
+ghost use Rattle.game_report.specs.GameReport.{ending_line};
 ghost use Rattle.desk_report.specs.Outcome.{Writes};
 ghost use Rattle.desk_report.specs.Ports.{OnSink};
 ghost use Rattle.desk_games.specs.Play.{Finishes, PlayEndsOn, status_of};
@@ -14,8 +14,8 @@ use desk_report::{Status, print, refusal_line, refuse};
 use desk_text::{LineWhy, Task};
 use desk_verdict::{ProblemSolver, print_error, verdict_line};
 use game_report::{Ending, GameError, play_game};
+use game_session::Session;
 use std::alloc::Global;
-use white_player::Session;
 
 /// Writes the game that the winner plays, whose replies are read behind the text, or that he does not mate within so many moves.
 /// All memory is taken before the first line.

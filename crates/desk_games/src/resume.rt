@@ -5,15 +5,15 @@ ghost use Rattle.game_rules.specs.Game.{Value};
 ghost use Rattle.winning_sets.specs.declared.origin.Origin.TheVariants as origin;
 ghost use Rattle.desk_games.specs.Resume.{GameEndsOn, ResumeEndsOn};
 
-use crate::file_claim::{fetch_claim, refuse_file};
 use crate::play::finish;
 use chess_game::Frame;
 use desk_base::{LineReader, Shelf, Sink, Source};
+use desk_files::{fetch_claim, refuse_file};
 use desk_report::{Status, refuse};
 use desk_text::FileTask;
 use game_report::play_game;
+use game_session::Session;
 use std::alloc::Global;
-use white_player::Session;
 use winning_sets::Solved;
 
 /// Checks the claim of the file of a name, and writes the game that its winner plays by its sets, whose replies are read.

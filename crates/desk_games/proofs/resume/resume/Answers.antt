@@ -1,6 +1,6 @@
 use Rattle.std.proofs.Common.{[], refl, ap}
 use Rattle.std.specs.Prelude.{Err}
-use Rattle.desk_games.proofs.FileClaims.{claim_value, game_resumes, refused_resumes}
+use Rattle.desk_games.proofs.Resuming.{claim_value, game_resumes, refused_resumes}
 use Rattle.desk_games.proofs.resume.resume.Goals as goal
 
 pub play_on-requires-clause-value : goal.play_on-requires-clause-value
