@@ -14,9 +14,9 @@ use desk_base::Sink;
 use desk_report::{Status, print, push_large};
 use desk_text::Task;
 use desk_verdict::{ProblemSolver, print_error};
-use game_session::has_ray;
+use game_session::{FirstLine, first_moves};
+use move_choice::has_ray;
 use std::alloc::{AllocError, Global};
-use white_player::{FirstLine, first_moves};
 use winning_sets::{SolveError, Solved};
 
 /// Writes for each man and ray the winner's first moves along it by which he mates within so many moves of his own, and a last line. All of it is
@@ -40,7 +40,7 @@ pub fn first<K: Sink>(alloc: Global, task: &Task, sink: &mut K) -> Status
 }
 
 /// Whether the winner has no first move: no move of his own is left, or the loser is to move.
-fn has_no_first_move(task: &Task) -> bool
+pub fn has_no_first_move(task: &Task) -> bool
     ensures { IsTrue result ↔ HasNoFirstMove task.now.moves task.now.problem }
 {
     if task.moves == 0 {

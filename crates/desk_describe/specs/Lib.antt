@@ -1,0 +1,3 @@
+pub mod Describe
+pub mod Description
+pub mod RayStep
