@@ -8,13 +8,13 @@ use Rattle.game_rules.specs.declared.men.Side.{Side}
 use Rattle.game_rules.specs.declared.men.Square.{Square}
 use Rattle.game_rules.specs.declared.men.Side.TheVariants.{White, Black}
 use Rattle.game_laws.proofs.MoveLemmas.{same_after}
-use Rattle.game_session.specs.Choice.{Pick, target}
-use Rattle.game_session.specs.declared.choice.Choice.{Choice}
+use Rattle.move_choice.specs.Choice.{Pick, target}
+use Rattle.move_choice.specs.declared.choice.Choice.{Choice}
 use Rattle.chess_text.specs.declared.replies.Typed.{Typed}
 use Rattle.chess_text.specs.declared.replies.Typed.TheVariants as typed
 use Rattle.claim_plan.proofs.ClaimLemmas.{claimed_is_lost, won_is_value}
-use Rattle.game_report.specs.Report.{AtLine, AtLines, AtLoser, AtTyped, AtWinner, ByClaim, ByKept, HeldPick, IsReport, Match, Report, Strategy, Unless, most_lines}
-use Rattle.game_session.specs.Squares.{all_squares}
+use Rattle.game_report.specs.GameReport.{AtLine, AtLines, AtLoser, AtTyped, AtWinner, ByClaim, ByKept, HeldPick, IsReport, Match, GameReport, Strategy, Unless, most_lines}
+use Rattle.move_choice.specs.Squares.{all_squares}
 use Rattle.mate_plan.specs.Claim.{Claim, IsClaim, IsClaimed}
 use Rattle.mate_plan.specs.PlanOf.{last_ply}
 use Rattle.mate_plan.specs.Won.{Won}
@@ -68,16 +68,16 @@ module _ (w : Side) (start : Position) (n : ℕ) (by : Strategy) where
   module _ (Held : ℕ → Position → Type 0) (picks : (p : Position) (ply : ℕ) (c : Choice) → HeldPick (at p ply) (Some c) → Pick (Held (suc ply)) all_squares p (Some c))
       (first : ℕ) (lost_at : (j : ℕ) (q : Position) → q.turn ≡ other w → Held (first + 2 * j) q → Lost w (n - (j + 1)) q) where
     -- where j moves of the winner were made before
-    abbrev Follow : ℕ → Report → Type 0
+    abbrev Follow : ℕ → GameReport → Type 0
     Follow j r = (k m : ℕ) (after : Match) → slice_get r.games k ≡ Some after → m ≡ j + k → IsHeldAfter w n start m after
 
-    none_follow : (j : ℕ) (r : Report) → r.games ≡ [] → Follow j r
+    none_follow : (j : ℕ) (r : GameReport) → r.games ≡ [] → Follow j r
     none_follow j r none k m after is number = absurd (no_game k after (sym (ap (λ xs. slice_get xs k) none) ∙ is))
 
-    same_follow : (j : ℕ) (r later : Report) → r.games ≡ later.games → Follow j later → Follow j r
+    same_follow : (j : ℕ) (r later : GameReport) → r.games ≡ later.games → Follow j later → Follow j r
     same_follow j r later same follow k m after is number = follow k m after (sym (ap (λ xs. slice_get xs k) same) ∙ is) number
 
-    one_more : {j : ℕ} (r later : Report) {g : Match} → r.games ≡ g ∷ later.games → IsHeldAfter w n start j g → Follow (j + 1) later → Follow j r
+    one_more : {j : ℕ} (r later : GameReport) {g : Match} → r.games ≡ g ∷ later.games → IsHeldAfter w n start j g → Follow (j + 1) later → Follow j r
     one_more r later {g} same held follow zero m after is number =
         let P : Match → Type 0 = λ x. IsHeldAfter w n start m x in
         let Q : ℕ → Type 0 = λ k. IsHeldAfter w n start k g in
@@ -87,13 +87,13 @@ module _ (w : Side) (start : Position) (n : ℕ) (by : Strategy) where
         let there : slice_get later.games k ≡ Some after = sym (ap (λ xs. slice_get xs (suc k)) same) ∙ is in
         follow k m after there (omega (arith, number))
 
-    module _ (On : Match → Report → Type 0)
-        (go : (p : Position) (ply j : ℕ) (r : Report) → Reach start ply p → ply + 2 ≡ first + 2 * j → Lost w (n - j) p → On (at p ply) r → Follow j r) where
-      loser_follow : (left : Lines) (p : Position) (ply j : ℕ) (r : Report) → Reach start ply p → ply + 2 ≡ first + 2 * j → Lost w (n - j) p → AtLoser On left (at p ply) r → Follow j r
+    module _ (On : Match → GameReport → Type 0)
+        (go : (p : Position) (ply j : ℕ) (r : GameReport) → Reach start ply p → ply + 2 ≡ first + 2 * j → Lost w (n - j) p → On (at p ply) r → Follow j r) where
+      loser_follow : (left : Lines) (p : Position) (ply j : ℕ) (r : GameReport) → Reach start ply p → ply + 2 ≡ first + 2 * j → Lost w (n - j) p → AtLoser On left (at p ply) r → Follow j r
       loser_follow left p ply j r reached count lost (inl (mate, is)) = none_follow j r (ap (λ x. x.games) is)
       loser_follow left p ply j r reached count lost (inr (none, on)) = go p ply j r reached count lost on
 
-      winner_follow : (left : Lines) (p : Position) (ply j : ℕ) (r : Report) → Reach start ply p → ply + 1 ≡ first + 2 * j → Win w (n - j) p → AtWinner On left (at p ply) r → Follow j r
+      winner_follow : (left : Lines) (p : Position) (ply j : ℕ) (r : GameReport) → Reach start ply p → ply + 1 ≡ first + 2 * j → Win w (n - j) p → AtWinner On left (at p ply) r → Follow j r
       winner_follow left p ply j r reached count win (inl (none, is)) = none_follow j r (ap (λ x. x.games) is)
       winner_follow left p ply j r reached count win (inr (c, q, later, picked, legal, goes, is)) =
           let pick = picks p ply c picked in
@@ -108,7 +108,7 @@ module _ (w : Side) (start : Position) (n : ℕ) (by : Strategy) where
           let lost : Lost w (n - (j + 1)) q = lost_at j q turn (subst P step (subst H same pick.leads.is_in)) in
           one_more r later (ap (λ x. x.games) is) (record { reached = now; few = few; lost = lost }) (loser_follow left q (suc ply) (j + 1) later now (omega (arith, count)) lost goes)
 
-      typed_follow : (left : Lines) (p : Position) (ply j : ℕ) (r : Report) (reply : Option Typed) → Reach start ply p
+      typed_follow : (left : Lines) (p : Position) (ply j : ℕ) (r : GameReport) (reply : Option Typed) → Reach start ply p
           → ply + 2 ≡ first + 2 * j → Lost w (n - j) p → AtTyped On left (at p ply) r reply → Follow j r
       typed_follow left p ply j r None reached count lost (later, on, is) = same_follow j r later (ap (λ x. x.games) is) (go p ply j later reached count lost on)
       typed_follow left p ply j r (Some typed.Quit) reached count lost is = none_follow j r (ap (λ x. x.games) is)
@@ -116,14 +116,14 @@ module _ (w : Side) (start : Position) (n : ℕ) (by : Strategy) where
       typed_follow left p ply j r (Some (typed.Move mv)) reached count lost (inr (q, legal, goes)) =
           winner_follow left q (suc ply) j r (p, reached, (mv.man, target mv, legal)) (omega (arith, count)) (reply_wins w (n - j) p q mv.man (target mv) lost legal) goes
 
-      line_follow : (line : List ℕ) (left : Lines) (p : Position) (ply j : ℕ) (r : Report) → Reach start ply p → ply + 2 ≡ first + 2 * j → Lost w (n - j) p → AtLine On line left (at p ply) r → Follow j r
+      line_follow : (line : List ℕ) (left : Lines) (p : Position) (ply j : ℕ) (r : GameReport) → Reach start ply p → ply + 2 ≡ first + 2 * j → Lost w (n - j) p → AtLine On line left (at p ply) r → Follow j r
       line_follow line left p ply j r reached count lost (reply, is, goes) = typed_follow left p ply j r reply reached count lost goes
 
-    unless_follow : (j : ℕ) (stop : Bool) (left : Lines) (r : Report) (Else : Type 0) → (Else → Follow j r) → Unless stop left r Else → Follow j r
+    unless_follow : (j : ℕ) (stop : Bool) (left : Lines) (r : GameReport) (Else : Type 0) → (Else → Follow j r) → Unless stop left r Else → Follow j r
     unless_follow j true left r Else go is = none_follow j r (ap (λ x. x.games) is)
     unless_follow j false left r Else go h = go h
 
-    lines_follow : (before read : ℕ) (lines : Lines) (p : Position) (ply j : ℕ) (r : Report) → Reach start ply p
+    lines_follow : (before read : ℕ) (lines : Lines) (p : Position) (ply j : ℕ) (r : GameReport) → Reach start ply p
         → ply + 2 ≡ first + 2 * j → Lost w (n - j) p → AtLines before read lines (at p ply) r → Follow j r
     lines_follow before read (full line rest) p ply j r reached count lost h =
         unless_follow j (read == most_lines) (full line rest) r _
@@ -156,7 +156,7 @@ module _ (w : Side) (start : Position) (n : ℕ) (by : Strategy) (Held : ℕ →
       ap (λ s. moves_left (last_ply w s n) (2 + 2 * j)) turn ∙ (moves_counted w n (2 + 2 * j)).1 ∙ ap (λ x. n - x) (half_second j) in
       let P : ℕ → Type 0 = λ m. Lost w m q in subst P left (lost_in (2 + 2 * j) q his held)
 
-  report_after : Value w n start → (before : ℕ) (lines : Lines) (r : Report) → IsReport before lines (at w start n by start 0) r → (k : ℕ) (after : Match)
+  report_after : Value w n start → (before : ℕ) (lines : Lines) (r : GameReport) → IsReport before lines (at w start n by start 0) r → (k : ℕ) (after : Match)
       → slice_get r.games k ≡ Some after → IsHeldAfter w n start k after
   report_after value before lines r (inl (turn, goes)) k after is =
       let P : ℕ → Type 0 = λ m. Win w m start in
@@ -170,7 +170,7 @@ module _ (w : Side) (start : Position) (n : ℕ) (by : Strategy) (Held : ℕ →
       (subst P (all_left n) (value_lost w n start turn value)) goes k k after is (omega arith)
 
 -- after the winner's move the loser is mated within the moves that the winner has left
-report_keeps : (n : ℕ) (problem : Problem) → Value problem.winner n problem.position → (before : ℕ) (lines : Lines) (r : Report) → IsReport before lines (first_match n problem) r
+report_keeps : (n : ℕ) (problem : Problem) → Value problem.winner n problem.position → (before : ℕ) (lines : Lines) (r : GameReport) → IsReport before lines (first_match n problem) r
     → (k : ℕ) (after : Match) → slice_get r.games k ≡ Some after → IsKeptGame n problem k after
 report_keeps n problem value before lines r report k after is =
     let w = problem.winner in
@@ -180,7 +180,7 @@ report_keeps n problem value before lines r report k after is =
     record { reached = h.reached; few = h.few; lost = h.lost }
 
 -- and so it is in a game by a claim
-pub claim_keeps : {c : Claim} → IsClaim c → Won c → (before : ℕ) (lines : Lines) (r : Report) → IsReport before lines (claimed_match c) r
+pub claim_keeps : {c : Claim} → IsClaim c → Won c → (before : ℕ) (lines : Lines) (r : GameReport) → IsReport before lines (claimed_match c) r
     → (k : ℕ) (after : Match) → slice_get r.games k ≡ Some after → IsLostGame c k after
 claim_keeps {c} is_claim won before lines r report k after is =
     let h = report_after c.winner c.position c.moves (ByClaim c) (IsClaimed c) (λ p ply d pick. pick)

@@ -1,7 +1,7 @@
 -- The laws of what comes of a kept file.
-use Rattle.std.proofs.Common.{◌≡◌, ◌⊎◌, ℕ, List, [], ◌++◌, take, Option, Some, None, IfSome, Result, Ok, Err, inl, inr, sym, ◌∙◌, ap, subst, arith}
+use Rattle.std.proofs.Common.{◌≡◌, ◌⊎◌, ◌≤◌, ℕ, List, [], ◌++◌, take, Option, Some, None, IfSome, Result, Ok, Err, inl, inr, refl, sym, ◌∙◌, ap, subst, arith}
 use Rattle.std.specs.FinMap as map
-use Rattle.std.specs.Prelude.{IsSomeAnd}
+use Rattle.std.specs.Prelude.{IsSomeAnd, codes, length, slice_get}
 use Rattle.std.proofs.lemmas.List.{append-nil, append_cancel_left}
 use Rattle.claim_plan.proofs.CheckLaws.{check_finds_first, ends_where_won, none_fails_where_won}
 use Rattle.claim_plan.proofs.ClaimLemmas.{won_is_value}
@@ -17,43 +17,47 @@ use Rattle.strategy_file.specs.Claims.{claim_with}
 use Rattle.strategy_file.specs.KeptFile.{IsReadAsWon}
 use Rattle.strategy_file.specs.Layout.{Refusal}
 use Rattle.strategy_file.specs.StrategyFile.{Charts, File}
+use Rattle.strategy_file.specs.Written.{most_bytes}
 use Rattle.strategy_file.specs.declared.version.Version.TheVariants.{Shared}
 use Rattle.winning_sets.specs.Solve.{IsSolveError}
 use Rattle.winning_sets.specs.declared.names.SolveError.TheVariants as solve_error
-use Rattle.desk_games.specs.Check.{CheckReports}
-use Rattle.desk_games.specs.FileClaim.{IsReadAs, OfClaim, OfFile, OfFound, OfOutcome}
-use Rattle.desk_games.specs.Keep.{IsFileToKeep, KeepReports}
-use Rattle.mate_desk.specs.Laws.{CheckedAfterKeep, HasKept, NamesCheckStep, ResumeKeeps, ResumesGame}
+use Rattle.desk_files.specs.Check.{CheckReports}
+use Rattle.desk_files.specs.FileClaim.{IsReadAs, OfChecked, OfClaim, OfFound, OfOutcome}
+use Rattle.desk_files.specs.FileLines.{file_line, file_refused, too_large_line}
+use Rattle.desk_files.specs.Keep.{IsFileToKeep, KeepReports}
+use Rattle.desk_files.specs.Keeping.{FileReports}
+use Rattle.desk_files.specs.Migrate.{IsMigrated, MigrateReports, migrated_file}
+use Rattle.mate_desk.specs.Laws.{CheckedAfterKeep, HasKept, IsCarried, MigrateCarries, NamesCheckStep, ResumeKeeps, ResumesGame}
 use Rattle.desk_report.specs.Outcome.{Report, Seen, done_with}
-use Rattle.mate_desk.specs.Command.{OfRead, OfSound}
+use Rattle.mate_desk.specs.Command.{OfName, OfRead, OfSound}
 use Rattle.desk_games.specs.Resume.{GameReports, ResumeReports}
 use Rattle.desk_text.specs.Text.{Text, whole, refused}
 use Rattle.desk_verdict.specs.Verdict.{mate_line}
-use Rattle.desk_words.specs.declared.order.Order.TheVariants.{Keep, Check, Resume}
+use Rattle.desk_words.specs.declared.order.Order.TheVariants.{Keep, Check, Resume, Migrate}
 use Rattle.desk_text.specs.declared.problem.Problem.{Problem}
 use Rattle.desk_report.specs.declared.status.Status.TheVariants as is
 use Rattle.mate_desk.proofs.Exact.{of_words, one_line}
 use Rattle.mate_desk.proofs.Following.{claim_keeps}
 use Rattle.mate_desk.proofs.Headline.{take_none, told_bytes}
 use Rattle.mate_desk.proofs.ReadClaims.{read_is_claim}
-use Rattle.desk_games.proofs.Shelves.{has_put}
+use Rattle.desk_files.proofs.Shelves.{has_put, put_others}
 
 -- what is said of the claim of a file may be more
 module _ (one more : Claim → Report → Type 0) (budget : ℕ) (files : Files) (report : Report)
     (says : (bytes : List ℕ) (charts : Charts) → File bytes (Ok charts) → plan.Ends (check_plan (claim_with charts)) budget None
     → one (claim_with charts) report → more (claim_with charts) report) where
-  outcome_more : (bytes : List ℕ) (outcome : Result Charts Refusal) → File bytes outcome → OfOutcome one budget files outcome report → OfOutcome more budget files outcome report
+  outcome_more : (bytes : List ℕ) (outcome : Result Charts Refusal) → File bytes outcome → OfOutcome (OfClaim one budget files) files outcome report → OfOutcome (OfClaim more budget files) files outcome report
   outcome_more bytes (Err refusal) file right = right
   outcome_more bytes (Ok charts) file (inl over) = inl over
   outcome_more bytes (Ok charts) file (inr (inl failed)) = inr (inl failed)
   outcome_more bytes (Ok charts) file (inr (inr (keeps, right))) = inr (inr (keeps, says bytes charts file keeps right))
 
-  found_more : (found : Option (List ℕ)) → OfFound one budget files found report → OfFound more budget files found report
+  found_more : (found : Option (List ℕ)) → OfFound (OfClaim one budget files) files found report → OfFound (OfClaim more budget files) files found report
   found_more None right = right
   found_more (Some bytes) (inl long) = inl long
   found_more (Some bytes) (inr (short, (outcome, file, right))) = inr (short, (outcome, file, outcome_more bytes outcome file right))
 
-  file_more : (name : List ℕ) → OfFile one budget name files report → OfFile more budget name files report
+  file_more : (name : List ℕ) → OfChecked one budget name files report → OfChecked more budget name files report
   file_more name right = found_more (map.get files name) right
 
 pub resume_keeps : ResumeKeeps
@@ -164,15 +168,15 @@ module _ (n other : ℕ) (name : List ℕ) (files kept given : Files) (l : Leave
       let none : Some failed ≡ None = (none_fails_where_won c (Some failed) won.claim (check_finds_first c ends.entries (Some failed) won.claim ends.takes)).1 won.won in absurd (cc)
   claim_told (inr (inr (keeps, is'))) = inl (is' ∙ ap (λ m. done_with files (mate_line m)) won.moves_are)
 
-  bytes_told : OfFound Prints other files (Some l.bytes) report → Told
+  bytes_told : OfFound (OfClaim Prints other files) files (Some l.bytes) report → Told
   bytes_told (inl (long, is')) = let small = l.file.small in absurd (omega (arith, long, small))
   bytes_told (inr (short, (outcome, file, right))) =
-      let P : Result Charts Refusal → Type 0 = λ o. OfOutcome Prints other files o report in
+      let P : Result Charts Refusal → Type 0 = λ o. OfOutcome (OfClaim Prints other files) files o report in
       claim_told (subst P (one_outcome l.bytes outcome (Ok won.charts) file won.read) right)
 
   file_told : CheckReports other name files report → Told
   file_told right =
-      let P : Option (List ℕ) → Type 0 = λ o. OfFound Prints other files o report in
+      let P : Option (List ℕ) → Type 0 = λ o. OfFound (OfClaim Prints other files) files o report in
       bytes_told (subst P found right)
 
 pub checked_after_keep : CheckedAfterKeep
@@ -180,3 +184,44 @@ checked_after_keep words later n budget other name kept files old new bytes repo
     let Named : Option (List ℕ) → Type 0 = λ o. IsSomeAnd o (λ name'. CheckReports other name' files report) in
     file_told n other name files kept h.ends.given.files (leaves words n budget name kept old new h) still report
     (subst Named named (of_words later bytes files (Check other) report ordered reports))
+
+-- what a run of `migrate` that is done has left
+module _ (from to : List ℕ) (given before after : Files) (before_is : before ≡ given) (report : Report) (done : report.status ≡ is.Done) (left : after ≡ report.files) where
+  abbrev Migrates : Claim → Report → Type 0
+  Migrates c = FileReports (migrated_file c) to given
+
+  put_carried : (charts : Charts) (bytes : List ℕ) → IsReadAs from given (Ok charts) → IsMigrated (claim_with charts) bytes → after ≡ map.insert given to bytes → IsCarried from to before after
+  put_carried charts bytes read is' put = record {
+    charts = charts;
+    read = subst (λ f. IsReadAs from f (Ok charts)) (sym before_is) read;
+    migrated = is'.same.charts;
+    read_again = record { bytes = bytes; found = ap (λ f. map.get f to) put ∙ has_put given to bytes; short = is'.small; file = is'.same.read };
+    same = is'.same.same;
+    others = λ name other. ap (λ f. map.get f name) put ∙ put_others given to bytes name other ∙ ap (λ f. map.get f name) (sym before_is);
+  }
+
+  no_refusal : (line : List ℕ) → report ≡ file_refused given line → ⊥
+  no_refusal line is' = let e : is.Done ≡ is.File = sym done ∙ ap (λ r. r.status) is' in absurd (cc)
+
+  outcome_carried : (bytes : List ℕ) → map.get given from ≡ Some bytes → length bytes ≤ most_bytes → (outcome : Result Charts Refusal) → File bytes outcome
+      → OfOutcome Migrates given outcome report → IsCarried from to before after
+  outcome_carried bytes at short (Err refusal) file is' = absurd (no_refusal (file_line refusal) is')
+  outcome_carried bytes at short (Ok charts) file (inl (kept, migrated, is')) =
+      put_carried charts kept (record { bytes = bytes; found = at; short = short; file = file }) migrated (left ∙ ap (λ r. r.files) is')
+  outcome_carried bytes at short (Ok charts) file (inr (size, large, is')) = absurd (no_refusal (too_large_line size) is')
+
+  found_carried : (found : Option (List ℕ)) → map.get given from ≡ found → OfFound Migrates given found report → IsCarried from to before after
+  found_carried None at is' = absurd (no_refusal (codes "file missing\n") is')
+  found_carried (Some bytes) at (inl (long, is')) = absurd (no_refusal (codes "file too long\n") is')
+  found_carried (Some bytes) at (inr (short, (outcome, file, right))) = outcome_carried bytes at short outcome file right
+
+pub migrate_carries : MigrateCarries
+migrate_carries words from to before after old new h =
+    let given = h.ends.given.files in
+    let report = h.ends.ends.0 in
+    let Between : Option (List ℕ) → Type 0 = λ b. IsSomeAnd b (λ to'. MigrateReports from to' given report) in
+    let Named : Option (List ℕ) → Type 0 = λ a. IsSomeAnd a (λ from'. OfName (slice_get words 2) (λ to'. MigrateReports from' to' given) report) in
+    let read = of_words words (h.ends.given.taken ++ h.ends.given.rest) given Migrate report h.ordered h.ends.ends.1 in
+    found_carried from to given before after (kept_before old.files before given h.files_before h.ends.given.kept) report (sym h.ends.ends.2.reported)
+    (kept_after old.files new.files before after report.files h.files_before h.files_after h.ends.ends.2.files) (map.get given from) refl
+    (subst Between h.to_named (subst Named h.from_named read))

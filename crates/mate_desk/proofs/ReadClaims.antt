@@ -1,5 +1,5 @@
 -- What is read of a file is a claim.
-use Rattle.std.proofs.Common.{◌≡◌, ℕ, zero, suc, ◌≤◌, Bool, true, false, List, [], ◌∷◌, length, map, Option, Some, None, Result, Ok, Err, inl, inr, refl, sym, ◌∙◌, ap, subst, arith}
+use Rattle.std.proofs.Common.{◌≡◌, ℕ, zero, suc, ◌≤◌, Bool, true, false, List, [], ◌∷◌, length, map, Option, Some, None, Result, Ok, Err, inl, inr, refl, sym, ◌∙◌, ap, subst}
 use Rattle.std.specs.Prelude.{◌&&◌, Contains, MatchOption, if◌then◌else◌, nat_le}
 use Rattle.std.specs.List.{All}
 use Rattle.std.proofs.lemmas.Bool.{and_parts, leb-true}
@@ -12,7 +12,7 @@ use Rattle.strategy_file.proofs.FileClaims.{found_in, place_of, at_place, is_som
 use Rattle.strategy_file.proofs.Greatest.{few_men}
 use Rattle.strategy_file.proofs.LosersPlies.{places_of-are}
 use Rattle.strategy_file.specs.Claims.{claim_with, set_with}
-use Rattle.strategy_file.specs.Layout.{Ends, Give, Layout, Read, Reads, Refusal, bind, each, repeated}
+use Rattle.strategy_file.specs.Layout.{IsFileEnd, Give, Layout, Read, Reads, Refusal, bind, each, repeated}
 use Rattle.strategy_file.specs.Men.{Start, man_layout, start_layout, start_with}
 use Rattle.strategy_file.specs.StrategyFile.{Chart, Charts, File, GoesOn, chart_layout, chart_with, charts_layout, charts_with, places_of, sets_layout}
 use Rattle.strategy_file.specs.Tables.{Table, table_layout}
@@ -128,7 +128,7 @@ charts_read start charts sound few h =
     let P : Charts → Type 0 = λ c. IsRead c in
     subst P (sym sets.then_given) (record { sound = sound; few = few; places_are = all.places_are; over = all.over })
 
-ends_as_given : (given charts : Charts) (at : ℕ) (bytes : List ℕ) → Ends given at bytes (Ok charts) → charts ≡ given
+ends_as_given : (given charts : Charts) (at : ℕ) (bytes : List ℕ) → IsFileEnd given at bytes (Ok charts) → charts ≡ given
 ends_as_given given charts at [] h = cc
 ends_as_given given charts at (b ∷ bytes) h = absurd (cc)
 
@@ -140,7 +140,7 @@ file_read bytes charts file =
     go : (start : Start) (at : ℕ) (rest : List ℕ) → length start.position.men ≤ 8 → GoesOn start at rest (Ok charts) → IsRead charts
     go start at rest few (inl (unsound, e)) = absurd (cc)
     go start at rest few (inr (sound, reads)) =
-        let r = read_whole Ends charts (charts_layout start) at rest reads in
+        let r = read_whole IsFileEnd charts (charts_layout start) at rest reads in
         let P : Charts → Type 0 = λ c. IsRead c in
         subst P (sym (ends_as_given r.value charts r.at r.bytes r.goes_on)) (charts_read start r.value sound few r.given)
 

@@ -1,6 +1,6 @@
 -- How a run ends, from how its parts do.
 use Rattle.std.proofs.Common.{◌≡◌, ◌≢◌, ◌+◌, ◌++◌, ℕ, List, [], length, take, Option, Some, None, IfSome, Result, Ok, Err, false, inr, refl, sym, ap, ◌∙◌, subst, append_assoc, arith}
-use Rattle.std.specs.Prelude.{IsSomeAnd, codes, unwrap_or}
+use Rattle.std.specs.Prelude.{IsSomeAnd, codes, slice_get, unwrap_or}
 use Rattle.std.specs.Io.KnownBytes.{Consumes}
 use Rattle.std.proofs.KnownBytes.{Consumes-nil}
 use Rattle.std.proofs.lemmas.List.{append-nil}
@@ -12,12 +12,14 @@ use Rattle.chess_game.specs.Unsoundness.{IsFirstUnsoundness}
 use Rattle.chess_game.specs.declared.unsoundness.Unsound.{Unsound}
 use Rattle.chess_text.specs.PositionText.{text_of_lines}
 use Rattle.desk_text.specs.Taken.{TakesLines}
-use Rattle.desk_games.specs.Check.{CheckReports}
+use Rattle.desk_files.specs.Check.{CheckReports}
 use Rattle.desk_report.specs.FaultLines.{unsound_line}
-use Rattle.desk_games.specs.FileClaim.{MissesFetch, OnFiles}
-use Rattle.desk_games.specs.Keep.{HasFileToKeep, KeepReports, MissesKeep}
-use Rattle.desk_words.specs.Order.{Ordered, name_in, usage_line}
-use Rattle.desk_report.specs.Outcome.{Ends, Leaves, KeepsFiles, NeverMisses, Report, Seen, Writes, WriteFailed, of_shelf, of_sink, of_streams, refusal_as, reported_on}
+use Rattle.desk_files.specs.FileClaim.{MissesFetch, OnFiles}
+use Rattle.desk_files.specs.Keep.{HasFileToKeep, KeepReports}
+use Rattle.desk_files.specs.Keeping.{MissesKeep}
+use Rattle.desk_files.specs.Migrate.{MigrateReports, MissesMigrate}
+use Rattle.desk_words.specs.Order.{IsOfFiles, Ordered, name_in, usage_line}
+use Rattle.desk_report.specs.Outcome.{RunEndsAs, Leaves, KeepsFiles, NeverMisses, Report, Seen, Writes, WriteFailed, of_shelf, of_sink, of_streams, refusal_as, reported_on}
 use Rattle.desk_report.specs.ByLines.{EndsByLines}
 use Rattle.mate_desk.specs.Command.{IsBehindText, OfName, OfText}
 use Rattle.mate_desk.specs.Report.{MayLackMemory, MayMissShelf, OrderMayLack, Reports, ReportsOrder, TakesMemory}
@@ -27,7 +29,7 @@ use Rattle.desk_text.specs.Text.{TextAt, whole, refused, is_end, refusal_line}
 use Rattle.desk_text.specs.TextRead.{IsMissing, IsShort, TextRead}
 use Rattle.desk_verdict.specs.Verdict.{HasNothingToPlay}
 use Rattle.desk_words.specs.declared.order.Order.{Order}
-use Rattle.desk_words.specs.declared.order.Order.TheVariants.{Keep, Check, Resume}
+use Rattle.desk_words.specs.declared.order.Order.TheVariants.{Keep, Check, Resume, Migrate}
 use Rattle.desk_words.specs.declared.order.UsageWhy.{UsageWhy}
 use Rattle.desk_text.specs.declared.problem.Problem.{Problem}
 use Rattle.desk_report.specs.declared.status.Status.{Status}
@@ -36,20 +38,21 @@ use Rattle.desk_text.specs.declared.text.LineWhy.{LineWhy}
 use Rattle.desk_text.specs.declared.text.LineWhy.TheVariants.{Missing}
 use Rattle.desk_text.specs.declared.text.TextEnd.{TextEnd}
 use Rattle.desk_text.specs.declared.text.TextEnd.TheVariants.{Fault, Refused}
-use Rattle.desk_games.proofs.Rows.{keep_row, resume_row}
+use Rattle.desk_files.proofs.Rows.{keep_row}
+use Rattle.desk_games.proofs.Rows.{resume_row}
 use Rattle.desk_report.proofs.One.{IsNotUsage}
 use Rattle.mate_desk.proofs.Rows.{RefusesText, order_status, refuses_as}
-use Rattle.desk_games.proofs.Shelves.{files_of, known_files, same_kept}
+use Rattle.desk_files.proofs.Shelves.{files_of, known_files, same_kept}
 use Rattle.desk_text.proofs.TextSteps.{known_rest}
 use Rattle.desk_report.proofs.Writing.{at_files, at_sink, ends_as, no_read_fault, on_all, unchanged, with_source}
 
 -- where nothing that is reported has the status of words that are no order, the run has not
 pub not_usage : (status : Status) (reports : Report → Type 0) (may_lack : Type 0) (may_miss : Option (List ℕ) → Type 0) (old new : Seen)
     → ((report : Report) → reports report → IsNotUsage report)
-    → Ends status reports may_lack may_miss old new → status ≢ is.Usage
+    → RunEndsAs status reports may_lack may_miss old new → status ≢ is.Usage
 not_usage status reports may_lack may_miss old new not ends same =
-    let P : Status → Type 0 = λ s. Ends s reports may_lack may_miss old new in
-    let ended : Ends is.Usage reports may_lack may_miss old new = subst P same ends in
+    let P : Status → Type 0 = λ s. RunEndsAs s reports may_lack may_miss old new in
+    let ended : RunEndsAs is.Usage reports may_lack may_miss old new = subst P same ends in
     not ended.0 ended.1 (sym ended.2.reported)
 
 left_files : (told : Option Files) → Go told told (λ before after. after ≡ files_of told)
@@ -87,11 +90,11 @@ takes_lines words files status taken pending not t = takes_any words files statu
 -- so a run of an order ends whose source has not failed
 pub run_ends : (words : List (List ℕ)) (status : Status) (old new : Seen) (given : Given old new) (pending : List ℕ)
     → TakesLines (IsLineDue words given.files) given.taken pending → status ≢ is.Usage → status ≢ is.ReadFault
-    → Ends status (λ report. Reports words (given.taken ++ given.rest) given.files report) (MayLackMemory words given.taken)
-    (MayMissShelf words given.taken) old new
+    → RunEndsAs status (λ report. Reports words (given.taken ++ given.rest) given.files report) (MayLackMemory words given.taken)
+    (MayMissShelf words given.taken given.files) old new
     → RunEnds words status old new
 run_ends words status old new given pending takes no_usage no_fault ends =
-    let P : List ℕ → Type 0 = λ b. Ends status (λ report. Reports words b given.files report) (MayLackMemory words given.taken) (MayMissShelf words given.taken) old new in
+    let P : List ℕ → Type 0 = λ b. RunEndsAs status (λ report. Reports words b given.files report) (MayLackMemory words given.taken) (MayMissShelf words given.taken given.files) old new in
     record {
       given = given;
       takes = takes_lines words given.files status given.taken pending no_usage takes;
@@ -131,7 +134,7 @@ module _ (words : List (List ℕ)) (old new : Seen) (same : new.files ≡ old.fi
   -- a command that reads nothing, and has the sink alone
   pub words_ends : (order : Order) (says : Files → Report → Type 0) (some : Type 0) (status : Status) → Ordered words (Ok order) → new.left ≡ old.left
       → ((bytes : List ℕ) (files : Files) (report : Report) → says files report → ReportsOrder order words bytes files report) → (some → OrderMayLack order [])
-      → ((files : Files) → Ends status (says files) some NeverMisses (of_sink files old.written old.write_faults) (of_sink files new.written new.write_faults))
+      → ((files : Files) → RunEndsAs status (says files) some NeverMisses (of_sink files old.written old.write_faults) (of_sink files new.written new.write_faults))
       → RunEnds words status old new
   words_ends order says some status ordered left more lacks ends =
       let files = files_of old.files in
@@ -140,7 +143,7 @@ module _ (words : List (List ℕ)) (old new : Seen) (same : new.files ≡ old.fi
         given = given_nothing left;
         takes = takes_nothing words files status;
         ends =
-            ends_as status (says files) (λ report. Reports words bytes files report) some (MayLackMemory words []) NeverMisses (MayMissShelf words []) old new
+            ends_as status (says files) (λ report. Reports words bytes files report) some (MayLackMemory words []) NeverMisses (MayMissShelf words [] files) old new
             (λ report right. (Ok order, ordered, more bytes files report right)) (λ is_some. (order, ordered, lacks is_some)) (λ keeping never. absurd never)
             (at_sink files old new (known_files old.files) (unchanged old.files new.files same) status (says files) some (ends files));
       }
@@ -237,13 +240,13 @@ module _ (words : List (List ℕ)) (old new : Seen) (same : new.files ≡ old.fi
       -- the run ends as its command does, which has the sink alone
       pub command_ends : (status : Status) (reports : Report → Type 0) (may_lack : Type 0)
           → ((report : Report) → reports report → ReportsOrder order words (t.bytes ++ t.rest) files report) → (may_lack → OrderMayLack order t.bytes)
-          → Ends status reports may_lack NeverMisses (of_sink files old.written old.write_faults) (of_sink files new.written new.write_faults) → RunEnds words status old new
+          → RunEndsAs status reports may_lack NeverMisses (of_sink files old.written old.write_faults) (of_sink files new.written new.write_faults) → RunEnds words status old new
       command_ends status reports may_lack says lacks ends =
           run_ends words status old new (given_text (Ok problem) t) pending (lines_due t.takes)
           (not_usage status reports may_lack NeverMisses (of_sink files old.written old.write_faults) (of_sink files new.written new.write_faults)
           (λ report right. order_status order words (t.bytes ++ t.rest) files report (says report right)) ends)
           (no_read_fault status reports may_lack NeverMisses (of_sink files old.written old.write_faults) (of_sink files new.written new.write_faults) refl refl ends)
-          (ends_as status reports (λ report. Reports words (t.bytes ++ t.rest) files report) may_lack (MayLackMemory words t.bytes) NeverMisses (MayMissShelf words t.bytes) old new
+          (ends_as status reports (λ report. Reports words (t.bytes ++ t.rest) files report) may_lack (MayLackMemory words t.bytes) NeverMisses (MayMissShelf words t.bytes files) old new
           (λ report right. (Ok order, ordered, says report right)) (λ lack. (order, ordered, lacks lack)) (λ keeping never. absurd never)
           (at_sink files old new (known_files old.files) (unchanged old.files new.files same) status reports may_lack ends))
 
@@ -251,7 +254,7 @@ module _ (words : List (List ℕ)) (old new : Seen) (same : new.files ≡ old.fi
 module _ (words : List (List ℕ)) (old new : Seen) (same : new.files ≡ old.files) (pending : List ℕ) (problem : Problem)
     (t : TextRead (Ok problem) pending old.left new.left) (sound : Sound problem.position) (status : Status) where
   abbrev EndsWithSink : (Files → Report → Type 0) → Type 0 → Type 0
-  EndsWithSink reports may_lack = (files : Files) → Ends status (reports files) may_lack NeverMisses (of_sink files old.written old.write_faults) (of_sink files new.written new.write_faults)
+  EndsWithSink reports may_lack = (files : Files) → RunEndsAs status (reports files) may_lack NeverMisses (of_sink files old.written old.write_faults) (of_sink files new.written new.write_faults)
 
   pub text_ends : (order : Order) → Ordered words (Ok order) → (says : Problem → Files → Report → Type 0) (takes : Problem → Type 0)
       → ((bytes : List ℕ) (files : Files) (report : Report) → OfText (λ p rest. says p files) files bytes report → ReportsOrder order words bytes files report)
@@ -273,12 +276,12 @@ module _ (words : List (List ℕ)) (old new : Seen) (pending : List ℕ) (proble
 
   pub keep_ends : (n budget : ℕ) (name : List ℕ) → Ordered words (Ok (Keep n budget)) → name_in (Keep n budget) words ≡ Some name
       → ((files : Files) → IfSome old.files (λ told. told ≡ files)
-      → Ends status (KeepReports n budget problem name files) (¬ HasNothingToPlay n problem) (MissesKeep name (HasFileToKeep n budget problem))
+      → RunEndsAs status (KeepReports n budget problem name files) (¬ HasNothingToPlay n problem) (MissesKeep name (HasFileToKeep n budget problem))
       (of_shelf old.written old.files old.write_faults old.shelf_faults) (of_shelf new.written new.files new.write_faults new.shelf_faults))
       → RunEnds words status old new
   keep_ends n budget name ordered named ends =
       let order = Keep n budget in
-      let refuses = refuses_as (λ r rest files. OfName (name_in order words) (λ name'. KeepReports n budget r name' files)) (ReportsOrder order words) (λ bytes files report right. right) in
+      let refuses = refuses_as (λ r rest files. OfName (slice_get words 2) (λ name'. KeepReports n budget r name' files)) (ReportsOrder order words) (λ bytes files report right. right) in
       let files = files_of old.files in
       let before = of_shelf old.written old.files old.write_faults old.shelf_faults in
       let after = of_shelf new.written new.files new.write_faults new.shelf_faults in
@@ -286,16 +289,16 @@ module _ (words : List (List ℕ)) (old new : Seen) (pending : List ℕ) (proble
       let reports : Report → Type 0 = KeepReports n budget problem name files in
       let lacks : Type 0 = ¬ HasNothingToPlay n problem in
       let misses : Option (List ℕ) → Type 0 = MissesKeep name (HasFileToKeep n budget problem) in
-      let ended : Ends status reports lacks misses before after = ends files (known_files old.files) in
+      let ended : RunEndsAs status reports lacks misses before after = ends files (known_files old.files) in
       run_ends words status old new (record { taken = t.bytes; rest = t.rest; files = files; consumed = t.taken; left = t.left; kept = known_files old.files }) pending
       (lines_due words old read refl order ordered refuses pending t.takes)
       (not_usage status reports lacks misses before after (λ report right. (keep_row n budget problem name files).not_usage report right) ended)
       (no_read_fault status reports lacks misses before after refl refl ended)
-      (ends_as status reports (λ report. Reports words (t.bytes ++ t.rest) files report) lacks (MayLackMemory words t.bytes) misses (MayMissShelf words t.bytes) old new
+      (ends_as status reports (λ report. Reports words (t.bytes ++ t.rest) files report) lacks (MayLackMemory words t.bytes) misses (MayMissShelf words t.bytes files) old new
       (λ report right. (
         Ok order,
         ordered,
-        of_problem words old read refl order ordered refuses pending problem t (λ r rest. OfName (name_in order words) (λ name'. KeepReports n budget r name' files)) sound report
+        of_problem words old read refl order ordered refuses pending problem t (λ r rest. OfName (slice_get words 2) (λ name'. KeepReports n budget r name' files)) sound report
             (subst (λ o. Named o report) (sym named) right),
       ))
       (λ lack. (order, ordered, behind_text words old read refl order ordered refuses pending problem t (TakesMemory order) sound lack))
@@ -309,7 +312,7 @@ module _ (words : List (List ℕ)) (old new : Seen) (pending : List ℕ) (proble
 -- `check` reads nothing, and has the sink and the shelf
 module _ (words : List (List ℕ)) (old new : Seen) (status : Status) where
   pub check_ends : (budget : ℕ) (name : List ℕ) → Ordered words (Ok (Check budget)) → name_in (Check budget) words ≡ Some name → new.left ≡ old.left
-      → OnFiles old.files (λ files. Ends status (CheckReports budget name files) (Unit {0}) (MissesFetch [])
+      → OnFiles old.files (λ files. RunEndsAs status (CheckReports budget name files) (Unit {0}) (MissesFetch [])
       (of_shelf old.written old.files old.write_faults old.shelf_faults) (of_shelf new.written new.files new.write_faults new.shelf_faults))
       → RunEnds words status old new
   check_ends budget name ordered named left (files, kept, ends) =
@@ -330,10 +333,41 @@ module _ (words : List (List ℕ)) (old new : Seen) (status : Status) where
         };
         takes = takes_nothing words files status;
         ends =
-            ends_as status (CheckReports budget name files) (λ report. Reports words bytes files report) (Unit {0}) (MayLackMemory words []) (MissesFetch []) (MayMissShelf words []) old new
+            ends_as status (CheckReports budget name files) (λ report. Reports words bytes files report) (Unit {0}) (MayLackMemory words []) (MissesFetch []) (MayMissShelf words [] files) old new
             (λ report right. (Ok order, ordered, subst (λ o. Named o report) (sym named) right)) (λ some. (order, ordered, refl))
             (λ keeping miss. (order, ordered, miss))
             (with_source status (CheckReports budget name files) (Unit {0}) (MissesFetch []) old new ends);
+      }
+
+  -- so does `migrate`
+  pub migrate_ends : (from to : List ℕ) → IsOfFiles from to words → new.left ≡ old.left
+      → OnFiles old.files (λ files. RunEndsAs status (MigrateReports from to files) (Unit {0}) (MissesMigrate from to files)
+      (of_shelf old.written old.files old.write_faults old.shelf_faults) (of_shelf new.written new.files new.write_faults new.shelf_faults))
+      → RunEnds words status old new
+  migrate_ends from to o left (files, kept, ends) =
+      let rest = unwrap_or old.left [] in
+      let L : Option (List ℕ) → Type 0 = λ l. IfSome l (λ told. told ≡ rest) in
+      let C : Option (List ℕ) → Type 0 = λ l. Consumes old.left l [] in
+      let Between : Option (List ℕ) → Report → Type 0 = λ b report. IsSomeAnd b (λ to'. MigrateReports from to' files report) in
+      let Named : Option (List ℕ) → Report → Type 0 = λ a report. IsSomeAnd a (λ from'. OfName (slice_get words 2) (λ to'. MigrateReports from' to' files) report) in
+      let bytes = reported_on status [] rest in
+      record {
+        given = record {
+          taken = [];
+          rest = rest;
+          files = files;
+          consumed = subst C (sym left) (Consumes-nil old.left);
+          left = subst L (sym left) (known_rest old.left);
+          kept = kept;
+        };
+        takes = takes_nothing words files status;
+        ends =
+            ends_as status (MigrateReports from to files) (λ report. Reports words bytes files report) (Unit {0}) (MayLackMemory words []) (MissesMigrate from to files)
+            (MayMissShelf words [] files) old new
+            (λ report right. (Ok Migrate, o.ordered, subst (λ a. Named a report) (sym o.from_named) (subst (λ b. Between b report) (sym o.to_named) right)))
+            (λ some. (Migrate, o.ordered, refl))
+            (λ keeping fails. (Migrate, o.ordered, record { none = refl; from = from; to = to; from_named = o.from_named; to_named = o.to_named; fails = fails }))
+            (with_source status (MigrateReports from to files) (Unit {0}) (MissesMigrate from to files) old new ends);
       }
 
   -- `resume` reads lines alone
@@ -361,7 +395,7 @@ module _ (words : List (List ℕ)) (old new : Seen) (status : Status) where
             lines;
         ends =
             ends_as status (ResumeReports budget (lines_of all) name files) (λ report. Reports words all files report) (p.bytes ≡ [])
-            (MayLackMemory words p.bytes) (MissesFetch p.bytes) (MayMissShelf words p.bytes) old new
+            (MayLackMemory words p.bytes) (MissesFetch p.bytes) (MayMissShelf words p.bytes files) old new
             (λ report right. says all report right) (λ none. (order, ordered, none)) (λ keeping miss. (order, ordered, miss)) p.ends;
       }
 
@@ -413,7 +447,7 @@ module _ (words : List (List ℕ)) (old new : Seen) (status : Status) where
             (not_usage status reports (lack p.bytes) NeverMisses (seen_in files old) (seen_in files new)
             (λ report right. order_status order words all files report (more all files report right)) p.ends) lines;
         ends =
-            ends_as status reports (λ report. Reports words all files report) (lack p.bytes) (MayLackMemory words p.bytes) NeverMisses (MayMissShelf words p.bytes) old new
+            ends_as status reports (λ report. Reports words all files report) (lack p.bytes) (MayLackMemory words p.bytes) NeverMisses (MayMissShelf words p.bytes files) old new
             (λ report right. (Ok order, ordered, more all files report right)) (λ some. (order, ordered, lacks p.bytes some)) (λ keeping never. absurd never)
             (at_files files old new (known_files old.files) (unchanged old.files new.files same) old.left new.left old.read_faults new.read_faults
             (λ risen. risen) status reports (lack p.bytes) p.ends);

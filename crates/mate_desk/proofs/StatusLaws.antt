@@ -4,7 +4,7 @@ use Rattle.std.specs.Prelude.{IfOk}
 use Rattle.desk_base.specs.Files.{Files}
 use Rattle.desk_base.specs.Lines.{Lines, ended, lines_of}
 use Rattle.mate_desk.specs.Laws.{FaultsAreCounted, MemoryLast, NoShelfFault, UsageExactly}
-use Rattle.desk_words.specs.Order.{Ordered, name_in, usage_line}
+use Rattle.desk_words.specs.Order.{Ordered, usage_line}
 use Rattle.desk_report.specs.Outcome.{Report, Seen, refusal_as}
 use Rattle.mate_desk.specs.Command.{IsBehindText}
 use Rattle.mate_desk.specs.Report.{OrderMayLack, ReadsNoText, Reports, ReportsWords, TakesMemory, UsesNoShelf}
@@ -129,7 +129,7 @@ no_shelf_fault words order status old new ordered none run same =
     let miss = ended.ends.1 in
     let Q : Result Order UsageWhy → Type 0 = λ r. IfOk r UsesNoShelf in
     let unused : UsesNoShelf miss.0 = subst Q (once_words (Ok order) (Ok miss.0) words ordered miss.1) none in
-    (in_order miss.0).no_shelf (name_in miss.0 words) ended.given.taken ended.ends.0 unused miss.2
+    (in_order miss.0).no_shelf words ended.given.taken ended.given.files ended.ends.0 unused miss.2
 
 pub faults_are_counted : FaultsAreCounted
 faults_are_counted = record {

@@ -22,7 +22,7 @@ use Rattle.desk_words.specs.declared.order.Order.{Order}
 use Rattle.desk_text.specs.declared.problem.Problem.{Problem}
 use Rattle.desk_report.specs.declared.status.Status.{Status}
 use Rattle.desk_report.specs.declared.status.Status.TheVariants as is
-use Rattle.desk_games.proofs.Shelves.{files_of, known_files}
+use Rattle.desk_files.proofs.Shelves.{files_of, known_files}
 use Rattle.mate_desk.proofs.Reporting.{line_due, not_usage, takes_lines}
 use Rattle.mate_desk.proofs.Rows.{order_status, refuses_as}
 use Rattle.desk_report.proofs.Writing.{at_files, ends_as, unchanged}
@@ -166,7 +166,7 @@ module _ (words : List (List ℕ)) (old new : Seen) (same : new.files ≡ old.fi
               takes_all;
           ends =
               ends_as status reports (λ report. Reports words (reported_on status taken p.rest) files report) (lack p.bytes)
-              (MayLackMemory words taken) NeverMisses (MayMissShelf words taken) old new
+              (MayLackMemory words taken) NeverMisses (MayMissShelf words taken files) old new
               all_says may_lack (λ keeping never. absurd never)
               (at_files files old new (known_files old.files) (unchanged old.files new.files same) mid new.left reads new.read_faults rises status reports (lack p.bytes) p.ends);
         }

@@ -1,5 +1,5 @@
 -- What comes of a run on the text of a sound position that its source tells.
-use Rattle.std.proofs.Common.{◌≡◌, ◌≢◌, ℕ, List, ◌++◌, length, take, drop, Some, inl, inr, refl, sym, ◌∙◌, ap, subst, append_assoc}
+use Rattle.std.proofs.Common.{◌≡◌, ◌≢◌, ℕ, List, ◌++◌, take, drop, Some, inl, inr, refl, sym, ◌∙◌, ap, subst, append_assoc}
 use Rattle.std.proofs.lemmas.List.{drop_all, take-append-drop}
 use Rattle.std.specs.Prelude.{codes}
 use Rattle.desk_base.specs.Files.{Files}
@@ -132,7 +132,7 @@ module _ (words : List (List ℕ)) (n budget : ℕ) (p : Position) (winner : Sid
 
     as_first : (problem : Problem) (lines : Lines) → problem ≡ first → TextAt taken (whole problem lines) → OfSound (Says problem lines) files problem.position report
         → PlaysTaken n budget first taken files report
-    as_first problem lines same at right =
+    as_first told_problem lines same at right =
         let At : Problem → Type 0 = λ q. TextAt taken (whole q lines) in
         let Right : Problem → Type 0 = λ q. OfSound (Says q lines) files q.position report in
         inr (lines, subst At same at, says_game n budget first lines files report (of_sound (Says first lines) files first report told.sound (subst Right same right)))

@@ -1,11 +1,11 @@
 -- What a run of an order comes to, by what the order is of.
-use Rattle.std.specs.Prelude.{◌≡◌, ◌⊎◌, ℕ, ◌≤◌, List, [], ◌++◌, length, false, Option, IsSomeAnd}
+use Rattle.std.specs.Prelude.{◌≡◌, ◌⊎◌, ℕ, ◌≤◌, List, [], ◌++◌, length, false, Option, Some, IsSomeAnd, slice_get}
 use Rattle.desk_base.specs.Files.{Files}
 use Rattle.desk_base.specs.Lines.{Lines, ended, lines_of}
 use Rattle.game_rules.specs.Game.{Position, Sound}
 use Rattle.chess_game.specs.Unsoundness.{IsFirstUnsoundness}
 use Rattle.chess_game.specs.declared.unsoundness.Unsound.{Unsound}
-use Rattle.desk_games.specs.FileClaim.{MissesFetch}
+use Rattle.desk_files.specs.FileClaim.{MissesFetch}
 use Rattle.desk_report.specs.FaultLines.{unsound_line}
 use Rattle.desk_report.specs.Outcome.{NeverMisses, Report, refusal_as}
 use Rattle.desk_text.specs.Text.{Text, TextAt, whole, refused, is_end, refusal_line}
@@ -51,16 +51,31 @@ pub record MayMissKeep (HasFile : Problem → Type 0) (name : Option (List ℕ))
 abbrev pub OfName : (name : Option (List ℕ)) → ((name : List ℕ) → Report → Type 0) → Report → Type 0
 OfName name reports report = IsSomeAnd name (λ name'. reports name' report)
 
+-- of two names, where both are there
+abbrev pub OfNames : (from to : Option (List ℕ)) → ((from to : List ℕ) → Report → Type 0) → Report → Type 0
+OfNames from to reports = OfName from (λ from'. OfName to (λ to'. reports from' to'))
+
+-- Where the shelf may fail between the file that is read and the one that is kept: nothing was taken, and it may by the
+-- two names and the files.
+pub record MayMissBetween (misses : (from to : List ℕ) → Files → Option (List ℕ) → Type 0) (words : List (List ℕ))
+    (taken : List ℕ) (files : Files) (keeping : Option (List ℕ)) : Type 0 where
+  pub none : taken ≡ []
+  pub from : List ℕ
+  pub to : List ℕ
+  pub from_named : slice_get words 1 ≡ Some from
+  pub to_named : slice_get words 2 ≡ Some to
+  pub fails : misses from to files keeping
+
 -- What a run of an order comes to.
 pub record Command : Type 1 where
-  -- what is reported, by the name that the words have, if they have one, the bytes of the input, and the files
-  pub reports : (name : Option (List ℕ)) → List ℕ → Files → Report → Type 0
+  -- what is reported, by the words, for the names that stand there, the bytes of the input, and the files
+  pub reports : (words : List (List ℕ)) → List ℕ → Files → Report → Type 0
   -- what the order asks for takes memory, of the problem of a text or of one that follows from a seed
   pub takes : Problem → Type 0
   -- memory may be wanting after these bytes were taken
   pub may_lack : (taken : List ℕ) → Type 0
-  -- the shelf may fail then, while the file of this name, or none, is being kept
-  pub may_miss : (name : Option (List ℕ)) → (taken : List ℕ) → (keeping : Option (List ℕ)) → Type 0
+  -- of such files the shelf may fail then, while the file of this name, or none, is being kept
+  pub may_miss : (words : List (List ℕ)) → (taken : List ℕ) → Files → (keeping : Option (List ℕ)) → Type 0
   -- it is of a position text
   pub text : Type 0
   -- it uses no file
@@ -72,52 +87,67 @@ pub record Command : Type 1 where
 abbrev pub of_text : (says : Problem → Lines → Files → Report → Type 0) → (takes : Problem → Type 0) → Command
 of_text says takes =
     record {
-      reports = λ name bytes files. OfText (λ problem rest. says problem rest files) files bytes;
+      reports = λ words bytes files. OfText (λ problem rest. says problem rest files) files bytes;
       takes = takes;
       may_lack = IsBehindText takes;
-      may_miss = λ name taken. NeverMisses;
+      may_miss = λ words taken files. NeverMisses;
       text = Unit {0};
       no_shelf = Unit {0};
       no_text = ⊥;
     }
 
--- of the problem of a text, to keep a file of a name
+-- of the problem of a text, to keep a file of a name, which is the third word
 abbrev pub of_text_to_keep : (says : Problem → (name : List ℕ) → Files → Report → Type 0)
     → (takes has_file : Problem → Type 0) → Command
 of_text_to_keep says takes has_file =
     record {
       reports =
-          λ name bytes files.
-          OfText (λ problem rest. OfName name (λ name'. says problem name' files)) files bytes;
+          λ words bytes files.
+          OfText (λ problem rest. OfName (slice_get words 2) (λ name. says problem name files)) files bytes;
       takes = takes;
       may_lack = IsBehindText takes;
-      may_miss = MayMissKeep has_file;
+      may_miss = λ words taken files. MayMissKeep has_file (slice_get words 2) taken;
       text = Unit {0};
       no_shelf = ⊥;
       no_text = ⊥;
     }
 
--- of the file of a name, and of the lines of the input, where it reads any
+-- of the file of a name, which is the second word, and of the lines of the input, where it reads any
 abbrev pub of_file : (says : Lines → (name : List ℕ) → Files → Report → Type 0) → (no_text : Type 0) → Command
 of_file says no_text =
     record {
-      reports = λ name bytes files. OfName name (λ name'. says (lines_of bytes) name' files);
+      reports = λ words bytes files. OfName (slice_get words 1) (λ name. says (lines_of bytes) name files);
       takes = λ problem. ⊥;
       may_lack = λ taken. taken ≡ [];
-      may_miss = λ name. MissesFetch;
+      may_miss = λ words taken files. MissesFetch taken;
       text = ⊥;
       no_shelf = ⊥;
       no_text = no_text;
+    }
+
+-- of the file of the one name, to keep one of the other, which are the second word and the third
+abbrev pub of_files : (says : (from to : List ℕ) → Files → Report → Type 0)
+    → (misses : (from to : List ℕ) → Files → Option (List ℕ) → Type 0) → Command
+of_files says misses =
+    record {
+      reports =
+          λ words bytes files. OfNames (slice_get words 1) (slice_get words 2) (λ from to. says from to files);
+      takes = λ problem. ⊥;
+      may_lack = λ taken. taken ≡ [];
+      may_miss = MayMissBetween misses;
+      text = ⊥;
+      no_shelf = ⊥;
+      no_text = Unit {0};
     }
 
 -- of the lines of the input alone
 abbrev pub of_lines : (says : Lines → Files → Report → Type 0) → (may_lack : (taken : List ℕ) → Type 0) → Command
 of_lines says may_lack =
     record {
-      reports = λ name bytes. says (lines_of bytes);
+      reports = λ words bytes. says (lines_of bytes);
       takes = λ problem. ⊥;
       may_lack = may_lack;
-      may_miss = λ name taken. NeverMisses;
+      may_miss = λ words taken files. NeverMisses;
       text = ⊥;
       no_shelf = Unit {0};
       no_text = ⊥;
@@ -127,10 +157,10 @@ of_lines says may_lack =
 abbrev pub of_words : (says : Files → Report → Type 0) → (some : Type 0) → (takes : Problem → Type 0) → Command
 of_words says some takes =
     record {
-      reports = λ name bytes. says;
+      reports = λ words bytes. says;
       takes = takes;
       may_lack = λ taken. (taken ≡ []) × some;
-      may_miss = λ name taken. NeverMisses;
+      may_miss = λ words taken files. NeverMisses;
       text = ⊥;
       no_shelf = Unit {0};
       no_text = Unit {0};

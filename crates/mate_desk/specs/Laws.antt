@@ -1,5 +1,5 @@
 -- Laws of what a run does.
-use Rattle.std.specs.Prelude.{◌≡◌, ◌≢◌, ◌↔◌, ◌⊎◌, ℕ, ◌+◌, ◌-◌, ◌≤◌, List, [], ◌++◌, length, Option, Some, Ok, Err, codes, slice_get}
+use Rattle.std.specs.Prelude.{◌≡◌, ◌≢◌, ◌↔◌, ◌⊎◌, ℕ, ◌+◌, ◌-◌, ◌≤◌, List, [], ◌++◌, Option, Some, Ok, Err, codes, slice_get}
 use Rattle.std.specs.FinMap as map
 use Rattle.std.specs.Io.KnownBytes.{Consumes}
 use Rattle.desk_base.specs.Faults.{HasRisen}
@@ -8,8 +8,8 @@ use Rattle.desk_base.specs.Lines.{Lines, full, lines_of}
 use Rattle.game_rules.specs.Game.{Position, Least, Lost, Sound, Value}
 use Rattle.game_rules.specs.declared.men.Side.{Side}
 use Rattle.chess_text.specs.PositionText.{IsWritable, position_text}
-use Rattle.game_report.specs.Report.{IsReport, Match}
-use Rattle.game_report.specs.Report as game
+use Rattle.game_report.specs.GameReport.{IsReport, Match}
+use Rattle.game_report.specs.GameReport as game
 use Rattle.lin_formula.specs.Tree.{Tree}
 use Rattle.formula_auto.specs.declared.errors.CompileError.TheVariants.{Over}
 use Rattle.arith_desk.specs.Reading.{IsFormulaLine}
@@ -21,11 +21,12 @@ use Rattle.winning_sets.specs.Reach.{Reach}
 use Rattle.winning_sets.specs.declared.names.StepName.{StepName}
 use Rattle.desk_solve.specs.Decide.{IsExact}
 use Rattle.claim_plan.specs.CheckPlan.{check_plan}
+use Rattle.claim_plan.specs.SameClaims.{IsSameClaim}
 use Rattle.strategy_file.specs.Claims.{claim_with}
 use Rattle.strategy_file.specs.StrategyFile.{Charts}
 use Rattle.winning_sets.specs.Solve.{IsSolveError}
 use Rattle.winning_sets.specs.declared.names.SolveError.TheVariants as solve_error
-use Rattle.desk_games.specs.FileClaim.{IsReadAs, OfFile}
+use Rattle.desk_files.specs.FileClaim.{IsReadAs, OfChecked}
 use Rattle.desk_solve.specs.Least.{least_line}
 use Rattle.desk_words.specs.Order.{Ordered, name_in}
 use Rattle.desk_report.specs.Outcome.{FirstOver, Report, Seen, WriteFailed, done_with}
@@ -155,7 +156,7 @@ PlaysGame n budget problem lines files =
     (λ report.
     ((Value problem.winner n problem.position → ⊥) × (report ≡ done_with files (no_mate_line n)))
     ⊎ (Value problem.winner n problem.position
-    × ((played : game.Report) × IsReport problem.lines lines (first_match n problem) played
+    × ((played : game.GameReport) × IsReport problem.lines lines (first_match n problem) played
     × (report ≡ as_played files played)
     × ((number : ℕ) (after : Match) → slice_get played.games number ≡ Some after → IsKeptGame n problem number after))))
     files
@@ -183,7 +184,7 @@ pub record IsLostGame (c : Claim) (number : ℕ) (after : Match) : Type 0 where
 abbrev pub ResumesGame : Lines → Files → Claim → Report → Type 0
 ResumesGame lines files c report =
     Value c.winner c.moves c.position
-    × ((played : game.Report) × IsReport 0 lines (claimed_match c) played × (report ≡ as_played files played)
+    × ((played : game.GameReport) × IsReport 0 lines (claimed_match c) played × (report ≡ as_played files played)
     × ((number : ℕ) (after : Match) → slice_get played.games number ≡ Some after → IsLostGame c number after))
 
 -- each report of `resume`, whoever made the file
@@ -193,7 +194,7 @@ ResumeKeeps =
     → Ordered words (Ok (orders.Resume budget))
     → name_in (orders.Resume budget) words ≡ Some name
     → Reports words bytes files report
-    → OfFile (ResumesGame (lines_of bytes) files) budget name files report
+    → OfChecked (ResumesGame (lines_of bytes) files) budget name files report
 
 -- A run of `keep` is done and wrote that the winner mates within n moves of his own. Its sink and its shelf tell; the files
 -- are these then.
@@ -231,6 +232,32 @@ CheckedAfterKeep =
     → name_in (orders.Check other) later ≡ Some name
     → Reports later bytes files report
     → (report ≡ done_with files (mate_line n)) ⊎ NamesCheckStep n other name files report
+
+-- A run of `migrate` is done, between two names. Its shelf tells what files there were before, and what files there are
+-- after it.
+pub record HasMigrated (words : List (List ℕ)) (from to : List ℕ) (before after : Files) (old new : Seen) : Type 0 where
+  pub ordered : Ordered words (Ok orders.Migrate)
+  pub from_named : slice_get words 1 ≡ Some from
+  pub to_named : slice_get words 2 ≡ Some to
+  pub ends : RunEnds words is.Done old new
+  pub files_before : old.files ≡ Some before
+  pub files_after : new.files ≡ Some after
+
+-- What the file of the one name was read as is read of the file of the other, as a claim of the same sets, and each other
+-- file is as it was.
+pub record IsCarried (from to : List ℕ) (before after : Files) : Type 0 where
+  pub charts : Charts
+  pub read : IsReadAs from before (Ok charts)
+  pub migrated : Charts
+  pub read_again : IsReadAs to after (Ok migrated)
+  pub same : IsSameClaim (claim_with charts) (claim_with migrated)
+  pub others : (name : List ℕ) → name ≢ to → map.get after name ≡ map.get before name
+
+-- so it is after each run of `migrate` that is done
+abbrev pub MigrateCarries : Type 0
+MigrateCarries =
+    (words : List (List ℕ)) (from to : List ℕ) (before after : Files) (old new : Seen)
+    → HasMigrated words from to before after old new → IsCarried from to before after
 
 -- What `arith` reports of a formula: the first of its steps that exceeds the budget, or a line that answers it.
 abbrev pub ReportsAnswer : (budget : ℕ) → Tree → Files → Report → Type 0

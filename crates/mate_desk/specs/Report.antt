@@ -2,17 +2,19 @@
 use Rattle.std.specs.Prelude.{◌≡◌, ℕ, ◌<◌, List, false, Option, Result, Ok, Err}
 use Rattle.desk_base.specs.Files.{Files}
 use Rattle.desk_arith.specs.Arith.{ArithReports, IsBehindLine}
-use Rattle.desk_games.specs.Check.{CheckReports}
+use Rattle.desk_describe.specs.Describe.{DescribeReports}
+use Rattle.desk_files.specs.Check.{CheckReports}
 use Rattle.desk_solve.specs.Decide.{DecideReports}
 use Rattle.desk_solve.specs.Drill.{DrillReports, IsDrilled}
 use Rattle.desk_solve.specs.First.{FirstReports, HasNoFirstMove}
-use Rattle.desk_games.specs.Keep.{HasFileToKeep, KeepReports}
+use Rattle.desk_files.specs.Keep.{HasFileToKeep, KeepReports}
 use Rattle.desk_solve.specs.Least.{LeastReports}
-use Rattle.desk_words.specs.Order.{Ordered, name_in, usage_line}
+use Rattle.desk_files.specs.Migrate.{MigrateReports, MissesMigrate}
+use Rattle.desk_words.specs.Order.{Ordered, usage_line}
 use Rattle.desk_report.specs.Outcome.{Report, refusal_as}
 use Rattle.desk_games.specs.Play.{PlayReports}
 use Rattle.desk_games.specs.Resume.{ResumeReports}
-use Rattle.mate_desk.specs.Command.{Command, of_file, of_lines, of_text, of_text_to_keep, of_words}
+use Rattle.mate_desk.specs.Command.{Command, of_file, of_files, of_lines, of_text, of_text_to_keep, of_words}
 use Rattle.mate_desk.specs.Show.{ShowReports}
 use Rattle.desk_verdict.specs.Verdict.{HasNothingToPlay}
 use Rattle.desk_words.specs.declared.order.Order.{Order}
@@ -29,6 +31,8 @@ command_of (orders.Least limit budget) =
     of_text (λ problem rest. LeastReports limit budget problem) (λ problem. ¬ HasNothingToPlay limit problem)
 command_of (orders.First n budget) =
     of_text (λ problem rest. FirstReports n budget problem) (λ problem. ¬ HasNoFirstMove n problem)
+command_of (orders.Describe n budget) =
+    of_text (λ problem rest. DescribeReports n budget problem) (λ problem. ¬ HasNoFirstMove n problem)
 command_of (orders.Play n budget) =
     of_text (λ problem rest. PlayReports n budget problem rest) (λ problem. ¬ HasNothingToPlay n problem)
 command_of (orders.Keep n budget) =
@@ -36,13 +40,14 @@ command_of (orders.Keep n budget) =
     (HasFileToKeep n budget)
 command_of (orders.Check budget) = of_file (λ lines name. CheckReports budget name) (Unit {0})
 command_of (orders.Resume budget) = of_file (λ lines name. ResumeReports budget lines name) ⊥
+command_of orders.Migrate = of_files MigrateReports MissesMigrate
 command_of orders.Show = of_text (λ problem rest. ShowReports problem) (λ problem. Unit {0})
 command_of (orders.Drill seed count) = of_words (DrillReports seed count) (0 < count) (IsDrilled seed count)
 command_of (orders.Arith budget) = of_lines (λ lines. ArithReports budget lines) IsBehindLine
 
 -- what is reported of an order: the words that it is, the bytes of the input, and the files
 abbrev pub ReportsOrder : Order → (words : List (List ℕ)) → List ℕ → Files → Report → Type 0
-ReportsOrder order words = (command_of order).reports (name_in order words)
+ReportsOrder order = (command_of order).reports
 
 abbrev pub ReportsWords : Result Order UsageWhy → (words : List (List ℕ)) → List ℕ → Files → Report → Type 0
 ReportsWords (Err why) words bytes files report = report ≡ refusal_as files is.Usage (usage_line why) false
@@ -65,14 +70,15 @@ OrderMayLack order = (command_of order).may_lack
 abbrev pub MayLackMemory : List (List ℕ) → (taken : List ℕ) → Type 0
 MayLackMemory words taken = (order : Order) × Ordered words (Ok order) × OrderMayLack order taken
 
--- where the shelf may fail while the file of this name, or none, is being kept, by the order, its words and the bytes
--- that were taken
-abbrev pub OrderMayMiss : Order → (words : List (List ℕ)) → (taken : List ℕ) → (keeping : Option (List ℕ)) → Type 0
-OrderMayMiss order words = (command_of order).may_miss (name_in order words)
+-- where the shelf may fail while the file of this name, or none, is being kept, by the order, its words, the bytes that
+-- were taken, and the files
+abbrev pub OrderMayMiss : Order → (words : List (List ℕ)) → (taken : List ℕ) → Files → (keeping : Option (List ℕ)) → Type 0
+OrderMayMiss order = (command_of order).may_miss
 
--- the words are an order, and the shelf may fail so after these bytes were taken
-abbrev pub MayMissShelf : List (List ℕ) → (taken : List ℕ) → (keeping : Option (List ℕ)) → Type 0
-MayMissShelf words taken keeping = (order : Order) × Ordered words (Ok order) × OrderMayMiss order words taken keeping
+-- the words are an order, and the shelf, which has these files, may fail so after these bytes were taken
+abbrev pub MayMissShelf : List (List ℕ) → (taken : List ℕ) → Files → (keeping : Option (List ℕ)) → Type 0
+MayMissShelf words taken files keeping =
+    (order : Order) × Ordered words (Ok order) × OrderMayMiss order words taken files keeping
 
 -- the order is of a position text
 abbrev pub IsOfText : Order → Type 0

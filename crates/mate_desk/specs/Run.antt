@@ -8,7 +8,7 @@ use Rattle.desk_base.specs.declared.files.Shelf.{Ghosts as ShelfModel}
 use Rattle.desk_base.specs.declared.sink.Sink.{Ghosts as SinkModel}
 use Rattle.desk_base.specs.declared.source.Source.{Ghosts as SourceModel}
 use Rattle.desk_text.specs.Taken.{TakesLines}
-use Rattle.desk_report.specs.Outcome.{Report, Seen, Ends, reported_on}
+use Rattle.desk_report.specs.Outcome.{Report, Seen, RunEndsAs, reported_on}
 use Rattle.desk_report.specs.Ports.{ports_seen}
 use Rattle.desk_words.specs.Order.{IsOrderOf, Ordered}
 use Rattle.desk_words.specs.declared.order.Order.{Order}
@@ -43,8 +43,8 @@ pub record RunEnds (words : List (List ℕ)) (status : Status) (old new : Seen) 
   pub given : Given old new
   pub takes : Takes words given.files status given.taken
   pub ends :
-      Ends status (λ report. Reports words (reported_on status given.taken given.rest) given.files report)
-      (MayLackMemory words given.taken) (MayMissShelf words given.taken) old new
+      RunEndsAs status (λ report. Reports words (reported_on status given.taken given.rest) given.files report)
+      (MayLackMemory words given.taken) (MayMissShelf words given.taken given.files) old new
 
 -- How it ends on a source, a sink and a shelf that it is lent.
 abbrev pub RunEndsOn : {S K H : Type 0} → SourceModel S → SinkModel K → ShelfModel H → (words : List (List ℕ)) → Status

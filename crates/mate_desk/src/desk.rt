@@ -9,8 +9,10 @@ use crate::show::show;
 use chess_game::soundness;
 use desk_arith::arith::arith;
 use desk_base::{LineReader, Shelf, Sink, Source};
-use desk_games::check::check;
-use desk_games::keep::keep;
+use desk_describe::describe::describe;
+use desk_files::check::check;
+use desk_files::keep::keep;
+use desk_files::migrate::migrate;
 use desk_games::play::play;
 use desk_games::resume::resume;
 use desk_report::{Status, refusal_line, refuse, unsound_line};
@@ -56,6 +58,7 @@ pub fn run<S: Source, K: Sink, H: Shelf>(
         Asked::Resume { name, budget } => {
             resume(alloc, &FileTask { name, budget }, source, sink, shelf)
         }
+        Asked::Migrate { from, to } => migrate(alloc, from, to, sink, shelf),
         Asked::Drill { seed, count } => drill(alloc, seed, count, sink),
         Asked::Arith { budget } => arith(alloc, budget, source, sink),
     }
@@ -95,6 +98,9 @@ fn answer<S: Source, K: Sink, H: Shelf>(
         TextOrder::Decide { moves, budget } => decide(alloc, &problem.task(moves, budget), sink),
         TextOrder::Least { limit, budget } => least(alloc, &problem.task(limit, budget), sink),
         TextOrder::First { moves, budget } => first(alloc, &problem.task(moves, budget), sink),
+        TextOrder::Describe { moves, budget } => {
+            describe(alloc, &problem.task(moves, budget), sink)
+        }
         TextOrder::Play { moves, budget } => {
             let task = problem.task(moves, budget);
             play(alloc, &task, &mut reader, source, sink)

@@ -1,7 +1,7 @@
 //! Laws of a run, each the contract of a function that does nothing. They are of the relation that the contract of `run` names.
 
 ghost use Rattle.desk_text.specs.TextLaws.{TextIsRead};
-ghost use Rattle.mate_desk.specs.Laws.{AnswersExactly, CheckedAfterKeep, DecideEnds, DecidesExactly, DecideWrites, FaultsAreCounted, LeastWrites, MemoryLast, NoShelfFault, OneReport, PlayKeeps, PlayWrites, ResumeKeeps, UsageExactly};
+ghost use Rattle.mate_desk.specs.Laws.{AnswersExactly, CheckedAfterKeep, DecideEnds, DecidesExactly, DecideWrites, FaultsAreCounted, LeastWrites, MemoryLast, MigrateCarries, NoShelfFault, OneReport, PlayKeeps, PlayWrites, ResumeKeeps, UsageExactly};
 
 /// A run of `decide` that is done, on the text of a sound position and whatever comes behind it, writes `mate in n` exactly where the side
 /// that the text names as winner mates within n moves of its own, whatever is replied on the whole board, and `no mate in n` exactly where it does not.
@@ -69,6 +69,12 @@ pub fn resume_keeps()
 /// the file of the name is that one, whatever the other files are.
 pub fn checked_after_keep()
     ensures { CheckedAfterKeep }
+{}
+
+/// After a run of `migrate` that is done, the file of the new name is read as a claim of the sets that the file of the old name was read as, so that
+/// both are checked alike; and each file of another name than the new one is as it was.
+pub fn migrate_carries()
+    ensures { MigrateCarries }
 {}
 
 /// Of a line that is a formula `arith` reports that it holds exactly where it does over all integers, and `false` exactly where it does not; a number

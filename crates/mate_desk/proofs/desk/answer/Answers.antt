@@ -1,14 +1,13 @@
-use Rattle.std.proofs.Common.{[], ◌++◌, Ok, refl, subst, rules}
-use Rattle.chess_text.specs.PositionText.{text_of_lines}
-use Rattle.desk_base.specs.Lines.{lines_of}
+use Rattle.std.proofs.Common.{Ok, refl, subst, rules}
+use Rattle.desk_describe.specs.Describe.{DescribeReports}
 use Rattle.desk_games.specs.Play.{LacksAtFirst, PlayReports}
-use Rattle.desk_games.proofs.Shelves.{files_of}
+use Rattle.desk_files.proofs.Shelves.{files_of}
 use Rattle.desk_solve.specs.Decide.{DecideReports}
 use Rattle.desk_solve.specs.First.{FirstReports, HasNoFirstMove}
 use Rattle.desk_solve.specs.Least.{LeastReports}
 use Rattle.desk_verdict.specs.Verdict.{HasNothingToPlay}
 use Rattle.desk_words.specs.Order.{IsOrderOf, Ordered, as_order}
-use Rattle.desk_words.specs.declared.order.Order.TheVariants.{Decide, Least, First, Play, Show}
+use Rattle.desk_words.specs.declared.order.Order.TheVariants.{Decide, Least, First, Describe, Play, Show}
 use Rattle.desk_words.specs.declared.order.TextOrder.{TextOrder}
 use Rattle.mate_desk.specs.Show.{ShowReports}
 use Rattle.mate_desk.proofs.Reporting.{fault_ends, keep_ends, refused_ends, text_ends, unsound_ends}
@@ -51,6 +50,12 @@ returns-in-First-clause-ends g c = λ words o.
     let IsOrdered : TextOrder → Type 0 = λ x. Ordered words (Ok (as_order x)) in
     text_ends words _ _ refl _ c.in-Ok.problem c.in-Ok.ensures.reads (c.in_default.ensures.ok.0 refl) c.first.result (First c.in-First.moves c.in-First.budget) (subst IsOrdered c.in-First.is o.ordered)
     (FirstReports c.in-First.moves c.in-First.budget) (λ problem. ¬ HasNoFirstMove c.in-First.moves problem) (λ bytes files report right. right) (λ taken some. some) (rw c.task-in-First.ensures at c.first.ensures.ends)
+
+pub returns-in-Describe-clause-ends : goal.returns-in-Describe-clause-ends
+returns-in-Describe-clause-ends g c = λ words o.
+    let IsOrdered : TextOrder → Type 0 = λ x. Ordered words (Ok (as_order x)) in
+    text_ends words _ _ refl _ c.in-Ok.problem c.in-Ok.ensures.reads (c.in_default.ensures.ok.0 refl) c.describe.result (Describe c.in-Describe.moves c.in-Describe.budget) (subst IsOrdered c.in-Describe.is o.ordered)
+    (DescribeReports c.in-Describe.moves c.in-Describe.budget) (λ problem. ¬ HasNoFirstMove c.in-Describe.moves problem) (λ bytes files report right. right) (λ taken some. some) (rw c.task-in-Describe.ensures at c.describe.ensures.ends)
 
 pub returns-in-Show-clause-ends : goal.returns-in-Show-clause-ends
 returns-in-Show-clause-ends g c = λ words o.

@@ -3,8 +3,8 @@ use Rattle.desk_arith.specs.Arith.{ArithReports, IsBehindLine}
 use Rattle.desk_solve.specs.Drill.{DrillReports}
 use Rattle.desk_words.specs.Order.{IsAsked, as_order}
 use Rattle.desk_words.specs.declared.order.Asked.{Asked}
-use Rattle.desk_words.specs.declared.order.Order.TheVariants.{Check, Resume, Drill, Arith}
-use Rattle.mate_desk.proofs.Reporting.{check_ends, lines_ends, lines_not_usage, resume_ends, usage_ends, words_ends}
+use Rattle.desk_words.specs.declared.order.Order.TheVariants.{Check, Resume, Migrate, Drill, Arith}
+use Rattle.mate_desk.proofs.Reporting.{check_ends, lines_ends, lines_not_usage, migrate_ends, resume_ends, usage_ends, words_ends}
 use Rattle.mate_desk.proofs.Rows.{text_order}
 use Rattle.mate_desk.proofs.StatusLaws.{no_textless, ordered_not_usage, unused}
 use Rattle.mate_desk.proofs.desk.run.Goals as goal
@@ -74,6 +74,19 @@ returns-in-Resume-clause-shelf_untouched g c = λ other also none.
     let Is : Asked → Type 0 = λ a. IsAsked a words in
     let o = subst Is c.in-Resume.is c.asked.ensures.asked in
     absurd (unused words (Resume c.in-Resume.budget) o.ordered other also none)
+
+pub returns-in-Migrate-clause-ends : goal.returns-in-Migrate-clause-ends
+returns-in-Migrate-clause-ends g c =
+    let words = map string_bytes c.args.words.now.items in
+    let Is : Asked → Type 0 = λ a. IsAsked a words in
+    migrate_ends words _ _ c.migrate.result c.in-Migrate.from.now c.in-Migrate.to.now (subst Is c.in-Migrate.is c.asked.ensures.asked) refl c.migrate.ensures.ends
+
+pub returns-in-Migrate-clause-shelf_untouched : goal.returns-in-Migrate-clause-shelf_untouched
+returns-in-Migrate-clause-shelf_untouched g c = λ other also none.
+    let words = map string_bytes c.args.words.now.items in
+    let Is : Asked → Type 0 = λ a. IsAsked a words in
+    let o = subst Is c.in-Migrate.is c.asked.ensures.asked in
+    absurd (unused words Migrate o.ordered other also none)
 
 pub returns-in-Drill-clause-ends : goal.returns-in-Drill-clause-ends
 returns-in-Drill-clause-ends g c =
