@@ -6,6 +6,7 @@ mod answers;
 mod formulas;
 mod letters;
 mod members;
+mod periods;
 mod rays;
 mod reduced_auto;
 mod spelling;
@@ -14,6 +15,7 @@ mod tables;
 
 use answers::write_answer;
 use formulas::write_memo;
+use periods::write_periods;
 use rays::write_rays;
 use reduced_auto::ReducedAuto;
 use spelling::{Reader, whole};
@@ -53,6 +55,7 @@ impl Rows for Automata {
         match kind {
             "rays" => write_rays(reader, fields, out),
             "memo" => write_memo(alloc, fields, out),
+            "periods" => write_periods(reader, fields, out),
             _ => write_answer(reader, kind, fields, out),
         }
     }

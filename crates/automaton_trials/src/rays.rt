@@ -2,12 +2,12 @@
 
 ghost use Rattle.std.specs.Prelude.{◌≡◌, ◌≤◌, IfOk, IsTrue, length};
 ghost use Rattle.auto_core.specs.Integers.{DecidesIntegers};
-ghost use Rattle.auto_search.specs.Way.{IsWay};
+ghost use Rattle.auto_search.specs.TupleRay.{IsTupleRay};
 
 use crate::reduced_auto::check_stable;
 use crate::spelling::{Reader, automaton};
 use auto_core::Auto;
-use auto_search::{Few, Search, Way};
+use auto_search::{Few, Search, TupleRay};
 use std::alloc::Global;
 use std::num::ParseIntError;
 use std::str::FromStr;
@@ -20,8 +20,8 @@ const MOST_DISTANCE: u128 = 1 << 64;
 const MOST_RESERVED: u32 = 400000;
 
 /// Whether a ray steps by at most two on each of two different tracks.
-fn is_way(way: &Way) -> bool
-    ensures { IsTrue result → IsWay way.now }
+fn is_tuple_ray(way: &TupleRay) -> bool
+    ensures { IsTrue result → IsTupleRay way.now }
 {
     let tracks = way.fixed.len();
     if way.x_track as usize >= tracks || way.y_track as usize >= tracks {
@@ -57,8 +57,8 @@ impl Spelled {
         })
     }
 
-    fn way(&self) -> Way<'_> {
-        Way {
+    fn way(&self) -> TupleRay<'_> {
+        TupleRay {
             fixed: self.fixed.as_slice(),
             x_track: self.tracks.0,
             y_track: self.tracks.1,
@@ -97,13 +97,13 @@ fn write_least(out: &mut String, least: Option<u128>) -> Result<(), RowError> {
 fn least(
     search: &mut Search,
     a: &Auto,
-    way: &Way,
+    way: &TupleRay,
     fields: &mut Fields,
 ) -> Result<Option<u128>, RowError>
     requires decides { DecidesIntegers a.now }
     requires room { length a.now.accept ≤ search.old }
     requires count { length way.now.fixed.now ≡ length a.now.tracks }
-    requires way { IsWay way.now }
+    requires way { IsTupleRay way.now }
     ensures kept { search.new ≡ search.old }
 {
     let near = fields.number()?;
@@ -129,7 +129,7 @@ fn ask(
     let question = fields.word()?;
     let spelled = Spelled::read(alloc, fields)?;
     let way = spelled.way();
-    if !is_way(&way) || way.fixed.len() != a.tracks().len() {
+    if !is_tuple_ray(&way) || way.fixed.len() != a.tracks().len() {
         return Err(RowError::Condition);
     }
     match question {

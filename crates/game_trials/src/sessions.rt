@@ -5,9 +5,9 @@ ghost use Rattle.std.specs.Prelude.{◌≤◌, ◌≡◌};
 use crate::positions::{frame, illegal_words, move_of, side, sound_named};
 use chess_game::{Frame, Move, Position, Side};
 use chess_text::position_bytes;
+use game_session::{Session, TooWide};
 use std::alloc::Global;
 use trial_rows::{Fields, Named, RowError, separate, write_truth, written, yes_or_no};
-use white_player::{Session, TooWide};
 use winning_sets::{SolveError, Solved, solve};
 
 /// A solved position, where the budget sufficed.

@@ -2,7 +2,7 @@
 
 use crate::fault::{Refusal, ScriptWhy, Stop, at_line};
 use crate::report::write_run;
-use crate::statement::{Part, Statement};
+use crate::statement::{Piece, Statement};
 use crate::store::{Question, Stock, write_told};
 use crate::trial::{Case, Trial};
 use mate_desk::run;
@@ -52,7 +52,7 @@ impl<W: Write + Drop> Runner<W> {
     pub fn take(&mut self, line: u64, statement: Statement) -> Result<(), Stop> {
         match statement {
             Statement::Remark => Ok(()),
-            Statement::Part(part) => Ok(at_line(line, self.block.add(line, part))?),
+            Statement::Piece(part) => Ok(at_line(line, self.block.add(line, part))?),
             Statement::Text(name) => {
                 let bytes = Vec::new(self.alloc);
                 self.begin(Block::Text(NamedText { line, name, bytes }))
@@ -125,7 +125,7 @@ impl<W: Write + Drop> Runner<W> {
 
 impl Block {
     /// Adds a part to the text or the run that is open.
-    fn add(&mut self, line: u64, part: Part) -> Result<(), ScriptWhy> {
+    fn add(&mut self, line: u64, part: Piece) -> Result<(), ScriptWhy> {
         match self {
             Block::Nothing => Err(ScriptWhy::Stray),
             Block::Text(text) => text.add(part),
@@ -135,13 +135,13 @@ impl Block {
 }
 
 impl NamedText {
-    fn add(&mut self, part: Part) -> Result<(), ScriptWhy> {
+    fn add(&mut self, part: Piece) -> Result<(), ScriptWhy> {
         match part {
-            Part::Bytes(bytes) => {
+            Piece::Bytes(bytes) => {
                 self.bytes.extend_from_slice(bytes.as_slice())?;
                 Ok(())
             }
-            Part::Setting(_) => Err(ScriptWhy::Stray),
+            Piece::Setting(_) => Err(ScriptWhy::Stray),
         }
     }
 }

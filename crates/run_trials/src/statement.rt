@@ -16,12 +16,12 @@ pub enum Statement {
     /// A run begins: the word `run` and the words that it is given.
     Run(CaseLine),
     /// A part of the text or of the run that has begun.
-    Part(Part),
+    Piece(Piece),
 }
 
 /// A part of a text or of a run.
 #[derive(Drop)]
-pub enum Part {
+pub enum Piece {
     /// More bytes of the text, or of the input of the run.
     Bytes(Vec<u8>),
     /// A setting of the run.
@@ -38,7 +38,7 @@ pub fn read_statement(alloc: Global, line: &[u8]) -> Result<Statement, ScriptWhy
         return Ok(Statement::Remark);
     }
     if let Some(piece) = text.strip_prefix('|') {
-        return Ok(Statement::Part(Part::Bytes(read_piece(alloc, piece)?)));
+        return Ok(Statement::Piece(Piece::Bytes(read_piece(alloc, piece)?)));
     }
     let text = text.trim_end();
     if let Some(name) = text.strip_prefix("text ") {
@@ -48,7 +48,7 @@ pub fn read_statement(alloc: Global, line: &[u8]) -> Result<Statement, ScriptWhy
     if text == "run" || text.starts_with("run ") {
         return Ok(Statement::Run(line));
     }
-    Ok(Statement::Part(Part::Setting(line)))
+    Ok(Statement::Piece(Piece::Setting(line)))
 }
 
 /// The bytes behind a bar: a line with its LF; behind `-`, a text as it is; behind `* N`, a text N times.

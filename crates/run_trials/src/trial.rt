@@ -4,7 +4,7 @@ use crate::cases::{CaseLine, Cases};
 use crate::change::change_bytes;
 use crate::fault::{Refusal, ScriptWhy, at_line};
 use crate::setting::{Given, Setting, read_setting};
-use crate::statement::Part;
+use crate::statement::Piece;
 use crate::store::{Question, Stock, Told};
 use crate::words::read_words;
 use desk_base::MemShelf;
@@ -26,7 +26,7 @@ pub struct Trial {
 struct Entry {
     /// The number of the line.
     line: u64,
-    part: Part,
+    part: Piece,
 }
 
 impl Trial {
@@ -50,8 +50,8 @@ impl Trial {
     }
 
     /// Adds a part. At most one setting of a run has a range.
-    pub fn add(&mut self, line: u64, part: Part) -> Result<(), ScriptWhy> {
-        if let Part::Setting(setting) = &part {
+    pub fn add(&mut self, line: u64, part: Piece) -> Result<(), ScriptWhy> {
+        if let Piece::Setting(setting) = &part {
             self.add_cases(setting.cases())?;
         }
         self.entries.push(Entry { line, part })?;
@@ -114,11 +114,11 @@ impl Case {
         alloc: Global,
         stock: &mut Stock,
         number: u32,
-        part: &Part,
+        part: &Piece,
     ) -> Result<(), ScriptWhy> {
         match part {
-            Part::Bytes(bytes) => self.given.add_bytes(bytes.as_slice()),
-            Part::Setting(setting) => self.add_setting(alloc, stock, number, setting),
+            Piece::Bytes(bytes) => self.given.add_bytes(bytes.as_slice()),
+            Piece::Setting(setting) => self.add_setting(alloc, stock, number, setting),
         }
     }
 
