@@ -77,6 +77,11 @@ def first(men, turn, n, budget=None, seconds=None):
     return run(["first", n, budget], men, turn, seconds)[:-1]
 
 
+def describe(men, turn, n, budget=None, seconds=None):
+    """Returns the distances of the winner's first moves that mate within n moves, a line of the program for each ray."""
+    return run(["describe", n, budget], men, turn, seconds)[:-1]
+
+
 def play(men, turn, n, replies, budget=None, seconds=None):
     """Returns the lines of the game against these replies."""
     return run(["play", n, budget], men, turn, seconds, replies)
@@ -90,6 +95,11 @@ def keep(men, turn, n, name, budget=None, seconds=None):
 def check(name, budget=None, seconds=None):
     """Returns within how many moves the strategy of the file mates."""
     return int(run(["check", name, budget], seconds=seconds)[0].split()[2])
+
+
+def migrate(old, new, seconds=None):
+    """Keeps the strategy of the file `old` in the newest version, under the name `new`, whatever stood there."""
+    run(["migrate", old, new], seconds=seconds)
 
 
 def side_by_side(question, cases):

@@ -19,10 +19,11 @@ sys.path.insert(0, HERE)
 import position as chess  # noqa: E402
 
 MOVES, BUDGET, NAME, SEED, COUNT = "N", "BUDGET", "NAME", "SEED", "COUNT"
+NAMES = [NAME, "OLD", "NEW"]
 # The words of each command; the budget may be left out.
 SHAPES = {
-    "decide": [MOVES, BUDGET], "least": ["L", BUDGET], "first": [MOVES, BUDGET], "play": [MOVES, BUDGET], "keep": [MOVES, NAME, BUDGET],
-    "check": [NAME, BUDGET], "resume": [NAME, BUDGET], "drill": [SEED, COUNT], "arith": [BUDGET], "show": [],
+    "decide": [MOVES, BUDGET], "least": ["L", BUDGET], "first": [MOVES, BUDGET], "describe": [MOVES, BUDGET], "play": [MOVES, BUDGET],
+    "keep": [MOVES, NAME, BUDGET], "check": [NAME, BUDGET], "resume": [NAME, BUDGET], "migrate": ["OLD", "NEW"], "drill": [SEED, COUNT], "arith": [BUDGET], "show": [],
 }
 # The commands that are the script's own.
 OF_SCRIPT = ["help", "version", "cost", "unproved"]
@@ -92,11 +93,11 @@ def of_words(why, words):
     if why == "count":
         named = next((it for it in behind if is_file(it)), None)
         rest = [it for it in behind if it != named]
-        if named and least <= len(rest) <= len(shape) and command not in ("check", "resume", "drill"):
+        if named and least <= len(rest) <= len(shape) and command not in ("check", "resume", "migrate", "drill"):
             return said("count / file", word=named, mended=" ".join([command, *rest]))
         return said("count / few" if len(behind) < least else "count / many", command=command, usage=usage)
     for at, (what, word) in enumerate(zip(shape, behind)):
-        if what == NAME:
+        if what in NAMES:
             if not NAMED.fullmatch(word):
                 return of_name(word) if why == "name" else None
         elif not NATURAL.fullmatch(word):
@@ -459,6 +460,8 @@ def of_budget(told, words):
     greatest = ", greatest" if budget == MOST_BUDGET else ""
     if told[0] == "arith":
         return said(f"over budget / arith{greatest}", step=told[1], **values)
+    if told[0] == "describe":
+        return said(f"over budget / describe{greatest}", man=told[2], **values)
     moves = int(told[1])
     if command == "least" and moves > 1:
         return said(f"over budget / least{greatest}", fewer=counted(moves - 1, "move"), moves=moves, **values)
@@ -467,10 +470,9 @@ def of_budget(told, words):
 
 # Files
 
-def name_of(words):
-    """Returns the name of a file that words have."""
-    at = SHAPES[words[0]].index(NAME) + 1
-    return words[at] if at < len(words) else ""
+def names_of(words):
+    """Returns the names of files that words have."""
+    return [word for what, word in zip(SHAPES[words[0]], words[1:]) if what in NAMES]
 
 
 def head_of(path):
@@ -483,14 +485,16 @@ def head_of(path):
 
 
 def of_shelf(words, folder):
-    name = name_of(words)
-    path = os.path.join(folder, name)
-    if os.path.isdir(path):
-        return said("shelf fault / folder", name=name)
-    is_kept = words[0] == "keep"
-    if is_kept and is_other_file(path):
-        return said("shelf no strategy file", name=name)
-    return said("shelf fault", name=name, done="written" if is_kept else "read")
+    names = names_of(words)
+    for name in names:
+        if os.path.isdir(os.path.join(folder, name)):
+            return said("shelf fault / folder", name=name)
+    is_kept = words[0] in ("keep", "migrate")
+    if is_kept and is_other_file(os.path.join(folder, names[-1])):
+        return said("shelf no strategy file", name=names[-1])
+    if words[0] == "migrate":
+        return said("shelf fault / migrate", name=names[0], other=names[-1])
+    return said("shelf fault", name=names[0], done="written" if is_kept else "read")
 
 
 def is_other_file(path):
@@ -500,7 +504,7 @@ def is_other_file(path):
 
 def of_file(told, words, folder):
     """Returns the sentence on a file that is refused; the fields of the told line are behind `file`."""
-    name = name_of(words)
+    name = names_of(words)[0]
     head = head_of(os.path.join(folder, name))
     if told[0] == "missing":
         return said("file missing", name=name)
@@ -622,7 +626,7 @@ def start_of(words, text, folder):
         return None, None
     try:
         if words[0] == "resume":
-            return read_head(os.path.join(folder, name_of(words)))[1], text
+            return read_head(os.path.join(folder, names_of(words)[0]))[1], text
         return chess.read_text(text)
     except (chess.Refused, OSError, ValueError):
         return None, None

@@ -29,12 +29,14 @@ BLACK_FIRST = HEAD + b"turn B\nW K 0 -2\nW R 10 1\nW R 2 7\nB K 1 0\nend\n"
 GOOD = [LADDER, MATED, BLACK_FIRST, HEAD + b"turn W\nW K 0 0\nB K 10 0\nend\n", HEAD + b"turn B for B\nW K 5 5\nB P 1 2\nB K -3 -3\nW Q gone\nW N 7 7\nB C 2 9\nW H 40 -7\nend\n"]
 EDGES = [2**63 - 1, -2**63, 2**63, -2**63 - 1, 2**64, 10**19, 10**18, 2**31, 10**40, 0, -1, 20, 21, 100, 101, 200000, 200001]
 # What may come with each code where the reader does not say it. With the codes 3, 9, 12 and 13 the lines of a game may come before.
-NAMED = rb"over budget at (moves [0-9]+ ply [0-9]+ men [0-9]+ part [a-z]+ at|arith) [0-9]+\n"
+NAMED = rb"over budget at (moves [0-9]+ ply [0-9]+ men [0-9]+ part [a-z]+ at|arith|describe man [1-8] ray [0-9]+ (line|period)) [0-9]+\n"
+DISTANCES = rb"(runs (none|[0-9]+-[0-9]+(,[0-9]+-[0-9]+)*) from [0-9]+ every [0-9]+ rests (none|[0-9]+(,[0-9]+)*)|no period up to 60|far|many)"
 GAME = rb"(((?:white|black) [1-8] \S+ \S+|illegal|unreadable)\n)*"
 WHYS = rb"(magic|version|moves|turn|count|side|kind|place|unsound|ply|men|states|entry|flag|nodes|track|ref)"
 RULES = rb"(sign|same|guard|first|left|stale)"
 ANSWERS = {
     0: rb"mate in [0-9]+\n|no mate in [0-9]+\n|least [0-9]+\n|none up to [0-9]+\n|(man [1-8] step -?[012] -?[012] least (wide|[0-9]+) (only|more)\n)*end\n|"
+    rb"(man [1-8] step -?[012] -?[012] " + DISTANCES + rb"\n)*end\n|"
     rb"[0-9]+ of [0-9]+ mate in 1\n|true( witness (wide|0|-?[1-9][0-9]*))?\n|false\n|" + GAME + rb"mate\n",
     3: GAME + rb"text line [0-9]+ (cut|long)\n",
     8: NAMED,
@@ -121,7 +123,7 @@ def words_case(draw):
         # A drill takes a tenth of a second for each position.
         words[2] = b"0"
         return Case(words, wanted=(b"0 of 0 mate in 1\n", 0))
-    if command in ("check", "resume"):
+    if command in ("check", "resume", "migrate"):
         return Case(words, wanted=(b"file missing\n", 11))
     return Case(words, wanted=(b"text line 1 missing\n", 3))
 
@@ -150,7 +152,7 @@ def text_case(draw):
     """A text, with a command that takes one."""
     moves = draw.choice([0, 0, 0, 1, 1, 2])
     budget = draw.choice([1, 2, 5, 20, 100, 500]) if moves < 2 else draw.choice([1, 20, 60])
-    command = draw.choice(["show", "show", "decide", "least", "first", "play", "keep"])
+    command = draw.choice(["show", "show", "decide", "least", "first", "describe", "play", "keep"])
     words = [command] if command == "show" else [command, str(moves)] + ["a"] * (command == "keep") + [str(budget)]
     words = [word.encode() for word in words]
     text = drawn_text(draw)
@@ -162,7 +164,7 @@ def text_case(draw):
         return Case(words, text, wanted=(f"{why.line}\n".encode(), why.code))
     if command == "show":
         return Case(words, text, wanted=(reader.shown(turn, winner, men).encode(), 0))
-    if command == "first" and (turn != winner or moves == 0):
+    if command in ("first", "describe") and (turn != winner or moves == 0):
         return Case(words, text, wanted=(b"end\n", 0))
     if turn == winner and moves == 0:
         return Case(words, text, wanted=(b"none up to 0\n" if command == "least" else b"no mate in 0\n", 0))
@@ -272,12 +274,12 @@ def changed_file(draw, data):
 def file_case(draw, kept):
     data = changed_file(draw, draw.choice(kept)) if draw.random() < 0.97 else bytes(draw.randrange(256) for _ in range(draw.randrange(300)))
     budget = draw.choice([b"1", b"10", b"100", b"500"])
-    words = [draw.choice([b"check", b"check", b"resume"]), b"a", budget]
+    words = [draw.choice([b"check", b"check", b"resume"]), b"a", budget] if draw.random() < 0.8 else [b"migrate", b"a", b"a"]
     try:
         reader.read_file(data)
     except reader.Refusal as why:
         return Case(words, b"quit\n", data, (f"file {why}\n".encode(), 11))
-    return Case(words, b"quit\n", data)
+    return Case(words, b"quit\n", data, (b"migrated\n", 0) if words[0] == b"migrate" else None)
 
 
 def run(program, folder, case):

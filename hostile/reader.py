@@ -20,8 +20,9 @@ NAME = re.compile(rb"[a-z0-9_]{1,32}")
 # For each command the limits of its words; a name has none. The budget may be left out.
 MOVES, BUDGET = (0, 20), (1, 200000)
 SHAPES = {
-    b"decide": [MOVES, BUDGET], b"least": [MOVES, BUDGET], b"first": [MOVES, BUDGET], b"play": [MOVES, BUDGET],
-    b"keep": [MOVES, None, BUDGET], b"check": [None, BUDGET], b"resume": [None, BUDGET],
+    b"decide": [MOVES, BUDGET], b"least": [MOVES, BUDGET], b"first": [MOVES, BUDGET], b"describe": [MOVES, BUDGET],
+    b"play": [MOVES, BUDGET],
+    b"keep": [MOVES, None, BUDGET], b"check": [None, BUDGET], b"resume": [None, BUDGET], b"migrate": [None, None],
     b"show": [], b"drill": [(0, 2**64 - 1), (0, 100)], b"arith": [BUDGET],
 }
 LETTERS = [bytes([letter]) for letter in b"abcdefghijklmnop"]

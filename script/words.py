@@ -19,7 +19,7 @@ def refusal(explain, words):
     if not len([it for it in shape if it != explain.BUDGET]) <= len(rest) <= len(shape):
         return "count"
     for what, word in zip(shape, rest):
-        if what == explain.NAME:
+        if what in explain.NAMES:
             if not explain.NAMED.fullmatch(word):
                 return "name"
         elif not explain.NATURAL.fullmatch(word):
