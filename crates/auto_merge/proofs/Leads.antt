@@ -7,7 +7,7 @@ use Rattle.letter_diagram.specs.Diagram.{Grows}
 use Rattle.letter_diagram.proofs.Lists.{one_place}
 use Rattle.auto_walk.specs.Rows.{Extends}
 use Rattle.auto_merge.specs.declared.keys.TheConstants.{NO_CLASS}
-use Rattle.auto_merge.specs.Graph.{Graph, mark_of}
+use Rattle.auto_merge.specs.Graph.{Graph, AddsKey, mark_of}
 use Rattle.auto_merge.specs.Keys.{class_in, HasClass, IsOwn, IsValueOf, IsLedBy, Remembers}
 
 -- ---- classes of places
@@ -75,6 +75,19 @@ pub Remembers-more : {Spot : Type 0} {g : Graph Spot} {old new : List (List ℕ)
 Remembers-more extends have grows all = record { led = λ own spot node is. IsLedBy-more extends have grows (all.led own spot node is) }
 
 -- ---- what is remembered
+
+-- one key more
+pub Remembers-adds : {Spot : Type 0} {g : Graph Spot} {places : List (List ℕ)} {table : List ℕ} {shapes : List Shape} {answers more : Option ℕ → Spot → ℕ → Type 0} {own : Option ℕ} {spot : Spot} {node : ℕ}
+    → AddsKey answers more own spot node → IsLedBy g places table shapes own spot node → Remembers g places table shapes answers → Remembers g places table shapes more
+Remembers-adds {g = g} {places = places} {table = table} {shapes = shapes} {own = own} {spot = spot} {node = node} adds led all = record {
+  led = λ o s n is. elim (adds.only o s n is) [
+    | inl before ↦ all.led o s n before
+    | inr now ↦
+        let at_node : IsLedBy g places table shapes own spot n = subst (IsLedBy g places table shapes own spot) (sym now.2) led in
+        let at_spot : IsLedBy g places table shapes own s n = subst (λ t. IsLedBy g places table shapes own t n) (sym now.1) at_node in
+        subst (λ w. IsLedBy g places table shapes w s n) (sym now.0) at_spot
+  ];
+}
 
 -- ---- keys
 

@@ -4,5 +4,6 @@ pub mod ClassStates
 pub mod Padded
 pub mod Mergings
 pub mod Trails
+pub mod VisitLemmas
 pub mod Flags
 pub mod States

@@ -11,10 +11,10 @@ use Rattle.auto_walk.specs.Rows.{Extends, IsFlagOf}
 use Rattle.auto_walk.proofs.RowLemmas.{Extends-refl, Extends-trans, length-Extends}
 use Rattle.auto_merge.specs.declared.keys.TheConstants.{NO_CLASS}
 use Rattle.auto_merge.specs.declared.merging.Merging.{Merging}
-use Rattle.auto_merge.specs.Graph.{Graph, AreSeen, IsRowAt, mark_of}
-use Rattle.auto_merge.specs.Keys.{class_in, HasClass, IsLedBy, Remembers, IsUnclassed, IsLedTo}
+use Rattle.auto_merge.specs.Graph.{Graph, AreSeen, IsRowAt, AddsKey, mark_of}
+use Rattle.auto_merge.specs.Keys.{class_in, HasClass, IsLedBy, Remembers, IsUnclassed}
 use Rattle.auto_merge.specs.Merging.{classed_count, HasOwner, AreClasses, key_eq, AreKeyed, IsRowKey, CanJoin, IsClassGiven, LeadsToClass, IsMerging, Keeps}
-use Rattle.auto_merge.proofs.Leads.{HaveMore, HaveMore-extends, classed_within, IsLedBy-more, IsLedBy-own, Remembers-more}
+use Rattle.auto_merge.proofs.Leads.{HaveMore, HaveMore-extends, classed_within, IsLedBy-more, IsLedBy-own, Remembers-more, Remembers-adds}
 use Rattle.auto_merge.proofs.Classes.{KeepsOwners, KeepsOwners-refl, KeepsOwners-push, AreKeyed-more, AreClasses-extends, AreClasses-own, AreClasses-shared, HaveMore-give, IsSettled-key, IsSettled-join, AreKeyed-own, IsKeyOf-row, one_owner}
 use Rattle.auto_merge.proofs.Padded.{classed_count_few, classed_grown}
 
@@ -119,14 +119,36 @@ pub record IsMergingOf {Spot S : Type 0} (g : Graph Spot) (places : List (List �
 
 module _ {Spot S : Type 0} {g : Graph Spot} {places : List (List ℕ)} {answers : Option ℕ → Spot → ℕ → Type 0} {old owners : List ℕ} {shapes : List Shape} {keyed : HashMap (Bool × ℕ) ℕ S}
     (m : IsMergingOf g places answers old owners shapes keyed) where
-  -- spots are led
-  pub IsMergingOf-led : {new : List (List ℕ)} {more : Option ℕ → Spot → ℕ → Type 0} {after : List Shape} → Extends places new → Grows shapes after → IsLedTo g new old after more
-      → IsMergingOf g new more old owners after keyed
-  IsMergingOf-led extends grows led = record {
-    seen = led.seen;
-    classes = AreClasses-extends extends m.classes;
-    keys = AreKeyed-more extends (HaveMore-extends old extends) (KeepsOwners-refl owners) grows m.keys;
-    remembered = led.remembered;
+  -- places are numbered
+  pub IsMergingOf-seen : {new : List (List ℕ)} → Extends places new → AreSeen g new → IsMergingOf g new answers old owners shapes keyed
+  IsMergingOf-seen extends seen =
+      let have = HaveMore-extends old extends in
+      record {
+        seen = seen;
+        classes = AreClasses-extends extends m.classes;
+        keys = AreKeyed-more extends have (KeepsOwners-refl owners) (Grows-refl shapes) m.keys;
+        remembered = Remembers-more extends have (Grows-refl shapes) m.remembered;
+      }
+
+  -- nodes are added
+  pub IsMergingOf-nodes : {after : List Shape} → Grows shapes after → IsMergingOf g places answers old owners after keyed
+  IsMergingOf-nodes grows =
+      let have = HaveMore-extends old (Extends-refl places) in
+      record {
+        seen = m.seen;
+        classes = m.classes;
+        keys = AreKeyed-more (Extends-refl places) have (KeepsOwners-refl owners) grows m.keys;
+        remembered = Remembers-more (Extends-refl places) have grows m.remembered;
+      }
+
+  -- a key is remembered
+  pub IsMergingOf-remembers : {more : Option ℕ → Spot → ℕ → Type 0} {own : Option ℕ} {spot : Spot} {node : ℕ} → AddsKey answers more own spot node → IsLedBy g places old shapes own spot node
+      → IsMergingOf g places more old owners shapes keyed
+  IsMergingOf-remembers adds led = record {
+    seen = m.seen;
+    classes = m.classes;
+    keys = m.keys;
+    remembered = Remembers-adds adds led m.remembered;
   }
 
   module _ {new : List ℕ} {number class : ℕ} (given : IsClassGiven old new number class) (is : IsUnclassed places old number) where

@@ -7,12 +7,10 @@ use Rattle.auto_walk.specs.declared.grown.Grown.{Grown}
 use Rattle.auto_walk.specs.declared.grown.Grown.TheVariants as reasons
 use Rattle.auto_walk.specs.Walker.{MoreThan}
 use Rattle.auto_merge.specs.declared.keys.TheConstants.{NO_CLASS}
-use Rattle.auto_merge.specs.declared.keys.Guide.{Guide}
-use Rattle.auto_merge.specs.declared.keys.Led.{Led}
 use Rattle.auto_merge.specs.declared.keys.NoKey.{NoKey}
 use Rattle.auto_merge.specs.declared.keys.NoKey.TheVariants.{Unclassed, Over, Memory}
 use Rattle.auto_merge.specs.declared.rows.Key.{Key}
-use Rattle.auto_merge.specs.Graph.{Graph, AreSeen, mark_of}
+use Rattle.auto_merge.specs.Graph.{Graph}
 
 -- the class of a number; past the table there is none
 abbrev pub class_in : List ℕ → ℕ → ℕ
@@ -81,26 +79,3 @@ IsLeafRefused table number Memory = Unit {0}
 pub record IsTestKey (node : ℕ) (low high key : Key) : Type 0 where
   pub is : key.node ≡ node
   pub whole : key.whole ≡ (low.whole && high.whole)
-
--- different places are numbered, and what is remembered is true of them
-pub record IsLedTo {Spot : Type 0} (g : Graph Spot) (places : List (List ℕ)) (table : List ℕ) (shapes : List Shape)
-    (answers : Option ℕ → Spot → ℕ → Type 0) : Type 0 where
-  pub seen : AreSeen g places
-  pub remembered : Remembers g places table shapes answers
-
--- the same of what grows, as a guide leads
-abbrev pub IsLedIn : {R Spot Seen Memo : Type 0} → (R → Graph Spot) → (R → Seen → List (List ℕ))
-    → (Memo → Option ℕ → Spot → ℕ → Type 0) → Guide R Spot Seen Memo → Led R Spot Seen Memo → Type 0
-IsLedIn graph places answers guide led =
-    IsLedTo (graph guide.rows.now) (places guide.rows.now led.seen) guide.table.now led.to (answers led.memo)
-
--- the key of a spot under a guide
-abbrev pub IsKeyIn : {R Spot Seen Memo : Type 0} → (R → Graph Spot) → (R → Seen → List (List ℕ))
-    → Guide R Spot Seen Memo → Led R Spot Seen Memo → Spot → Key → Type 0
-IsKeyIn graph places guide led spot key =
-    IsLedBy (graph guide.rows.now) (places guide.rows.now led.seen) guide.table.now led.to (mark_of key.whole guide.own) spot key.node
-
--- why a spot has none
-abbrev pub IsRefusedIn : {R Spot Seen Memo : Type 0} → (R → Graph Spot) → (R → Seen → List (List ℕ))
-    → Guide R Spot Seen Memo → Led R Spot Seen Memo → NoKey → Type 0
-IsRefusedIn graph places guide led why = IsNoKey (graph guide.rows.now) (places guide.rows.now led.seen) guide.table.now why

@@ -4,5 +4,6 @@ pub mod Graph
 pub mod Keys
 pub mod Merging
 pub mod Merged
+pub mod Visits
 pub mod Walk
 pub mod StateRows

@@ -8,8 +8,9 @@ ghost use Rattle.auto_merge.specs.Walk.{IsTrailIn};
 ghost use Rattle.auto_merge.specs.Merged.{IsMerged, IsSettledIn, IsClassRowIn, AreClassRowsIn, AreClassFlagsIn};
 
 use crate::keys::NoKey;
-use crate::merging::{Merging, has_own_classes, into_diagrams, no_classes, spot_key};
+use crate::merging::{Merging, has_own_classes, into_diagrams, no_classes};
 use crate::rows::Rows;
+use crate::visits::spot_key;
 use crate::walk::{Trail, class_from, no_trail};
 use auto_compact::compact;
 use auto_core::Auto;
@@ -35,7 +36,7 @@ fn settled_node<R: Rows>(
     ensures over { result ≡ Err Grown.Over → MoreThan (R.graph rows.now).walker (R.graph rows.now).most }
 {
     loop {
-        match spot_key(rows, spot, None, merging) {
+        match spot_key(rows, spot, merging) {
             Ok(key) => return Ok(key.node),
             Err(NoKey::Unclassed(number)) => class_from(rows, number, merging, way)?,
             Err(NoKey::Over) => return Err(Grown::Over),

@@ -2,9 +2,10 @@
 //! nothing tells apart.
 //! What one pass leaves where ways lead back through several states is reduced.
 //! It goes over the rows of an automaton, or over any rows that lead letters to places: they are merged as the places are found.
-//! `rows` says where rows come from. They are led to the classes of places in `keys`. `merging` gives classes by these, `joining` says
-//! which may be shared, `walk` has the order in which places get theirs, and `class_states` the automaton over the classes. `state_rows` has
-//! the rows of an automaton.
+//! `rows` says where rows come from, and `keys` what they are led to: the classes of places. `merging` gives classes by these, and `joining`
+//! says which may be shared. `visits` leads rows, and visits the places on the way that have no class yet, each within the visit of the one
+//! before; `walk` goes on where that would be too deep. `class_states` has the automaton over the classes, `state_rows` the rows of an
+//! automaton.
 #![tactic(auto)]
 
 mod class_states;
@@ -14,6 +15,7 @@ mod merge_states;
 mod merging;
 mod rows;
 mod state_rows;
+mod visits;
 mod walk;
 
 pub use class_states::merge_rows;

@@ -1,14 +1,12 @@
 //! Classes that are given to places one by one.
 ghost use Rattle.std.specs.Prelude.{◌≡◌, ◌↔◌, ◌<◌, ◌≤◌, ◌^◌, ◌++◌, ◌∷◌, [], ℕ, Err, length, IfErr, IfOk, IfSome, OnOk, IsTrue, true, false};
-ghost use Rattle.auto_walk.specs.Walker.{MoreThan};
 ghost use Rattle.auto_merge.specs.declared.keys.TheConstants.{NO_CLASS};
 ghost use Rattle.auto_merge.specs.Keys.{class_in};
-ghost use Rattle.auto_merge.specs.Merging.{IsRoomMade, IsClassGiven, IsMerging, Keeps, IsUnclassedIn, IsClassedIn, IsKnownClassIn, IsSpotKeyIn, IsNoSpotKeyIn, IsRowKeyIn, IsOwnerRowIn, MayShareIn, HasOwnClasses};
+ghost use Rattle.auto_merge.specs.Merging.{IsRoomMade, IsClassGiven, IsMerging, Keeps, IsUnclassedIn, IsClassedIn, IsKnownClassIn, IsRowKeyIn, IsOwnerRowIn, MayShareIn, HasOwnClasses};
 
 use crate::joining::{agrees, first_class};
-use crate::keys::{Guide, Led, NO_CLASS, NoKey, key_of};
+use crate::keys::{Led, NO_CLASS};
 use crate::rows::{Key, Rows};
-use auto_walk::Grown;
 use letter_diagram::{Diagrams, Node};
 use std::alloc::{AllocError, Global};
 use std::collections::HashMap;
@@ -26,6 +24,8 @@ pub struct Merging<R: Rows> {
     /// The class of a flag and the key of a row.
     keyed: HashMap<(bool, Node), u32>,
     pub led: Led<R>,
+    /// Whether each place is being visited, as far as the list goes. One past it is not.
+    pub visited: Vec<bool>,
 }
 
 /// No place has a class.
@@ -38,9 +38,10 @@ pub fn no_classes<R: Rows>(alloc: Global, rows: &R) -> Result<Merging<R>, AllocE
         keyed: HashMap::new(alloc),
         led: Led {
             seen: rows.new_seen(alloc)?,
-            to: Diagrams::new(alloc),
+            to: Diagrams::with_capacity(alloc, rows.nodes())?,
             memo: rows.new_memo(alloc)?,
         },
+        visited: Vec::new(alloc),
     })
 }
 
@@ -133,98 +134,36 @@ fn give_by_key<R: Rows>(
     Ok(())
 }
 
-/// The key of a spot, in the row of a place, or where each place has a class.
-pub fn spot_key<R: Rows>(
-    rows: &R,
-    spot: R::Spot,
-    own: Option<u32>,
-    merging: &mut Merging<R>,
-) -> Result<Key, NoKey>
-    requires read { (R.graph rows.now).can_read spot }
-    requires merging { IsMerging (R.graph rows.now) (R.places rows.now) R.answers merging.old }
-    ensures key { IfOk result (IsSpotKeyIn (R.graph rows.now) (R.places rows.now) merging.new own spot) }
-    ensures refused { IfErr result (IsNoSpotKeyIn (R.graph rows.now) (R.places rows.now) merging.new) }
-    ensures merging { IsMerging (R.graph rows.now) (R.places rows.now) R.answers merging.new }
-    ensures kept { Keeps (R.places rows.now) merging.old merging.new }
-    ensures table { merging.new.table ≡ merging.old.table }
-    ensures owners { merging.new.owners ≡ merging.old.owners }
-{
-    let guide = Guide {
-        rows,
-        table: merging.table.as_slice(),
-        own,
-    };
-    key_of(&guide, spot, &mut merging.led)
-}
-
-/// The key of the row of a number.
-pub fn row_key<R: Rows>(rows: &R, number: u32, merging: &mut Merging<R>) -> Result<Node, NoKey>
-    requires merging { IsMerging (R.graph rows.now) (R.places rows.now) R.answers merging.old }
-    requires new { IsUnclassedIn (R.places rows.now) merging.old number }
-    ensures key { IfOk result (IsRowKeyIn (R.graph rows.now) (R.places rows.now) merging.new number) }
-    ensures refused { IfErr result (IsNoSpotKeyIn (R.graph rows.now) (R.places rows.now) merging.new) }
-    ensures merging { IsMerging (R.graph rows.now) (R.places rows.now) R.answers merging.new }
-    ensures kept { Keeps (R.places rows.now) merging.old merging.new }
-    ensures new { IsUnclassedIn (R.places rows.now) merging.new number }
+/// The node that leads the row of a number to classes, where it is remembered that each of its places has one.
+fn whole_row<R: Rows>(rows: &R, number: u32, merging: &Merging<R>) -> Option<Node>
+    requires merging { IsMerging (R.graph rows.now) (R.places rows.now) R.answers merging.now }
+    requires known { number < length (R.places rows.now merging.now.led.seen) }
+    ensures { IfSome result (IsOwnerRowIn (R.graph rows.now) (R.places rows.now) merging.now number) }
 {
     let spot = rows.row(&merging.led.seen, number);
-    let key = spot_key(rows, spot, Some(number), merging)?;
-    Ok(key.node)
-}
-
-/// The node that leads the row of a number to classes, where each of its places has one.
-fn whole_row<R: Rows>(
-    rows: &R,
-    number: u32,
-    merging: &mut Merging<R>,
-) -> Result<Option<Node>, Grown>
-    requires merging { IsMerging (R.graph rows.now) (R.places rows.now) R.answers merging.old }
-    requires known { number < length (R.places rows.now merging.old.led.seen) }
-    ensures row { IfOk result (λ row. IfSome row (IsOwnerRowIn (R.graph rows.now) (R.places rows.now) merging.new number)) }
-    ensures merging { IsMerging (R.graph rows.now) (R.places rows.now) R.answers merging.new }
-    ensures kept { Keeps (R.places rows.now) merging.old merging.new }
-    ensures table { merging.new.table ≡ merging.old.table }
-    ensures owners { merging.new.owners ≡ merging.old.owners }
-    ensures over { result ≡ Err Grown.Over → MoreThan (R.graph rows.now).walker (R.graph rows.now).most }
-{
-    let spot = rows.row(&merging.led.seen, number);
-    match spot_key(rows, spot, None, merging) {
-        Ok(key) => Ok(Some(key.node)),
-        Err(NoKey::Unclassed(_)) => Ok(None),
-        Err(NoKey::Over) => Err(Grown::Over),
-        Err(NoKey::Memory) => Err(Grown::Memory),
-    }
+    let key = rows.recall(&merging.led.memo, spot, None)?;
+    Some(key.node)
 }
 
 /// Whether a number may get a class to which its key leads.
-fn can_join<R: Rows>(
-    rows: &R,
-    number: u32,
-    key: Node,
-    class: u32,
-    merging: &mut Merging<R>,
-) -> Result<bool, Grown>
-    requires merging { IsMerging (R.graph rows.now) (R.places rows.now) R.answers merging.old }
-    requires new { IsUnclassedIn (R.places rows.now) merging.old number }
-    requires key { IsRowKeyIn (R.graph rows.now) (R.places rows.now) merging.old number key }
-    requires known { IsKnownClassIn merging.old class }
-    ensures can { IfOk result (λ can. IsTrue can → MayShareIn (R.graph rows.now) (R.places rows.now) merging.new number class) }
-    ensures merging { IsMerging (R.graph rows.now) (R.places rows.now) R.answers merging.new }
-    ensures kept { Keeps (R.places rows.now) merging.old merging.new }
-    ensures new { IsUnclassedIn (R.places rows.now) merging.new number }
-    ensures over { result ≡ Err Grown.Over → MoreThan (R.graph rows.now).walker (R.graph rows.now).most }
+fn can_join<R: Rows>(rows: &R, number: u32, key: &Key, class: u32, merging: &Merging<R>) -> bool
+    requires merging { IsMerging (R.graph rows.now) (R.places rows.now) R.answers merging.now }
+    requires key { IsRowKeyIn (R.graph rows.now) (R.places rows.now) merging.now number key.now.node }
+    requires known { IsKnownClassIn merging.now class }
+    ensures { IsTrue result → MayShareIn (R.graph rows.now) (R.places rows.now) merging.now number class }
 {
     let owner = merging.owners[class as usize];
     if rows.is_final(&merging.led.seen, owner) != rows.is_final(&merging.led.seen, number) {
-        return Ok(false);
+        return false;
     }
-    match whole_row(rows, owner, merging)? {
-        Some(row) => {
-            let mut steps = MOST_STEPS;
-            Ok(agrees(&merging.led.to, key, row, class, &mut steps))
-        }
-        None => Ok(false),
+    let Some(row) = whole_row(rows, owner, merging) else {
+        return false;
+    };
+    if key.whole {
+        return key.node == row;
     }
+    let mut steps = MOST_STEPS;
+    agrees(&merging.led.to, key.node, row, class, &mut steps)
 }
 
 /// Gives a number the class of another with the same row.
@@ -249,22 +188,21 @@ fn give_shared<R: Rows>(
 fn give_led<R: Rows>(
     rows: &R,
     number: u32,
-    key: Node,
+    key: &Key,
     merging: &mut Merging<R>,
-) -> Result<bool, Grown>
+) -> Result<bool, AllocError>
     requires merging { IsMerging (R.graph rows.now) (R.places rows.now) R.answers merging.old }
     requires new { IsUnclassedIn (R.places rows.now) merging.old number }
-    requires key { IsRowKeyIn (R.graph rows.now) (R.places rows.now) merging.old number key }
+    requires key { IsRowKeyIn (R.graph rows.now) (R.places rows.now) merging.old number key.now.node }
     ensures merging { OnOk result (IsMerging (R.graph rows.now) (R.places rows.now) R.answers merging.new) }
     ensures kept { OnOk result (Keeps (R.places rows.now) merging.old merging.new) }
     ensures given { IfOk result (λ given. given ≡ true → IsClassedIn merging.new number) }
     ensures left { IfOk result (λ given. given ≡ false → IsUnclassedIn (R.places rows.now) merging.new number) }
-    ensures over { result ≡ Err Grown.Over → MoreThan (R.graph rows.now).walker (R.graph rows.now).most }
 {
-    let Some(class) = first_class(&merging.led.to, key) else {
+    let Some(class) = first_class(&merging.led.to, key.node) else {
         return Ok(false);
     };
-    if !can_join(rows, number, key, class, merging)? {
+    if !can_join(rows, number, key, class, merging) {
         return Ok(false);
     }
     give_shared(rows, number, class, merging)?;
@@ -275,20 +213,19 @@ fn give_led<R: Rows>(
 pub fn give_any<R: Rows>(
     rows: &R,
     number: u32,
-    key: Node,
+    key: &Key,
     merging: &mut Merging<R>,
-) -> Result<(), Grown>
+) -> Result<(), AllocError>
     requires merging { IsMerging (R.graph rows.now) (R.places rows.now) R.answers merging.old }
     requires new { IsUnclassedIn (R.places rows.now) merging.old number }
-    requires key { IsRowKeyIn (R.graph rows.now) (R.places rows.now) merging.old number key }
+    requires key { IsRowKeyIn (R.graph rows.now) (R.places rows.now) merging.old number key.now.node }
     ensures merging { OnOk result (IsMerging (R.graph rows.now) (R.places rows.now) R.answers merging.new) }
     ensures kept { OnOk result (Keeps (R.places rows.now) merging.old merging.new) }
     ensures given { OnOk result (IsClassedIn merging.new number) }
-    ensures over { result ≡ Err Grown.Over → MoreThan (R.graph rows.now).walker (R.graph rows.now).most }
 {
     if give_led(rows, number, key, merging)? {
         return Ok(());
     }
-    give_by_key(rows, number, key, merging)?;
+    give_by_key(rows, number, key.node, merging)?;
     Ok(())
 }

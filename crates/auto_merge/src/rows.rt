@@ -59,6 +59,9 @@ pub trait Rows {
     fn new_memo(&self, alloc: Global) -> Result<Self::Memo, AllocError>
         ensures { IfOk result (λ memo. AnswersNothing (answers memo)) };
 
+    /// About how many nodes they are led to, so that there is room for them: any number will do.
+    fn nodes(&self) -> usize;
+
     /// How many places are numbered.
     fn count(&self, seen: &Self::Seen) -> usize
         ensures { result ≡ length (places self.now seen.now) };

@@ -65,6 +65,10 @@ impl<'a> Rows for StateRows<'a> {
         })
     }
 
+    fn nodes(&self) -> usize {
+        self.a.diagrams().len()
+    }
+
     fn count(&self, _seen: &AllStates) -> usize {
         self.a.states() as usize
     }
@@ -81,6 +85,7 @@ impl<'a> Rows for StateRows<'a> {
         self.a.accept_of(number)
     }
 
+    #[inline(always)]
     fn look(&self, spot: Node, _seen: &mut AllStates) -> Result<Look<Node>, Grown> {
         Ok(match self.a.diagrams().shape(spot) {
             Shape::Leaf(state) => Look::Place(state),
@@ -88,6 +93,7 @@ impl<'a> Rows for StateRows<'a> {
         })
     }
 
+    #[inline(always)]
     fn recall(&self, memo: &NodeKeys, spot: Node, own: Option<u32>) -> Option<Key> {
         let key = memo.keys.get(spot.number()).copied().flatten()?;
         if key.own.is_some() && key.own != own {
@@ -99,6 +105,7 @@ impl<'a> Rows for StateRows<'a> {
         })
     }
 
+    #[inline(always)]
     fn remember(
         &self,
         memo: &mut NodeKeys,

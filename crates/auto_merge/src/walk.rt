@@ -6,8 +6,9 @@ ghost use Rattle.auto_merge.specs.Merging.{IsMerging, Keeps, IsUnclassedIn, IsCl
 ghost use Rattle.auto_merge.specs.Walk.{IsTrail, IsRoomMade, IsEntered, IsTurned, IsTrailIn, steps_left_in};
 
 use crate::keys::{NO_CLASS, NoKey, class_of};
-use crate::merging::{Merging, give_any, give_own, row_key};
+use crate::merging::{Merging, give_own};
 use crate::rows::Rows;
+use crate::visits::visit_place;
 use auto_walk::Grown;
 use std::alloc::{AllocError, Global};
 
@@ -108,13 +109,12 @@ fn visit<R: Rows>(
     if class_of(merging.table.as_slice(), number) != NO_CLASS {
         return Ok(());
     }
-    match row_key(rows, number, merging) {
-        Ok(key) => {
-            give_any(rows, number, key, merging)?;
-            Ok(())
-        }
+    match visit_place(rows, number, merging) {
+        Ok(()) => Ok(()),
         Err(NoKey::Unclassed(next)) => {
-            put_off(rows, number, next, merging, way)?;
+            if class_of(merging.table.as_slice(), number) == NO_CLASS {
+                put_off(rows, number, next, merging, way)?;
+            }
             Ok(())
         }
         Err(NoKey::Over) => Err(Grown::Over),

@@ -44,7 +44,7 @@ use lin_formula::Formula;
 use std::alloc::{AllocError, Global};
 
 /// The automaton of a formula: reduced, with the free variables as tracks.
-/// Each And, Or and Ex is a step, numbered from 1 in post-order, and stops where it needs more states than the budget.
+/// Each And, Or and Ex is a step, numbered from 1 in post-order, and stops where it has to tell apart more words than the budget.
 /// Goes down the formula, a call a level.
 pub fn compile(
     alloc: Global,

@@ -51,7 +51,7 @@ impl Model for Memo {
 }
 
 impl Memo {
-    /// A memo without entries. Each formula that it compiles has this budget of states for a step.
+    /// A memo without entries. Each formula that it compiles has this budget for a step.
     pub fn new(alloc: Global, budget: Budget) -> Memo
         ensures budget { result.budget ≡ budget }
         ensures entries { result.entries ≡ [] }
@@ -79,7 +79,7 @@ impl Memo {
         self.found
     }
 
-    /// The greatest number of states that a step may need.
+    /// The budget of a step.
     pub fn budget(&self) -> Budget
         ensures is { result ≡ self.now.budget }
         ensures valid { IsMemo self.now }

@@ -61,7 +61,7 @@ impl ShortTable {
         }
     }
 
-    /// The greatest number of states that a step may need.
+    /// The budget of a step.
     pub fn budget(&self) -> Budget
         ensures { result ≡ self.now }
     {

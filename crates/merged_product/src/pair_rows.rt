@@ -127,11 +127,14 @@ impl<'a> Rows for PairRows<'a> {
     }
 
     fn new_memo(&self, alloc: Global) -> Result<KeyMemo, AllocError> {
-        let left = self.factors.left;
-        let right = self.factors.right;
-        let nodes = left.diagrams().len().max(right.diagrams().len());
-        let memo = KeyMemo::with_capacity(alloc, nodes, left.first_node())?;
+        let memo = KeyMemo::with_capacity(alloc, self.nodes() / 2, self.factors.left.first_node())?;
         Ok(memo)
+    }
+
+    fn nodes(&self) -> usize {
+        let left = self.factors.left.diagrams();
+        let right = self.factors.right.diagrams();
+        left.len().max(right.len())
     }
 
     fn count(&self, seen: &Pairs) -> usize {
@@ -161,6 +164,7 @@ impl<'a> Rows for PairRows<'a> {
         )
     }
 
+    #[inline(always)]
     fn look(&self, spot: (Node, Node), seen: &mut Pairs) -> Result<Look<(Node, Node)>, Grown> {
         match self.sides.look(&self.none, spot.0, spot.1) {
             PairShape::Pair(left, right) => {
@@ -175,10 +179,12 @@ impl<'a> Rows for PairRows<'a> {
         }
     }
 
+    #[inline(always)]
     fn recall(&self, memo: &KeyMemo, spot: (Node, Node), own: Option<u32>) -> Option<Key> {
         memo.get(spot.0, spot.1, own)
     }
 
+    #[inline(always)]
     fn remember(
         &self,
         memo: &mut KeyMemo,

@@ -1,0 +1,11 @@
+-- Rows that are led to classes, where places get a class on the way.
+use Rattle.std.specs.Prelude.{Result, Ok, Err}
+use Rattle.auto_merge.specs.declared.keys.NoKey.{NoKey}
+use Rattle.auto_merge.specs.declared.keys.NoKey.TheVariants.{Unclassed, Over, Memory}
+
+-- what holds where a row was led as far as there are classes: to its end, or to a place that has none
+abbrev pub OnLed : {T : Type 0} → Result T NoKey → Type 0 → Type 0
+OnLed (Ok made) P = P
+OnLed (Err (Unclassed number)) P = P
+OnLed (Err Over) P = Unit {0}
+OnLed (Err Memory) P = Unit {0}
