@@ -4,7 +4,6 @@ use Rattle.track_word.specs.declared.tracks.Var.{Var}
 use Rattle.auto_core.specs.Automaton.{Automaton}
 use Rattle.game_rules.specs.Game.{Position, other}
 use Rattle.game_rules.specs.declared.men.Side.{Side}
-use Rattle.game_rules.specs.declared.men.Side.TheVariants.{White, Black}
 use Rattle.lin_formula.specs.SetOf.{SetOf}
 use Rattle.mask_sets.specs.Stock.{mask_of}
 use Rattle.mask_sets.specs.Tuple.{tuple_of}
@@ -22,6 +21,7 @@ use Rattle.mate_plan.specs.Twins.{twin_item, twin_items, twins_of}
 use Rattle.mate_plan.specs.declared.names.Part.{Part}
 use Rattle.mate_plan.specs.declared.names.Part.TheVariants as kind
 use Rattle.mate_plan.specs.Once.{SameLevels}
+use Rattle.mate_plan.specs.Turns.{waits}
 use Rattle.mate_plan.proofs.PlanOnce.{bear-same, difference-alike, map-items, point_level-alike, pre-same, reach_level-alike, union-alike}
 use Rattle.mate_plan.specs.Claim.{Claim, ClaimedSet, claimed_at, claimed_in, claimed_level, losers_plies}
 use Rattle.claim_plan.specs.CheckPlan.{Finding, and_then, check_first, check_left, check_move, check_moving, check_plan, check_ply, check_replies, check_set, check_sets, check_sign, check_stale, check_waiting, for_each, go_on, holds_by, judged, rule_at}
@@ -207,21 +207,19 @@ module _ (p : Position) (w : Side) (n : ℕ) (xs ys : List ClaimedSet) (same : (
       let here = λ (x : Claim). claimed_level x 0 (mask_of p) in
       asked-alike (rule_at 0 (mask_of p) rule.First) (Has-alike (here c) (here d) (tuple_of p) (levels-same 0 (mask_of p)))
 
-  first-alike : (a s : Side) → Alike Same (check_first c a s) (check_first d a s)
-  first-alike White White = moving-alike n
-  first-alike Black Black = moving-alike n
-  first-alike White Black = waiting-alike
-  first-alike Black White = waiting-alike
+  first-alike : (plies : ℕ) → Alike Same (check_first c plies) (check_first d plies)
+  first-alike zero = moving-alike n
+  first-alike (suc plies) = waiting-alike
 
   -- the plans of two claims of the same sets
   pub check_plan-alike : Alike Same (check_plan c) (check_plan d)
   check_plan-alike =
       let plies = losers_plies w p.turn n in
       let sets = λ (x : Claim). for_each plies (check_sets x) in
-      let first = λ (x : Claim). check_first x w p.turn in
+      let first = λ (x : Claim). check_first x (waits w p.turn) in
       let replies = λ (x : Claim). for_each plies (check_ply x) in
       and_then-alike (sets c) (sets d) (and_then (first c) (replies c)) (and_then (first d) (replies d))
       (for_each-alike (check_sets c) (check_sets d) plies sets-alike)
-      (and_then-alike (first c) (first d) (replies c) (replies d) (first-alike w p.turn)
+      (and_then-alike (first c) (first d) (replies c) (replies d) (first-alike (waits w p.turn))
       (for_each-alike (check_ply c) (check_ply d) plies
       (λ ply. replies-alike rules (other w) ply (claimed_level c ply) (claimed_level d ply) (claimed_level c (ply + 2)) (claimed_level d (ply + 2)) (levels-same ply) (levels-same (ply + 2)))))

@@ -1,8 +1,7 @@
 -- The rule of the start.
-use Rattle.std.proofs.Common.{◌≡◌, ◌↔◌, ℕ, zero, suc, List, [], ◌∷◌, Option, Some, None, ◌==◌, if◌then◌else◌, Bool, true, false, inl, inr, ℤ, pos, refl, sym, ap, ◌∙◌, subst, arith}
+use Rattle.std.proofs.Common.{◌≡◌, ◌↔◌, ℕ, zero, suc, List, [], ◌∷◌, Option, Some, None, ◌==◌, if◌then◌else◌, Bool, true, false, inl, inr, ℤ, pos, refl, sym, subst, arith}
 use Rattle.game_rules.specs.Game.{Position, other}
 use Rattle.game_rules.specs.declared.men.Side.{Side}
-use Rattle.game_rules.specs.declared.men.Side.TheVariants.{White, Black}
 use Rattle.lin_formula.specs.Tree.{Tree}
 use Rattle.lin_formula.specs.Tree as tree
 use Rattle.lin_formula.specs.SetOf.{Member, SetOf, Nothing, Where}
@@ -27,6 +26,8 @@ use Rattle.mate_plan.specs.Claim.{Claim, IsClaim, IsClaimed, claimed_level}
 use Rattle.claim_plan.specs.CheckPlan.{Finding, check_first, check_moving, check_waiting, holds_if, rule_at}
 use Rattle.claim_plan.specs.Checked.{RuleHolds, KeepsRule}
 use Rattle.mate_plan.specs.Won.{IsBegun}
+use Rattle.mate_plan.specs.Turns.{waits}
+use Rattle.mate_plan.proofs.TurnLemmas.{moves_first, moves_later}
 use Rattle.claim_plan.specs.declared.names.RuleAt.{RuleAt}
 use Rattle.claim_plan.specs.declared.names.Rule.TheVariants as rule
 use Rattle.winning_sets.proofs.ClaimedLemmas.{claimed_there}
@@ -145,11 +146,9 @@ module _ (c : Claim) (is : IsClaim c) (mean : RulesMean c.position) (some_point 
       (λ h. inr (turn, stands.0 h), λ h. elim h [ inl (his, (q, moves, is_in)) ↦ absurd (not_moved turn is_in) | inr (his, is_in) ↦ stands.1 is_in ])
       (has-told (claimed_level c 0 (mask_of p)) xs found t)
 
-  first_at : (w s : Side) → c.winner ≡ w → c.position.turn ≡ s → Checks (KeepsRule c) (rule_at 0 (mask_of c.position) rule.First ∷ []) (check_first c w s)
-  first_at White White is_w is_s = moves-checks c.moves refl (is_s ∙ sym is_w)
-  first_at Black Black is_w is_s = moves-checks c.moves refl (is_s ∙ sym is_w)
-  first_at White Black is_w is_s = starting-checks (is_s ∙ sym (ap other is_w))
-  first_at Black White is_w is_s = starting-checks (is_s ∙ sym (ap other is_w))
+  first_at : (plies : ℕ) → waits c.winner c.position.turn ≡ plies → Checks (KeepsRule c) (rule_at 0 (mask_of c.position) rule.First ∷ []) (check_first c plies)
+  first_at zero none = moves-checks c.moves refl (moves_first c.winner c.position.turn none)
+  first_at (suc plies) some = starting-checks (moves_later c.winner c.position.turn plies some)
 
-  pub first-checks : Checks (KeepsRule c) (rule_at 0 (mask_of c.position) rule.First ∷ []) (check_first c c.winner c.position.turn)
-  first-checks = first_at c.winner c.position.turn refl refl
+  pub first-checks : Checks (KeepsRule c) (rule_at 0 (mask_of c.position) rule.First ∷ []) (check_first c (waits c.winner c.position.turn))
+  first-checks = first_at (waits c.winner c.position.turn) refl

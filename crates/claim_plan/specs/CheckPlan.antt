@@ -3,7 +3,6 @@ use Rattle.std.specs.Prelude.{ℕ, zero, suc, ◌+◌, List, Option, Some, None,
 use Rattle.auto_core.specs.Automaton.{Automaton}
 use Rattle.game_rules.specs.Game.{other}
 use Rattle.game_rules.specs.declared.men.Side.{Side}
-use Rattle.game_rules.specs.declared.men.Side.TheVariants.{White, Black}
 use Rattle.lin_formula.specs.SetOf.{SetOf}
 use Rattle.mask_sets.specs.Stock.{mask_of}
 use Rattle.mask_sets.specs.Tuple.{tuple_of}
@@ -12,6 +11,7 @@ use Rattle.mate_plan.specs.Plan.{Level, Program, Rules, reach_level}
 use Rattle.mate_plan.specs.PlanOf.{rules_of}
 use Rattle.mate_plan.specs.Questions.{are_answered, are_apart, are_safe, has_first_move, have_replies}
 use Rattle.mate_plan.specs.Claim.{Claim, claimed_at, claimed_level, losers_plies}
+use Rattle.mate_plan.specs.Turns.{waits}
 use Rattle.claim_plan.specs.declared.names.Rule.{Rule}
 use Rattle.claim_plan.specs.declared.names.Rule.TheVariants as rule
 use Rattle.claim_plan.specs.declared.names.RuleAt.{RuleAt}
@@ -117,12 +117,10 @@ module _ (c : Claim) where
   abbrev pub check_waiting : Program Finding
   check_waiting = holds_if (rule_at 0 first_mask rule.First) (Has (claimed_level c 0 first_mask) (tuple_of c.position))
 
-  -- by the winner and by the side that moves first
-  abbrev pub check_first : Side → Side → Program Finding
-  check_first White White = check_moving c.moves
-  check_first Black Black = check_moving c.moves
-  check_first White Black = check_waiting
-  check_first Black White = check_waiting
+  -- by how many plies the winner waits for his turn
+  abbrev pub check_first : ℕ → Program Finding
+  check_first zero = check_moving c.moves
+  check_first (suc _) = check_waiting
 
   abbrev pub check_ply : ℕ → Program Finding
   check_ply ply = check_replies rules loser ply (claimed_level c ply) (claimed_level c (ply + 2))
@@ -131,4 +129,4 @@ module _ (c : Claim) where
   abbrev pub check_plan : Program Finding
   check_plan =
       and_then (for_each plies check_sets)
-      (and_then (check_first c.winner c.position.turn) (for_each plies check_ply))
+      (and_then (check_first (waits c.winner c.position.turn)) (for_each plies check_ply))

@@ -4,3 +4,4 @@ pub mod OnRay
 pub mod Answer
 pub mod Symmetry
 pub mod Laws
+pub mod Soundness

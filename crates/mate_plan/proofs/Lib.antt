@@ -19,3 +19,4 @@ pub mod QuestionParts
 pub mod PlanOnce
 pub mod FirstMoves
 pub mod Taken
+pub mod TurnLemmas

@@ -1,4 +1,4 @@
--- What is said of a bench: its rules, its tracks, and the sets and the levels that names stand for.
+-- What is said of a bench: its rules, its tracks, and the sets and the levels that names stand for; and of work that goes on.
 use Rattle.std.specs.Prelude.{◌≡◌, ℕ, if◌then◌else◌, List, [], ◌∷◌, ◌++◌, Option, IfSome}
 use Rattle.track_word.specs.declared.tracks.Var.{Var}
 use Rattle.auto_core.specs.Automaton.{Automaton}
@@ -6,12 +6,18 @@ use Rattle.lin_formula.specs.declared.formula.SetId.{SetId}
 use Rattle.rule_formula.specs.Mean.{mask_tracks}
 use Rattle.rule_formula.specs.Placed.{is_live}
 use Rattle.rule_formula.specs.Seats.{own}
-use Rattle.set_plan.specs.Sets.{IsLeftOn, IsNameOn, IsSetOn}
+use Rattle.set_plan.specs.Sets.{Grows, IsLeftOn, IsNameOn, IsSetOn}
 use Rattle.set_plan.specs.declared.left.Left.{Left}
 use Rattle.mate_plan.specs.Levels.{AreNamesIn, Names, level_in}
 use Rattle.mate_plan.specs.Plan.{Level, Rules}
 use Rattle.mate_plan.specs.PlanOf.{rules_of}
 use Rattle.mate_plan.specs.declared.bench.Bench.{Bench}
+use Rattle.mate_plan.specs.declared.bench.Work.{Work}
+
+-- the work later on: each set is still there under its name, and the budget is the same
+pub record IsLater (old new : Work) : Type 0 where
+  pub grows : Grows old.sets new.sets
+  pub budget : new.memo.budget ≡ old.memo.budget
 
 -- the formulas of the rules for the position of the bench
 abbrev pub rules_on : Bench → Rules

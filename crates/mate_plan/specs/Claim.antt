@@ -4,7 +4,6 @@ use Rattle.auto_core.specs.Automaton.{Automaton}
 use Rattle.auto_core.specs.Integers.{IsAccepted}
 use Rattle.game_rules.specs.Game.{Position, Sound, other}
 use Rattle.game_rules.specs.declared.men.Side.{Side}
-use Rattle.game_rules.specs.declared.men.Side.TheVariants.{White, Black}
 use Rattle.lin_formula.specs.SetOf.{as_set}
 use Rattle.rule_formula.specs.Fits.{IsGameMask}
 use Rattle.mask_sets.specs.Stock.{HasStock, mask_of}
@@ -12,6 +11,7 @@ use Rattle.rule_formula.specs.Mean.{mask_tracks}
 use Rattle.mask_sets.specs.Tuple.{tuple_of}
 use Rattle.mate_plan.specs.Plan.{Level}
 use Rattle.mate_plan.specs.PlanOf.{last_ply}
+use Rattle.mate_plan.specs.Turns.{waits}
 
 -- a set that is claimed at a ply for the positions with these live men
 pub record ClaimedSet : Type 0 where
@@ -37,16 +37,14 @@ claimed_at c ply mask = claimed_in c.sets ply mask
 abbrev pub claimed_level : Claim → ℕ → Level
 claimed_level c ply mask = as_set (claimed_at c ply mask)
 
--- the plies of the loser: every second one, so many of them
+-- every second ply, so many of them
 abbrev pub every_second : ℕ → ℕ → List ℕ
 every_second ply zero = []
 every_second ply (suc count) = ply ∷ every_second (ply + 2) count
 
+-- the plies of the loser, from his first turn on: one for each move of the winner, and one more where he moves first
 abbrev pub losers_plies : Side → Side → ℕ → List ℕ
-losers_plies White White moves = every_second 1 moves
-losers_plies Black Black moves = every_second 1 moves
-losers_plies White Black moves = every_second 0 (suc moves)
-losers_plies Black White moves = every_second 0 (suc moves)
+losers_plies winner first moves = every_second (waits (other winner) first) (moves + waits winner first)
 
 -- the loser is to move at the ply, which is an odd number of plies before the last one; the winner has so many moves
 -- left

@@ -15,6 +15,7 @@ pub use Rattle.set_plan.specs.Program
 pub use Rattle.set_plan.specs.Past
 pub use Rattle.set_plan.specs.Outcome
 pub use Rattle.set_plan.specs.Unite
+pub mod Turns
 pub mod Plan
 pub mod PlanOf
 pub mod Levels

@@ -2,7 +2,6 @@
 use Rattle.std.specs.Prelude.{ℕ, zero, suc, ◌+◌, ◌*◌, List, [], Option, Some, None, pos}
 use Rattle.game_rules.specs.Game.{Position}
 use Rattle.game_rules.specs.declared.men.Side.{Side}
-use Rattle.game_rules.specs.declared.men.Side.TheVariants.{White, Black}
 use Rattle.lin_formula.specs.Tree.{Tree, Value}
 use Rattle.rule_formula.specs.Bearings.{bearings_of}
 use Rattle.rule_formula.specs.Fits.{masks_of, target_of}
@@ -13,14 +12,12 @@ use Rattle.rule_formula.specs.Seats.{var}
 use Rattle.rule_formula.specs.Trees.{bear_of, image_of, point_of, pre_of, safe_of, tracks_of}
 use Rattle.set_plan.specs.Program.{Give}
 use Rattle.mate_plan.specs.Plan.{Level, Program, Rules, plan}
+use Rattle.mate_plan.specs.Turns.{waits}
 
 -- the last ply of so many moves of the winner, by the side that moves first: the winner is to move there, and has no
 -- move left
 abbrev pub last_ply : Side → Side → ℕ → ℕ
-last_ply White White moves = 2 * moves
-last_ply Black Black moves = 2 * moves
-last_ply White Black moves = 2 * moves + 1
-last_ply Black White moves = 2 * moves + 1
+last_ply winner first moves = 2 * moves + waits winner first
 
 -- a formula, if there is one
 abbrev pub formula_or : Tree → Option Tree → Tree

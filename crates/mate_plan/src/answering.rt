@@ -1,11 +1,9 @@
 //! Whether each position of a set has a move into a level: replies have answers, and quiet positions have replies.
 ghost use Rattle.std.specs.Prelude.{◌≡◌, IfOk};
-ghost use Rattle.game_rules.specs.Game.{Sound};
 ghost use Rattle.rule_formula.specs.Fits.{IsGameMask};
 ghost use Rattle.set_plan.specs.Outcome.{Answers, as_is};
-ghost use Rattle.set_plan.specs.Sets.{Grows};
 ghost use Rattle.mate_plan.specs.Levels.{AreNamesIn};
-ghost use Rattle.mate_plan.specs.Bench.{IsNameFor};
+ghost use Rattle.mate_plan.specs.Bench.{IsLater, IsNameFor};
 ghost use Rattle.mate_plan.specs.Named.{AnswersName, AnswersWhether};
 ghost use Rattle.mate_plan.specs.Named as named;
 
@@ -28,7 +26,6 @@ fn have_moves(
     moves: &PartMoves,
     missing: Part,
 ) -> Result<bool, PlanError<PartName>>
-    requires sound { Sound bench.now.position.now }
     requires source { IsNameFor bench.now moves.now.set.stage.mask sets.now moves.now.set.name }
     requires into { AreNamesIn bench.now.position.now sets.now moves.now.into.now }
     ensures answers { Answers (named.have_moves moves.now missing bench.now sets.now) memo.old.budget as_is result }
@@ -53,13 +50,11 @@ fn quiet_name(
     work: &mut Work,
     set: StageSet,
 ) -> Result<Option<SetId>, PlanError<PartName>>
-    requires sound { Sound bench.now.position.now }
     requires mask { IsGameMask bench.now.position.now set.stage.mask }
     requires source { IsNameFor bench.now set.stage.mask work.old.sets set.name }
     ensures answers { AnswersName bench.now work.old work.new (named.quiet_set set) result }
     ensures name { IfOk result (IsNameFor bench.now set.stage.mask work.new.sets) }
-    ensures grows { Grows work.old.sets work.new.sets }
-    ensures budget { work.new.memo.budget ≡ work.old.memo.budget }
+    ensures later { IsLater work.old work.new }
 {
     let check = check_set(bench, &mut work.memo, &work.sets, set)?;
     let whole = PartSet {
@@ -75,7 +70,6 @@ pub fn are_answered(
     work: &mut Work,
     moves: &MovesInto,
 ) -> Result<bool, PlanError<PartName>>
-    requires sound { Sound bench.now.position.now }
     requires from { AreNamesIn bench.now.position.now work.old.sets moves.now.from.now }
     requires into { AreNamesIn bench.now.position.now work.old.sets moves.now.into.now }
     ensures answers { AnswersWhether bench.now work.old (named.are_answered moves.now) result }
@@ -99,13 +93,11 @@ pub fn have_replies(
     work: &mut Work,
     moves: &MovesInto,
 ) -> Result<bool, PlanError<PartName>>
-    requires sound { Sound bench.now.position.now }
     requires mask { IsGameMask bench.now.position.now moves.now.stage.mask }
     requires from { AreNamesIn bench.now.position.now work.old.sets moves.now.from.now }
     requires into { AreNamesIn bench.now.position.now work.old.sets moves.now.into.now }
     ensures answers { AnswersWhether bench.now work.old (named.have_replies moves.now) result }
-    ensures grows { Grows work.old.sets work.new.sets }
-    ensures budget { work.new.memo.budget ≡ work.old.memo.budget }
+    ensures later { IsLater work.old work.new }
 {
     let stage = moves.stage;
     let name = name_in(bench, moves.from, stage.mask);

@@ -1,6 +1,5 @@
 //! Whether a set has only positions whose men stand on distinct squares, and only positions in which a king is safe.
 ghost use Rattle.std.specs.Prelude.{◌≡◌, All, IfOk};
-ghost use Rattle.game_rules.specs.Game.{Sound};
 ghost use Rattle.rule_formula.specs.Fits.{IsGameMask};
 ghost use Rattle.rule_formula.specs.Pairs.{IsPairOf};
 ghost use Rattle.mate_plan.specs.Levels.{AreNamesIn};
@@ -49,7 +48,6 @@ pub fn are_apart(
     work: &mut Work,
     at: &StageLevel,
 ) -> Result<bool, PlanError<PartName>>
-    requires sound { Sound bench.now.position.now }
     requires mask { IsGameMask bench.now.position.now at.now.stage.mask }
     requires level { AreNamesIn bench.now.position.now work.old.sets at.now.level.now }
     ensures answers { AnswersWhether bench.now work.old (named.are_apart at.now) result }
@@ -74,7 +72,6 @@ pub fn are_safe(
     work: &mut Work,
     at: &StageLevel,
 ) -> Result<bool, PlanError<PartName>>
-    requires sound { Sound bench.now.position.now }
     requires mask { IsGameMask bench.now.position.now at.now.stage.mask }
     requires level { AreNamesIn bench.now.position.now work.old.sets at.now.level.now }
     ensures answers { AnswersWhether bench.now work.old (named.are_safe at.now) result }

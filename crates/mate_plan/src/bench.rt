@@ -1,6 +1,8 @@
 //! What the sets of a plan are computed for, and with.
 ghost use Rattle.std.specs.Prelude.{◌≡◌, ◌≤◌, [], length};
+ghost use Rattle.game_rules.specs.Game.{Sound};
 ghost use Rattle.rule_formula.specs.Fits.{masks_of};
+ghost use Rattle.game_laws.specs.Soundness.{Sound-prop};
 
 use chess_game::Position;
 use formula_auto::Memo;
@@ -8,13 +10,14 @@ use limits::Budget;
 use set_plan::Sets;
 use std::alloc::Global;
 
-/// A position of at most eight men, with its masks.
+/// A sound position, with its masks.
 #[derive(Clone, Copy)]
 pub struct Bench<'a> {
     pub alloc: Global,
     pub position: &'a Position,
     pub masks: &'a [u8],
     ghost few: { length position.now.men ≤ 8 },
+    ghost sound: { Sound position.now } by { Sound-prop position.now },
     ghost masks_are: { masks.now ≡ masks_of position.now },
 }
 

@@ -1,13 +1,12 @@
 //! Levels that are made mask by mask.
 ghost use Rattle.std.specs.Prelude.{ℕ, ◌≡◌, List, IfOk};
 ghost use Rattle.auto_core.specs.Automaton.{Automaton};
-ghost use Rattle.game_rules.specs.Game.{Sound, Position};
+ghost use Rattle.game_rules.specs.Game.{Position};
 ghost use Rattle.lin_formula.specs.SetOf.{SetOf};
 ghost use Rattle.rule_formula.specs.Fits.{IsGameMask};
-ghost use Rattle.set_plan.specs.Sets.{Grows};
 ghost use Rattle.mate_plan.specs.Levels.{AreNamesIn};
 ghost use Rattle.mate_plan.specs.Plan as plan;
-ghost use Rattle.mate_plan.specs.Bench.{IsNameFor};
+ghost use Rattle.mate_plan.specs.Bench.{IsLater, IsNameFor};
 ghost use Rattle.mate_plan.specs.Named.{AnswersLevel, AnswersName, StaysSame};
 ghost use Rattle.mate_plan.specs.Named as named;
 
@@ -32,13 +31,11 @@ pub trait MaskSets {
         work: &mut Work,
         mask: u8,
     ) -> Result<Option<SetId>, PlanError<PartName>>
-        requires sound { Sound bench.now.position.now }
         requires mask { IsGameMask bench.now.position.now mask }
         requires fits { fits self.now bench.now.position.now work.old.sets }
         ensures answers { AnswersName bench.now work.old work.new (named.at_mask (program self.now) mask) result }
         ensures name { IfOk result (IsNameFor bench.now mask work.new.sets) }
-        ensures grows { Grows work.old.sets work.new.sets }
-        ensures budget { work.new.memo.budget ≡ work.old.memo.budget }
+        ensures later { IsLater work.old work.new }
         ensures fits { fits self.now bench.now.position.now work.new.sets }
         ensures same { StaysSame (program self.now bench.now.position.now) work.old.sets work.new.sets };
 }
@@ -52,7 +49,6 @@ struct ByMask<'a, M> {
 
 impl<M: MaskSets> Steps for ByMask<'_, M> {
     ghost use Rattle.std.specs.Prelude.{◌≡◌};
-    ghost use Rattle.game_rules.specs.Game.{Sound};
     ghost use Rattle.set_plan.specs.Sets.{Grows};
     ghost use Rattle.mate_plan.specs.Levels.{AreNamesSoFar, level_in};
     ghost use Rattle.mate_plan.specs.Plan as plan;
@@ -75,7 +71,7 @@ impl<M: MaskSets> Steps for ByMask<'_, M> {
     ghost budget = { λ _ work. work.memo.budget };
 
     ghost fits = { λ it work names masks. AreNamesSoFar it.bench.now.position.now work.sets names masks
-        × M.fits it.making.now it.bench.now.position.now work.sets × Sound it.bench.now.position.now };
+        × M.fits it.making.now it.bench.now.position.now work.sets };
 
     ghost keeps = { λ _ u v. Grows u.sets v.sets };
 
@@ -102,12 +98,10 @@ pub fn level_by<M: MaskSets>(
     work: &mut Work,
     making: &M,
 ) -> Result<LevelNames, PlanError<PartName>>
-    requires sound { Sound bench.now.position.now }
     requires fits { M.fits making.now bench.now.position.now work.old.sets }
     ensures answers { AnswersLevel bench.now work.old work.new (named.by_mask (M.program making.now)) result }
     ensures names { IfOk result (AreNamesIn bench.now.position.now work.new.sets) }
-    ensures grows { Grows work.old.sets work.new.sets }
-    ensures budget { work.new.memo.budget ≡ work.old.memo.budget }
+    ensures later { IsLater work.old work.new }
 {
     let steps = ByMask { bench, making };
     each(&steps, work, bench.masks, LevelNames::new(bench.alloc))

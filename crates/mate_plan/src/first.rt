@@ -1,14 +1,13 @@
 //! Whether the side that is to move in the starting position has a move into a level.
 ghost use Rattle.std.specs.Prelude.{◌≡◌, ◌↔◌, IfOk, IfSome, IsTrue};
-ghost use Rattle.game_rules.specs.Game.{Sound};
 ghost use Rattle.lin_formula.specs.SetOf.{Member, as_set};
 ghost use Rattle.mask_sets.specs.Stock.{mask_of};
 ghost use Rattle.rule_formula.specs.Mean.{mask_tracks as tracks_at};
 ghost use Rattle.mask_sets.specs.Tuple.{tuple_of};
 ghost use Rattle.set_plan.specs.Outcome.{Answers};
-ghost use Rattle.set_plan.specs.Sets.{Grows, IsSetOn};
+ghost use Rattle.set_plan.specs.Sets.{IsSetOn};
 ghost use Rattle.mate_plan.specs.Levels.{AreNamesIn};
-ghost use Rattle.mate_plan.specs.Bench.{IsSetFor};
+ghost use Rattle.mate_plan.specs.Bench.{IsLater, IsSetFor};
 ghost use Rattle.mate_plan.specs.Named.{AnswersWhether};
 ghost use Rattle.mate_plan.specs.Named as named;
 
@@ -19,20 +18,18 @@ use crate::stage::{PartMoves, Stage, StageSet};
 use crate::starting::point_level;
 use crate::unions::pre_set;
 use auto_core::Auto;
-use chess_game::Position;
 use formula_auto::Memo;
 use mask_sets::coordinates;
 use set_plan::{PlanError, Sets};
 
 /// Whether the set, if there is one, has the coordinates of the position.
-fn has_coordinates(set: &Option<Auto>, p: &Position) -> bool
-    requires sound { Sound p.now }
-    requires set { IfSome set.now (IsSetOn (tracks_at p.now (mask_of p.now))) }
-    ensures { IsTrue result ↔ Member (as_set set.now) (tuple_of p.now) }
+fn has_coordinates(bench: &Bench, set: &Option<Auto>) -> bool
+    requires { IsSetFor bench.now (mask_of bench.now.position.now) set.now }
+    ensures { IsTrue result ↔ Member (as_set set.now) (tuple_of bench.now.position.now) }
 {
     match set {
         None => false,
-        Some(a) => a.member(coordinates(p).as_slice()),
+        Some(a) => a.member(coordinates(bench.position).as_slice()),
     }
 }
 
@@ -45,7 +42,6 @@ fn first_set(
     start: &LevelNames,
     into: &LevelNames,
 ) -> Result<Option<Auto>, PlanError<PartName>>
-    requires sound { Sound bench.now.position.now }
     requires start { AreNamesIn bench.now.position.now sets.now start.now }
     requires into { AreNamesIn bench.now.position.now sets.now into.now }
     ensures answers { Answers (named.first_set start.now into.now bench.now sets.now) memo.old.budget as_set result }
@@ -72,15 +68,13 @@ pub fn has_first_move(
     work: &mut Work,
     into: &LevelNames,
 ) -> Result<bool, PlanError<PartName>>
-    requires sound { Sound bench.now.position.now }
     requires into { AreNamesIn bench.now.position.now work.old.sets into.now }
     ensures answers { AnswersWhether bench.now work.old (named.has_first_move into.now) result }
-    ensures grows { Grows work.old.sets work.new.sets }
-    ensures budget { work.new.memo.budget ≡ work.old.memo.budget }
+    ensures later { IsLater work.old work.new }
 {
     let count = work.sets.count();
     let start = point_level(bench, work)?;
     let first = first_set(bench, &mut work.memo, &work.sets, &start, into)?;
     work.sets.truncate(count);
-    Ok(has_coordinates(&first, bench.position))
+    Ok(has_coordinates(bench, &first))
 }

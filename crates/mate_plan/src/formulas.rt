@@ -1,6 +1,5 @@
 //! The formulas of the unions of a plan.
 ghost use Rattle.std.specs.Prelude.{All, IfOk, OnOk};
-ghost use Rattle.game_rules.specs.Game.{Sound};
 ghost use Rattle.rule_formula.specs.Fits.{IsGameMask};
 ghost use Rattle.rule_formula.specs.Meaning.{IsBearer, IsOptionOf};
 ghost use Rattle.mate_plan.specs.Formulas.{AreAdded, HaveTrees, bear_trees, bears_by, image_to, image_trees, images_to, pre_to, pres_to, stage_images, stage_pres};
@@ -23,7 +22,6 @@ fn push_image(
     to: u8,
     option: Opt,
 ) -> Result<(), AllocError>
-    requires sound { Sound bench.now.position.now }
     requires option { IsOptionOf bench.now.position.now.men from.mask option }
     ensures { OnOk result (AreAdded (image_to bench.now.position.now from to option) formulas.old formulas.new) }
 {
@@ -42,7 +40,6 @@ fn push_images(
     to: u8,
     options: &[Opt],
 ) -> Result<(), AllocError>
-    requires sound { Sound bench.now.position.now }
     requires options { All (IsOptionOf bench.now.position.now.men from.mask) options.now }
     ensures { OnOk result (AreAdded (images_to bench.now.position.now from to options.now) formulas.old formulas.new) }
 {
@@ -60,7 +57,6 @@ fn push_mask(
     mask: u8,
     source: Option<SetId>,
 ) -> Result<(), AllocError>
-    requires sound { Sound bench.now.position.now }
     ensures { OnOk result
         (AreAdded (stage_images bench.now.position.now stage mask source) formulas.old formulas.new) }
 {
@@ -78,7 +74,6 @@ pub(crate) fn image_formulas(
     stage: Stage,
     level: &LevelNames,
 ) -> Result<Vec<Formula>, AllocError>
-    requires sound { Sound bench.now.position.now }
     ensures { IfOk result (HaveTrees (image_trees bench.now.position.now stage.side stage.mask level.now)) }
 {
     let mut formulas = Vec::new(bench.alloc);
@@ -118,7 +113,6 @@ fn pre_options(
     targets: &LevelNames,
     options: &[Opt],
 ) -> Result<Vec<Formula>, AllocError>
-    requires sound { Sound bench.now.position.now }
     requires options { All (IsOptionOf bench.now.position.now.men from.mask) options.now }
     ensures { IfOk result (HaveTrees (pres_to bench.now.position.now from targets.now options.now)) }
 {
@@ -136,7 +130,6 @@ pub(crate) fn pre_formulas(
     source: StageSet,
     targets: &LevelNames,
 ) -> Result<Vec<Formula>, AllocError>
-    requires sound { Sound bench.now.position.now }
     ensures { IfOk result (HaveTrees (stage_pres bench.now.position.now source targets.now)) }
 {
     let Some(set) = source.name else {
@@ -168,7 +161,6 @@ pub(crate) fn bear_formulas(
     mask: u8,
     source: Option<SetId>,
 ) -> Result<Vec<Formula>, AllocError>
-    requires sound { Sound bench.now.position.now }
     requires mask { IsGameMask bench.now.position.now mask }
     ensures { IfOk result (HaveTrees (bear_trees bench.now.position.now side mask source)) }
 {

@@ -5,7 +5,7 @@ ghost use Rattle.track_word.specs.declared.tracks.Var.{Var};
 ghost use Rattle.lin_formula.specs.SetOf.{IsEmpty, as_set};
 ghost use Rattle.set_plan.specs.Outcome.{Answers};
 ghost use Rattle.set_plan.specs.Sets.{Grows, IsLeftOn, IsNameOn, IsSetOn, left_of, lent as lent_set, set_at};
-ghost use Rattle.mate_plan.specs.Bench.{IsNameFor, IsNameOfLeft, IsSetFor, tracks_on};
+ghost use Rattle.mate_plan.specs.Bench.{IsLater, IsNameFor, IsNameOfLeft, IsSetFor, tracks_on};
 ghost use Rattle.mate_plan.specs.Named.{AnswersLeft, AnswersName, together_on};
 ghost use Rattle.mate_plan.specs.Named as named;
 
@@ -88,8 +88,7 @@ pub(crate) fn keep_without(
     requires other { IsSetFor bench.now whole.part.mask other }
     ensures answers { AnswersName bench.now work.old work.new (named.without whole other) result }
     ensures name { IfOk result (IsNameFor bench.now whole.part.mask work.new.sets) }
-    ensures grows { Grows work.old.sets work.new.sets }
-    ensures budget { work.new.memo.budget ≡ work.old.memo.budget }
+    ensures later { IsLater work.old work.new }
 {
     let budget = work.memo.budget();
     let left = left_without(bench, &work.sets, whole, other.as_ref(), budget)?;

@@ -22,6 +22,7 @@ mod reaching;
 mod stage;
 mod starting;
 mod tracks;
+mod turns;
 mod unions;
 mod winning;
 
@@ -37,4 +38,5 @@ pub use reaching::{Reaching, reach_level};
 pub use stage::{MovesInto, Stage, StageLevel};
 pub use starting::{no_level, one_level, point_level};
 pub use tracks::mask_tracks;
+pub use turns::waits;
 pub use winning::{Winning, win_level};

@@ -1,10 +1,9 @@
 //! What is kept at a ply of the loser.
 ghost use Rattle.std.specs.Prelude.{◌≡◌, ◌<◌, IfOk, IfSome};
-ghost use Rattle.game_rules.specs.Game.{Sound};
 ghost use Rattle.rule_formula.specs.Fits.{IsGameMask};
-ghost use Rattle.set_plan.specs.Sets.{Grows, IsSetOn};
+ghost use Rattle.set_plan.specs.Sets.{IsSetOn};
 ghost use Rattle.mate_plan.specs.Levels.{AreNamesIn};
-ghost use Rattle.mate_plan.specs.Bench.{IsNameFor, IsSetFor, tracks_on};
+ghost use Rattle.mate_plan.specs.Bench.{IsLater, IsNameFor, IsSetFor, tracks_on};
 ghost use Rattle.mate_plan.specs.Named.{AnswersLevel, AnswersName, AnswersSet};
 ghost use Rattle.mate_plan.specs.Named as named;
 
@@ -39,8 +38,7 @@ fn rest_name(
     requires kept { AreNamesIn bench.now.position.now work.old.sets from.now.kept.now }
     ensures answers { AnswersName bench.now work.old work.new (named.rest_set from.now mask) result }
     ensures name { IfOk result (IsNameFor bench.now mask work.new.sets) }
-    ensures grows { Grows work.old.sets work.new.sets }
-    ensures budget { work.new.memo.budget ≡ work.old.memo.budget }
+    ensures later { IsLater work.old work.new }
 {
     let part = PartName {
         ply: from.ply,
@@ -81,14 +79,12 @@ fn calm_name(
     reach: StageSet,
     rests: &LevelNames,
 ) -> Result<Option<SetId>, PlanError<PartName>>
-    requires sound { Sound bench.now.position.now }
     requires mask { IsGameMask bench.now.position.now reach.stage.mask }
     requires reach { IsNameFor bench.now reach.stage.mask work.old.sets reach.name }
     requires rests { AreNamesIn bench.now.position.now work.old.sets rests.now }
     ensures answers { AnswersName bench.now work.old work.new (named.calm_set reach rests.now) result }
     ensures name { IfOk result (IsNameFor bench.now reach.stage.mask work.new.sets) }
-    ensures grows { Grows work.old.sets work.new.sets }
-    ensures budget { work.new.memo.budget ≡ work.old.memo.budget }
+    ensures later { IsLater work.old work.new }
 {
     let moves = PartMoves {
         part: Part::Escape,
@@ -111,15 +107,13 @@ fn reply_set(
     check: Option<&Auto>,
     next_reach: &LevelNames,
 ) -> Result<Option<Auto>, PlanError<PartName>>
-    requires sound { Sound bench.now.position.now }
     requires mask { IsGameMask bench.now.position.now calm.stage.mask }
     requires calm { IsNameFor bench.now calm.stage.mask work.old.sets calm.name }
     requires check { IfSome check (λ a. IsSetOn (tracks_on bench.now calm.stage.mask) a.now) }
     requires next_reach { AreNamesIn bench.now.position.now work.old.sets next_reach.now }
     ensures answers { AnswersSet bench.now work.old (named.reply_set calm check.entry next_reach.now) result }
     ensures set { IfOk result (IsSetFor bench.now calm.stage.mask) }
-    ensures grows { Grows work.old.sets work.new.sets }
-    ensures budget { work.new.memo.budget ≡ work.old.memo.budget }
+    ensures later { IsLater work.old work.new }
 {
     let StageSet { stage, name } = calm;
     let whole = PartSet {
@@ -145,15 +139,13 @@ fn lost_set(
     next_reach: &LevelNames,
     rests: &LevelNames,
 ) -> Result<Option<Auto>, PlanError<PartName>>
-    requires sound { Sound bench.now.position.now }
     requires mask { IsGameMask bench.now.position.now reach.stage.mask }
     requires reach { IsNameFor bench.now reach.stage.mask work.old.sets reach.name }
     requires next_reach { AreNamesIn bench.now.position.now work.old.sets next_reach.now }
     requires rests { AreNamesIn bench.now.position.now work.old.sets rests.now }
     ensures answers { AnswersSet bench.now work.old (named.lost_set reach next_reach.now rests.now) result }
     ensures set { IfOk result (IsSetFor bench.now reach.stage.mask) }
-    ensures grows { Grows work.old.sets work.new.sets }
-    ensures budget { work.new.memo.budget ≡ work.old.memo.budget }
+    ensures later { IsLater work.old work.new }
 {
     let stage = reach.stage;
     let name = calm_name(bench, work, reach, rests)?;
@@ -182,15 +174,13 @@ fn lost_name(
     from: &Lost,
     mask: u8,
 ) -> Result<Option<SetId>, PlanError<PartName>>
-    requires sound { Sound bench.now.position.now }
     requires mask { IsGameMask bench.now.position.now mask }
     requires reach { AreNamesIn bench.now.position.now work.old.sets from.now.reach.now }
     requires next_reach { AreNamesIn bench.now.position.now work.old.sets from.now.next_reach.now }
     requires rests { AreNamesIn bench.now.position.now work.old.sets from.now.rests.now }
     ensures answers { AnswersName bench.now work.old work.new (named.lost_set_if from.now mask) result }
     ensures name { IfOk result (IsNameFor bench.now mask work.new.sets) }
-    ensures grows { Grows work.old.sets work.new.sets }
-    ensures budget { work.new.memo.budget ≡ work.old.memo.budget }
+    ensures later { IsLater work.old work.new }
 {
     let stage = Stage {
         side: from.side,
@@ -246,15 +236,13 @@ pub fn lost_level(
     work: &mut Work,
     from: &Losing,
 ) -> Result<LevelNames, PlanError<PartName>>
-    requires sound { Sound bench.now.position.now }
     requires ply { from.now.ply < 255 }
     requires reach { AreNamesIn bench.now.position.now work.old.sets from.now.reach.now }
     requires next_reach { AreNamesIn bench.now.position.now work.old.sets from.now.next_reach.now }
     requires next_kept { AreNamesIn bench.now.position.now work.old.sets from.now.next_kept.now }
     ensures answers { AnswersLevel bench.now work.old work.new (named.lost_level from.now) result }
     ensures names { IfOk result (AreNamesIn bench.now.position.now work.new.sets) }
-    ensures grows { Grows work.old.sets work.new.sets }
-    ensures budget { work.new.memo.budget ≡ work.old.memo.budget }
+    ensures later { IsLater work.old work.new }
 {
     let resting = Resting {
         ply: from.ply + 1,

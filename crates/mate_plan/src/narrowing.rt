@@ -1,9 +1,7 @@
 //! A set made narrower to the positions in which a king is not attacked.
 ghost use Rattle.std.specs.Prelude.{◌≡◌, ◌≤◌, All, IfOk, length};
-ghost use Rattle.game_rules.specs.Game.{Sound};
 ghost use Rattle.rule_formula.specs.Meaning.{IsBearer};
-ghost use Rattle.set_plan.specs.Sets.{Grows};
-ghost use Rattle.mate_plan.specs.Bench.{IsSetFor};
+ghost use Rattle.mate_plan.specs.Bench.{IsLater, IsSetFor};
 ghost use Rattle.mate_plan.specs.Named.{AnswersSet};
 ghost use Rattle.mate_plan.specs.Named as named;
 
@@ -22,7 +20,6 @@ struct Narrowing<'a> {
 }
 
 impl Steps for Narrowing<'_> {
-    ghost use Rattle.game_rules.specs.Game.{Sound};
     ghost use Rattle.std.specs.Prelude.{◌<◌, ◌+◌, ◌*◌, ◌^◌, All, IfSome, length};
     ghost use Rattle.rule_formula.specs.Mean.{mask_tracks as tracks_at};
     ghost use Rattle.rule_formula.specs.Meaning.{IsBearer};
@@ -47,8 +44,7 @@ impl Steps for Narrowing<'_> {
 
     ghost budget = { λ _ work. work.memo.budget };
 
-    ghost fits = { λ it _ so_far bearings. Sound it.bench.now.position.now
-        × All (λ b. IsBearer it.bench.now.position.now.men it.stage.mask b.man b.ray b.king) bearings
+    ghost fits = { λ it _ so_far bearings. All (λ b. IsBearer it.bench.now.position.now.men it.stage.mask b.man b.ray b.king) bearings
         × IfSome so_far.set (IsReachedOn (tracks_at it.bench.now.position.now it.stage.mask))
         × (so_far.at + length bearings * 1000 < 2 ^ 31) };
 
@@ -95,14 +91,12 @@ pub(crate) fn narrow(
     bearings: &[Bearing],
     moved: Option<Auto>,
 ) -> Result<Option<Auto>, PlanError<PartName>>
-    requires sound { Sound bench.now.position.now }
     requires bearings { All (λ b. IsBearer bench.now.position.now.men stage.mask b.man b.ray b.king) bearings.now }
     requires few { length bearings.now ≤ 1000 }
     requires set { IsSetFor bench.now stage.mask moved }
     ensures answers { AnswersSet bench.now work.old (named.narrow stage bearings.now moved) result }
     ensures set { IfOk result (IsSetFor bench.now stage.mask) }
-    ensures grows { Grows work.old.sets work.new.sets }
-    ensures budget { work.new.memo.budget ≡ work.old.memo.budget }
+    ensures later { IsLater work.old work.new }
 {
     if bearings.is_empty() {
         return Ok(moved);

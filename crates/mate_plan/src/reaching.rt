@@ -1,10 +1,8 @@
 //! What is reached at a ply.
 ghost use Rattle.std.specs.Prelude.{◌≡◌, IfOk};
-ghost use Rattle.game_rules.specs.Game.{Sound};
 ghost use Rattle.rule_formula.specs.Fits.{IsGameMask};
-ghost use Rattle.set_plan.specs.Sets.{Grows};
 ghost use Rattle.mate_plan.specs.Levels.{AreNamesIn};
-ghost use Rattle.mate_plan.specs.Bench.{IsNameFor, IsSetFor};
+ghost use Rattle.mate_plan.specs.Bench.{IsLater, IsNameFor, IsSetFor};
 ghost use Rattle.mate_plan.specs.Named.{AnswersLevel, AnswersName, AnswersSet};
 ghost use Rattle.mate_plan.specs.Named as named;
 
@@ -37,13 +35,11 @@ fn reach_set(
     from: &Reaching,
     mask: u8,
 ) -> Result<Option<Auto>, PlanError<PartName>>
-    requires sound { Sound bench.now.position.now }
     requires mask { IsGameMask bench.now.position.now mask }
     requires level { AreNamesIn bench.now.position.now work.old.sets from.now.level.now }
     ensures answers { AnswersSet bench.now work.old (named.reach_set from.now mask) result }
     ensures set { IfOk result (IsSetFor bench.now mask) }
-    ensures grows { Grows work.old.sets work.new.sets }
-    ensures budget { work.new.memo.budget ≡ work.old.memo.budget }
+    ensures later { IsLater work.old work.new }
 {
     let Reaching { side, ply, level } = *from;
     let stage = Stage { side, ply, mask };
@@ -59,13 +55,11 @@ fn reach_name(
     from: &Reaching,
     mask: u8,
 ) -> Result<Option<SetId>, PlanError<PartName>>
-    requires sound { Sound bench.now.position.now }
     requires mask { IsGameMask bench.now.position.now mask }
     requires level { AreNamesIn bench.now.position.now work.old.sets from.now.level.now }
     ensures answers { AnswersName bench.now work.old work.new (named.reach_set from.now mask) result }
     ensures name { IfOk result (IsNameFor bench.now mask work.new.sets) }
-    ensures grows { Grows work.old.sets work.new.sets }
-    ensures budget { work.new.memo.budget ≡ work.old.memo.budget }
+    ensures later { IsLater work.old work.new }
 {
     let set = reach_set(bench, work, from, mask)?;
     Ok(work.sets.keep(set)?)
@@ -96,12 +90,10 @@ pub fn reach_level(
     work: &mut Work,
     from: &Reaching,
 ) -> Result<LevelNames, PlanError<PartName>>
-    requires sound { Sound bench.now.position.now }
     requires level { AreNamesIn bench.now.position.now work.old.sets from.now.level.now }
     ensures answers { AnswersLevel bench.now work.old work.new (named.reach_level from.now) result }
     ensures names { IfOk result (AreNamesIn bench.now.position.now work.new.sets) }
-    ensures grows { Grows work.old.sets work.new.sets }
-    ensures budget { work.new.memo.budget ≡ work.old.memo.budget }
+    ensures later { IsLater work.old work.new }
 {
     level_by(bench, work, from)
 }

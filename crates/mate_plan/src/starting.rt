@@ -1,14 +1,13 @@
 //! Where the plan begins, and where it ends.
 ghost use Rattle.std.specs.Prelude.{◌≡◌, List, IfOk};
 ghost use Rattle.auto_core.specs.Automaton.{Automaton};
-ghost use Rattle.game_rules.specs.Game.{Sound};
 ghost use Rattle.rule_formula.specs.Fits.{IsGameMask};
 ghost use Rattle.mask_sets.specs.Stock.{mask_of};
 ghost use Rattle.set_plan.specs.Making.{AnswersMade};
-ghost use Rattle.set_plan.specs.Sets.{Grows, set_at};
+ghost use Rattle.set_plan.specs.Sets.{set_at};
 ghost use Rattle.mate_plan.specs.Levels.{AreNamesIn, one_name};
 ghost use Rattle.mate_plan.specs.Plan as plan;
-ghost use Rattle.mate_plan.specs.Bench.{AreNamesIf, IsSetFor, StandFor, rules_on};
+ghost use Rattle.mate_plan.specs.Bench.{AreNamesIf, IsLater, IsSetFor, StandFor, rules_on};
 ghost use Rattle.mate_plan.specs.Named.{AnswersLevel};
 ghost use Rattle.mate_plan.specs.Named as named;
 
@@ -56,7 +55,6 @@ fn point_set(
     sets: &Sets,
     mask: u8,
 ) -> Result<Made, PlanError<PartName>>
-    requires sound { Sound bench.now.position.now }
     ensures answers { AnswersMade memo.old (plan.point_set (rules_on bench.now) mask) result }
     ensures set { IfOk result (λ made. IsSetFor bench.now (mask_of bench.now.position.now) made.set) }
     ensures budget { memo.new.budget ≡ memo.old.budget }
@@ -72,11 +70,9 @@ fn point_set(
 
 /// What is reached without a move: the position alone.
 pub fn point_level(bench: &Bench, work: &mut Work) -> Result<LevelNames, PlanError<PartName>>
-    requires sound { Sound bench.now.position.now }
     ensures answers { AnswersLevel bench.now work.old work.new named.point_level result }
     ensures names { IfOk result (AreNamesIn bench.now.position.now work.new.sets) }
-    ensures grows { Grows work.old.sets work.new.sets }
-    ensures budget { work.new.memo.budget ≡ work.old.memo.budget }
+    ensures later { IsLater work.old work.new }
 {
     let mask = bench.position.mask();
     let made = point_set(bench, &mut work.memo, &work.sets, mask)?;

@@ -1,6 +1,5 @@
 //! Unions of a plan, each as a part of its own.
 ghost use Rattle.std.specs.Prelude.{◌≡◌, ◌<◌, ◌^◌, All, IfOk, length, map};
-ghost use Rattle.game_rules.specs.Game.{Sound};
 ghost use Rattle.lin_formula.specs.SetOf.{as_set};
 ghost use Rattle.lin_formula.specs.TreeOf.{tree_of};
 ghost use Rattle.rule_formula.specs.Fits.{IsGameMask};
@@ -49,7 +48,6 @@ pub(crate) fn image_set(
     stage: Stage,
     level: &LevelNames,
 ) -> Result<Option<Auto>, PlanError<PartName>>
-    requires sound { Sound bench.now.position.now }
     requires level { AreNamesIn bench.now.position.now sets.now level.now }
     ensures answers { Answers (named.image_set stage level.now bench.now sets.now) memo.old.budget as_set result }
     ensures set { IfOk result (IsSetFor bench.now stage.mask) }
@@ -66,7 +64,6 @@ pub(crate) fn pre_set(
     sets: &Sets,
     moves: &PartMoves,
 ) -> Result<Option<Auto>, PlanError<PartName>>
-    requires sound { Sound bench.now.position.now }
     requires source { IsNameFor bench.now moves.now.set.stage.mask sets.now moves.now.set.name }
     requires targets { AreNamesIn bench.now.position.now sets.now moves.now.into.now }
     ensures answers { Answers (named.pre_set moves.now bench.now sets.now) memo.old.budget as_set result }
@@ -90,7 +87,6 @@ pub(crate) fn check_set(
     sets: &Sets,
     source: StageSet,
 ) -> Result<Option<Auto>, PlanError<PartName>>
-    requires sound { Sound bench.now.position.now }
     requires mask { IsGameMask bench.now.position.now source.stage.mask }
     requires source { IsNameFor bench.now source.stage.mask sets.now source.name }
     ensures answers { Answers (named.check_set source bench.now sets.now) memo.old.budget as_set result }

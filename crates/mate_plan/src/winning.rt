@@ -1,10 +1,8 @@
 //! What is kept at a ply of the winner.
 ghost use Rattle.std.specs.Prelude.{◌≡◌, IfOk};
-ghost use Rattle.game_rules.specs.Game.{Sound};
 ghost use Rattle.rule_formula.specs.Fits.{IsGameMask};
-ghost use Rattle.set_plan.specs.Sets.{Grows};
 ghost use Rattle.mate_plan.specs.Levels.{AreNamesIn};
-ghost use Rattle.mate_plan.specs.Bench.{IsNameFor};
+ghost use Rattle.mate_plan.specs.Bench.{IsLater, IsNameFor};
 ghost use Rattle.mate_plan.specs.Named.{AnswersLevel, AnswersName};
 ghost use Rattle.mate_plan.specs.Named as named;
 
@@ -34,14 +32,12 @@ fn win_name(
     from: &Winning,
     mask: u8,
 ) -> Result<Option<SetId>, PlanError<PartName>>
-    requires sound { Sound bench.now.position.now }
     requires mask { IsGameMask bench.now.position.now mask }
     requires reach { AreNamesIn bench.now.position.now work.old.sets from.now.reach.now }
     requires next_kept { AreNamesIn bench.now.position.now work.old.sets from.now.next_kept.now }
     ensures answers { AnswersName bench.now work.old work.new (named.win_set from.now mask) result }
     ensures name { IfOk result (IsNameFor bench.now mask work.new.sets) }
-    ensures grows { Grows work.old.sets work.new.sets }
-    ensures budget { work.new.memo.budget ≡ work.old.memo.budget }
+    ensures later { IsLater work.old work.new }
 {
     let Winning {
         side,
@@ -86,13 +82,11 @@ pub fn win_level(
     work: &mut Work,
     from: &Winning,
 ) -> Result<LevelNames, PlanError<PartName>>
-    requires sound { Sound bench.now.position.now }
     requires reach { AreNamesIn bench.now.position.now work.old.sets from.now.reach.now }
     requires next_kept { AreNamesIn bench.now.position.now work.old.sets from.now.next_kept.now }
     ensures answers { AnswersLevel bench.now work.old work.new (named.win_level from.now) result }
     ensures names { IfOk result (AreNamesIn bench.now.position.now work.new.sets) }
-    ensures grows { Grows work.old.sets work.new.sets }
-    ensures budget { work.new.memo.budget ≡ work.old.memo.budget }
+    ensures later { IsLater work.old work.new }
 {
     level_by(bench, work, from)
 }

@@ -12,6 +12,8 @@ use Rattle.winning_sets.specs.Reach.{Reach}
 use Rattle.winning_sets.specs.Kept.{Kept, moves_left}
 use Rattle.mate_plan.specs.PlanOf.{last_ply}
 use Rattle.mate_plan.specs.Plan.{is_even, turn_at}
+use Rattle.mate_plan.specs.Turns.{waits}
+use Rattle.mate_plan.proofs.TurnLemmas.{waits_none, waits_one, waits_sum, waits_turn}
 
 abbrev pub Positions : Type 1
 Positions = Position → Type 0
@@ -196,10 +198,7 @@ turn_more s j (suc d) =
 
 -- at the last ply the winner is to move
 turn-last : (winner s : Side) (n : ℕ) → turn_at s (last_ply winner s n) ≡ winner
-turn-last White White n = turn_two White n
-turn-last Black Black n = turn_two Black n
-turn-last White Black n = ap (turn_at Black) (add-one (2 * n)) ∙ ap other (turn_two Black n)
-turn-last Black White n = ap (turn_at White) (add-one (2 * n)) ∙ ap other (turn_two White n)
+turn-last winner s n = turn_more s (waits winner s) (2 * n) ∙ turn_two (turn_at s (waits winner s)) n ∙ waits_turn winner s
 
 -- so many plies before the last one the winner is to move where they are even
 turn_even : (winner s : Side) (n j k : ℕ) → j + 2 * k ≡ last_ply winner s n → turn_at s j ≡ winner
@@ -297,10 +296,7 @@ module _ (winner : Side) (p : Position) (sound : Sound p) (n : ℕ) where
 
 -- all moves are left at the start
 pub left_first : (winner s : Side) (n : ℕ) → moves_left (last_ply winner s n) 0 ≡ n
-left_first White White n = left_half (2 * n) 0 n (omega arith)
-left_first Black Black n = left_half (2 * n) 0 n (omega arith)
-left_first White Black n = left_half_more (2 * n + 1) 0 n (omega arith)
-left_first Black White n = left_half_more (2 * n + 1) 0 n (omega arith)
+left_first winner s n = let one = waits_sum winner s in grind (arith, one)
 
 -- the starting position is kept where the winner mates in time
 pub kept_first : (winner : Side) (p : Position) (n : ℕ) → Value winner n p ↔ Kept winner p n 0 p
@@ -309,13 +305,11 @@ kept_first winner p n =
     let At : ℕ → Type 0 = λ m. Value winner m p in
     (λ h. record { reached = refl; value = subst At (sym left) h }, λ h. subst At left h.value)
 
-counted_first : (n j : ℕ) → (2 * n - j) / 2 ≡ n - (j + 1) / 2
-counted_first n j = grind arith
-
-counted_second : (n j : ℕ) → (2 * n + 1 - j) / 2 ≡ n - j / 2
-counted_second n j = grind arith
-
 -- how many moves the winner has made
 pub moves_counted : (winner : Side) (n j : ℕ) → (moves_left (last_ply winner winner n) j ≡ n - (j + 1) / 2) × (moves_left (last_ply winner (other winner) n) j ≡ n - j / 2)
-moves_counted White n j = (counted_first n j, counted_second n j)
-moves_counted Black n j = (counted_first n j, counted_second n j)
+moves_counted winner n j =
+    let none = waits_none winner winner refl in
+    let one = waits_one winner (other winner) refl in (
+      grind (arith, none),
+      grind (arith, one),
+    )

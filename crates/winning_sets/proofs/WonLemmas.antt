@@ -3,25 +3,19 @@
 use Rattle.std.proofs.Common.{◌≡◌, ℕ, zero, suc, ◌+◌, ◌*◌, inl, inr, refl, ap, ◌∙◌, arith}
 use Rattle.game_rules.specs.Game.{Lost, Position, Value, Win, other}
 use Rattle.game_rules.specs.declared.men.Side.{Side}
-use Rattle.game_rules.specs.declared.men.Side.TheVariants.{White, Black}
 use Rattle.game_laws.proofs.SoundLemmas.{other_other}
 use Rattle.game_laws.proofs.ValueLemmas.{flat_lost}
 use Rattle.mate_plan.specs.PlanOf.{last_ply}
 use Rattle.mate_plan.specs.Won.{IsBegun, IsWonBy, LeadsInto}
+use Rattle.mate_plan.proofs.TurnLemmas.{waits_none, waits_one}
 use Rattle.winning_sets.specs.OfGame.{AreOfGame}
 
 -- with the winner to move, the last ply is twice the number of moves; with the loser to move it is one more
 pub last_winner : (winner s : Side) (n : ℕ) → s ≡ winner → last_ply winner s n ≡ 2 * n
-last_winner White White n is = refl
-last_winner Black Black n is = refl
-last_winner White Black n is = cc
-last_winner Black White n is = cc
+last_winner winner s n is = let none = waits_none winner s is in omega (arith, none)
 
 pub last_loser : (winner s : Side) (n : ℕ) → s ≡ other winner → last_ply winner s n ≡ 2 * n + 1
-last_loser White White n is = cc
-last_loser Black Black n is = cc
-last_loser White Black n is = refl
-last_loser Black White n is = refl
+last_loser winner s n is = let one = waits_one winner s is in omega (arith, one)
 
 module _ (winner : Side) (p : Position) (moves : ℕ) (C : ℕ → Position → Type 0) (are : AreOfGame winner p moves C) (won : IsWonBy winner p C) where
   abbrev last : ℕ

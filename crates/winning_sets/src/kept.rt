@@ -1,7 +1,6 @@
 //! What is kept at each ply, from the last ply back to the first.
 ghost use Rattle.std.specs.Prelude.{◌≡◌, ◌≤◌, ◌++◌, ◌∷◌, [], All, IfOk, OnErr, OnOk, length};
-ghost use Rattle.game_rules.specs.Game.{Sound};
-ghost use Rattle.set_plan.specs.Sets.{Grows};
+ghost use Rattle.mate_plan.specs.Bench.{IsLater};
 ghost use Rattle.mate_plan.specs.Levels.{AreNamesIn};
 ghost use Rattle.mate_plan.specs.Named.{AnswersLevel};
 ghost use Rattle.winning_sets.specs.Keeping as keeping;
@@ -40,15 +39,13 @@ fn kept_at(
     work: &mut Work,
     from: &Keeping,
 ) -> Result<LevelNames, PlanError<PartName>>
-    requires sound { Sound bench.now.position.now }
     requires ply { from.now.ply ≤ 41 }
     requires reach { AreNamesIn bench.now.position.now work.old.sets from.now.reach.now }
     requires next_reach { AreNamesIn bench.now.position.now work.old.sets from.now.next_reach.now }
     requires next_kept { AreNamesIn bench.now.position.now work.old.sets from.now.next_kept.now }
     ensures answers { AnswersLevel bench.now work.old work.new (keeping.kept_level from.now) result }
     ensures names { IfOk result (AreNamesIn bench.now.position.now work.new.sets) }
-    ensures grows { Grows work.old.sets work.new.sets }
-    ensures budget { work.new.memo.budget ≡ work.old.memo.budget }
+    ensures later { IsLater work.old work.new }
 {
     let side = side_at(bench.position.turn(), from.ply);
     if from.left % 2 == 0 {
@@ -77,14 +74,12 @@ pub(crate) fn kept_levels(
     work: &mut Work,
     reach: &[LevelNames],
 ) -> Result<Vec<LevelNames>, PlanError<PartName>>
-    requires sound { Sound bench.now.position.now }
     requires some { 1 ≤ length reach.now }
     requires few { length reach.now ≤ 42 }
     requires names { All (AreNamesIn bench.now.position.now work.old.sets) reach.now }
     ensures answers { AnswersLevels bench.now work.old work.new (keeping.backward_from reach.now) result }
     ensures names { IfOk result (λ kept. All (AreNamesIn bench.now.position.now work.new.sets) kept.items) }
-    ensures grows { Grows work.old.sets work.new.sets }
-    ensures budget { work.new.memo.budget ≡ work.old.memo.budget }
+    ensures later { IsLater work.old work.new }
 {
     let mut kept = Vec::new(bench.alloc);
     push_level(&mut kept, no_level(bench)?)?;

@@ -1,5 +1,5 @@
 //! Copies of the sets of a ply.
-ghost use Rattle.std.specs.Prelude.{◌≡◌, ◌<◌, ◌≤◌, All, IfOk, IfSome, length, map};
+ghost use Rattle.std.specs.Prelude.{◌≡◌, ◌<◌, All, IfOk, IfSome, length, map};
 ghost use Rattle.winning_sets.specs.Lent.{AreEmpties, AreWithin, set_or, sets_or};
 
 use crate::empty::empty_set;
@@ -13,9 +13,9 @@ use std::alloc::{AllocError, Global};
 
 /// For each of the masks the set without a tuple.
 pub(crate) fn empty_sets(alloc: Global, p: &Position, masks: &[u8]) -> Result<Vec<Auto>, AllocError>
-    requires { length p.now.men ≤ 8 }
     ensures { IfOk result (λ sets. AreEmpties p.now.men masks.now sets.items) }
 {
+    let _ = p.count(); // for its invariant
     let mut sets = Vec::new(alloc);
     for mask in masks {
         let tracks = mask_tracks(alloc, p, *mask)?;

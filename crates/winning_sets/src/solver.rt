@@ -59,12 +59,12 @@ impl Model for Solver {
 }
 
 impl Solver {
-    /// A solver of a position with two to eight men. A step may need so many states.
+    /// A solver of a position. Each step has this budget.
     pub fn new(alloc: Global, p: &Position, winner: Side, budget: Budget) -> Solver
         requires sound { Sound p.now }
-        requires men { length p.now.men ≤ 8 }
         ensures { result ≡ record { position = p.now; winner = winner; budget = budget; reach = [] } }
     {
+        let _ = p.count(); // for its invariant
         Solver {
             alloc,
             position: *p,
@@ -277,8 +277,8 @@ impl Solver {
     }
 }
 
-/// Within a budget of states for a step, the sets of the positions from which the winner mates within so many moves of his own, ply by ply;
-/// or the first step that needs more states.
+/// Within a budget for each step, the sets of the positions from which the winner mates within so many moves of his own, ply by ply;
+/// or the first step that is past it.
 pub fn solve(
     alloc: Global,
     p: &Position,
@@ -287,7 +287,6 @@ pub fn solve(
     budget: Budget,
 ) -> Result<Solved, SolveError>
     requires sound { Sound p.now }
-    requires men { length p.now.men ≤ 8 }
     requires moves { moves ≤ MOST_MOVES }
     ensures game { IfOk result (IsOf p.now winner moves) }
     ensures kept { IfOk result (λ s. AreKept winner p.now moves (kept_at s)) }

@@ -1,4 +1,4 @@
-use Rattle.std.proofs.Common.{ℕ, Bool, Ok, Err, refl, subst, arith}
+use Rattle.std.proofs.Common.{◌∙◌, ℕ, Bool, Ok, Err, refl, subst, arith}
 use Rattle.std.proofs.lemmas.Result.{err_from_is_err_and}
 use Rattle.lin_formula.specs.SetOf.{IsEmpty, SetOf}
 use Rattle.rule_formula.specs.Fits.{masks_of}
@@ -31,11 +31,11 @@ quiet_name-requires-clause-source c =
 pub have_moves-requires-clause-into : goal.have_moves-requires-clause-into
 have_moves-requires-clause-into c =
     names-grow c.args.bench.now.position.now.men c.args.work.now.sets c.quiet_name.new.work.sets (masks_of c.args.bench.now.position.now)
-    c.args.moves.now.into.now c.in_ok-quiet.ensures.grows c.requires.into
+    c.args.moves.now.into.now c.in_ok-quiet.ensures.later.grows c.requires.into
 
 pub truncate-requires : goal.truncate-requires
 truncate-requires c =
-    let more = length-grows c.args.work.now.sets c.quiet_name.new.work.sets c.in_ok-quiet.ensures.grows in
+    let more = length-grows c.args.work.now.sets c.quiet_name.new.work.sets c.in_ok-quiet.ensures.later.grows in
     omega (arith, more, c.count-count.ensures)
 
 pub returns-then-is_lacking-clause-answers : goal.returns-then-is_lacking-clause-answers
@@ -71,7 +71,7 @@ returns-in_err-answered-clause-answers c =
     let quiet : SetOf = set_at c.quiet_name.new.work.sets c.in_ok-quiet.quiet in
     let is = set_is_found c.args.work.now.sets masks masks c.args.moves.now.from.now stage.mask c.name_in-name.result refl c.name_in-name.ensures in
     let some : ¬ IsEmpty (set_at c.args.work.now.sets c.name_in-name.result) = rw c.if-is_lacking.false at c.is_lacking.ensures.none in
-    let grown = level-grows c.args.bench.now.position.now.men c.args.work.now.sets c.quiet_name.new.work.sets masks c.args.moves.now.into.now c.in_ok-quiet.ensures.grows c.requires.into in
+    let grown = level-grows c.args.bench.now.position.now.men c.args.work.now.sets c.quiet_name.new.work.sets masks c.args.moves.now.into.now c.in_ok-quiet.ensures.later.grows c.requires.into in
     let Over : Level → Type 0 =
     λ level. Answers (have_moves rules stage.side stage.ply stage.mask kind.Reply kind.Stale quiet level) c.quiet_name.new.work.memo.budget
     (λ (b : Bool). b) (Err c.in_err-answered.field-0.0) in
@@ -79,7 +79,7 @@ returns-in_err-answered-clause-answers c =
     rw (p.1, p.2)
     (reply_answers rules stage.side stage.ply stage.mask c.args.work.now.memo.budget from into (set_at c.args.work.now.sets c.name_in-name.result)
     is some quiet (Err c.in_err-answered.field-0.0) c.in_ok-quiet.ensures.answers
-    (subst Within c.in_ok-quiet.ensures.budget (subst Over grown c.in_err-answered.ensures.answers)))
+    (subst Within c.in_ok-quiet.ensures.later.budget (subst Over grown c.in_err-answered.ensures.answers)))
 
 pub returns-clause-answers : goal.returns-clause-answers
 returns-clause-answers c =
@@ -91,14 +91,18 @@ returns-clause-answers c =
     let quiet : SetOf = set_at c.quiet_name.new.work.sets c.in_ok-quiet.quiet in
     let is = set_is_found c.args.work.now.sets masks masks c.args.moves.now.from.now stage.mask c.name_in-name.result refl c.name_in-name.ensures in
     let some : ¬ IsEmpty (set_at c.args.work.now.sets c.name_in-name.result) = rw c.if-is_lacking.false at c.is_lacking.ensures.none in
-    let grown = level-grows c.args.bench.now.position.now.men c.args.work.now.sets c.quiet_name.new.work.sets masks c.args.moves.now.into.now c.in_ok-quiet.ensures.grows c.requires.into in
+    let grown = level-grows c.args.bench.now.position.now.men c.args.work.now.sets c.quiet_name.new.work.sets masks c.args.moves.now.into.now c.in_ok-quiet.ensures.later.grows c.requires.into in
     let Over : Level → Type 0 =
     λ level. Answers (have_moves rules stage.side stage.ply stage.mask kind.Reply kind.Stale quiet level) c.quiet_name.new.work.memo.budget
     (λ (b : Bool). b) (Ok c.in_ok-answered.answered) in
     let Within : ℕ → Type 0 = λ n. Answers (have_moves rules stage.side stage.ply stage.mask kind.Reply kind.Stale quiet into) n (λ (b : Bool). b) (Ok c.in_ok-answered.answered) in
     reply_answers rules stage.side stage.ply stage.mask c.args.work.now.memo.budget from into (set_at c.args.work.now.sets c.name_in-name.result)
     is some quiet (Ok c.in_ok-answered.answered) c.in_ok-quiet.ensures.answers
-    (subst Within c.in_ok-quiet.ensures.budget (subst Over grown c.in_ok-answered.ensures.answers))
+    (subst Within c.in_ok-quiet.ensures.later.budget (subst Over grown c.in_ok-answered.ensures.answers))
 
-pub returns-clause-grows : goal.returns-clause-grows
-returns-clause-grows c = rw c.truncate.ensures (grows_cut c.args.work.now.sets c.quiet_name.new.work.sets c.count-count.result c.count-count.ensures c.in_ok-quiet.ensures.grows)
+pub returns-clause-later : goal.returns-clause-later
+returns-clause-later c =
+    record {
+      grows = rw c.truncate.ensures (grows_cut c.args.work.now.sets c.quiet_name.new.work.sets c.count-count.result c.count-count.ensures c.in_ok-quiet.ensures.later.grows);
+      budget = c.in_ok-answered.ensures.budget ∙ c.in_ok-quiet.ensures.later.budget;
+    }

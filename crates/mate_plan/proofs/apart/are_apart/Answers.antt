@@ -9,7 +9,7 @@ use Rattle.mate_plan.specs.declared.names.Part.TheVariants as kind
 use Rattle.mate_plan.proofs.EmptyAnswers.{empty_answers, empty_items}
 use Rattle.mate_plan.proofs.LevelLemmas.{name_is_found, set_is_found}
 use Rattle.mate_plan.proofs.TwinItems.{twins_few, twins_on, twins_thin}
-use Rattle.mate_plan.proofs.UnionAnswers.{few_formulas, game_of}
+use Rattle.mate_plan.proofs.UnionAnswers.{few_formulas, game_on}
 use Rattle.mate_plan.proofs.apart.are_apart.Goals as goal
 
 pub are_empty-requires-clause-items : goal.are_empty-requires-clause-items
@@ -20,7 +20,7 @@ are_empty-requires-clause-items c =
     let trees : map tree_of c.deref.result.now ≡ twin_trees c.args.bench.now.position.now mask source = ap (λ l. map tree_of l) c.deref.ensures.value ∙ c.in_ok-formulas.ensures in
     let on = name_is_found c.args.bench.now.position.now.men c.args.work.now.sets masks masks c.args.at.now.level.now mask source refl c.name_in-source.ensures c.requires.level in
     empty_items c.table.result.now c.args.work.now.sets c.table.ensures c.deref.result.now (twin_trees c.args.bench.now.position.now mask source) trees (mask_tracks c.args.bench.now.position.now mask)
-    (twins_on c.args.bench.now.position.now (game_of c.requires.sound c.args.bench.now.few) c.args.work.now.sets mask c.requires.mask source on)
+    (twins_on c.args.bench.now.position.now (game_on c.args.bench.now) c.args.work.now.sets mask c.requires.mask source on)
 
 pub are_empty-requires-clause-few : goal.are_empty-requires-clause-few
 are_empty-requires-clause-few c =
@@ -40,6 +40,6 @@ returns-clause-answers c =
     empty_answers c.table.result.now c.args.work.now.sets c.table.ensures c.deref.result.now (twin_trees c.args.bench.now.position.now mask source)
     trees c.part-part.result (name c.args.at.now.stage.ply mask kind.Same)
     (twin_items c.args.bench.now.position.now mask s) c.args.work.now.memo.budget c.are_empty.result c.part-part.ensures
-    (twins_thin c.args.bench.now.position.now (game_of c.requires.sound c.args.bench.now.few) c.args.work.now.sets mask
+    (twins_thin c.args.bench.now.position.now (game_on c.args.bench.now) c.args.work.now.sets mask
     c.requires.mask source s (sym is))
     c.are_empty.ensures.answers

@@ -11,7 +11,7 @@ use Rattle.mate_plan.proofs.Counts.{bears_few}
 use Rattle.mate_plan.proofs.EmptyAnswers.{empty_answers, empty_items}
 use Rattle.mate_plan.proofs.LevelLemmas.{name_is_found, set_is_found}
 use Rattle.mate_plan.proofs.PartItems.{bears_on, bears_thin}
-use Rattle.mate_plan.proofs.UnionAnswers.{few_formulas, game_of}
+use Rattle.mate_plan.proofs.UnionAnswers.{few_formulas, game_on}
 use Rattle.mate_plan.proofs.apart.are_safe.Goals as goal
 
 pub are_empty-requires-clause-items : goal.are_empty-requires-clause-items
@@ -24,7 +24,7 @@ are_empty-requires-clause-items c =
     let on = name_is_found c.args.bench.now.position.now.men c.args.work.now.sets masks masks c.args.at.now.level.now mask source refl c.name_in-source.ensures c.requires.level in
     empty_items c.table.result.now c.args.work.now.sets c.table.ensures c.deref.result.now (bear_trees c.args.bench.now.position.now side mask source)
     trees (mask_tracks c.args.bench.now.position.now mask)
-    (bears_on c.args.bench.now.position.now (game_of c.requires.sound c.args.bench.now.few) c.args.work.now.sets side source c.requires.mask on)
+    (bears_on c.args.bench.now.position.now (game_on c.args.bench.now) c.args.work.now.sets side source c.requires.mask on)
 
 pub are_empty-requires-clause-few : goal.are_empty-requires-clause-few
 are_empty-requires-clause-few c =
@@ -46,6 +46,6 @@ returns-clause-answers c =
     empty_answers c.table.result.now c.args.work.now.sets c.table.ensures c.deref.result.now
     (bear_trees c.args.bench.now.position.now side mask source) trees c.part-part.result (name c.args.at.now.stage.ply mask kind.Guard)
     (bear_items (rules_of c.args.bench.now.position.now) side mask s) c.args.work.now.memo.budget c.are_empty.result c.part-part.ensures
-    (bears_thin c.args.bench.now.position.now (game_of c.requires.sound c.args.bench.now.few) c.args.work.now.sets side
+    (bears_thin c.args.bench.now.position.now (game_on c.args.bench.now) c.args.work.now.sets side
     mask source s (sym is))
     c.are_empty.ensures.answers

@@ -10,7 +10,7 @@ use Rattle.mate_plan.proofs.by_mask.level_by.Goals as goal
 pub each-requires : goal.each-requires
 each-requires g c =
     let bench = c.args.bench.now in
-    record { fits = rw c.new.ensures (so_far_none bench.position.now c.args.work.now.sets bench.masks.now bench.masks_are, c.requires.fits, c.requires.sound) }
+    record { fits = rw c.new.ensures (so_far_none bench.position.now c.args.work.now.sets bench.masks.now bench.masks_are, c.requires.fits) }
 
 pub returns-clause-answers : goal.returns-clause-answers
 returns-clause-answers g c =
@@ -24,4 +24,4 @@ returns-clause-answers g c =
     subst From (level_none bench.position.now sets) (subst Over bench.masks_are (rw c.new.ensures at c.each.ensures.answers))
 
 pub returns-clause-names : goal.returns-clause-names
-returns-clause-names g c = IfOk-weaker c.each.result _ _ (λ names (so_far, fits, sound). so_far_names c.args.bench.now.position.now so_far) c.each.ensures.fits
+returns-clause-names g c = IfOk-weaker c.each.result _ _ (λ names (so_far, fits). so_far_names c.args.bench.now.position.now so_far) c.each.ensures.fits

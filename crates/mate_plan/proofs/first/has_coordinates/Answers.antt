@@ -5,12 +5,12 @@ use Rattle.mate_plan.proofs.first.has_coordinates.Goals as goal
 
 pub member-requires-clause-count : goal.member-requires-clause-count
 member-requires-clause-count c =
-    let on = rw c.in-Some.is at c.requires.set in
-    ap length (c.as_slice.ensures.value ∙ c.coordinates.ensures) ∙ own_count c.requires.sound ∙ sym (ap length on.decides.tracks_are)
+    let on = rw c.in-Some.is at c.requires in
+    ap length (c.as_slice.ensures.value ∙ c.coordinates.ensures) ∙ own_count c.args.bench.now.sound ∙ sym (ap length on.decides.tracks_are)
 
 pub member-requires-clause-decides : goal.member-requires-clause-decides
 member-requires-clause-decides c =
-    let on = rw c.in-Some.is at c.requires.set in
+    let on = rw c.in-Some.is at c.requires in
     on.decides.integers
 
 pub returns-in-Some : goal.returns-in-Some

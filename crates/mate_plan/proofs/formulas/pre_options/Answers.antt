@@ -3,12 +3,12 @@ use Rattle.rule_formula.specs.Fits.{masks_of, target_of}
 use Rattle.rule_formula.proofs.MeanTheorem.{game_means}
 use Rattle.mate_plan.specs.Formulas.{name_of, pre_to}
 use Rattle.mate_plan.proofs.Taken.{flat-more}
-use Rattle.mate_plan.proofs.UnionAnswers.{game_of}
+use Rattle.mate_plan.proofs.UnionAnswers.{game_on}
 use Rattle.mate_plan.proofs.formulas.pre_options.Goals as goal
 
 pub target-requires : goal.target-requires
 target-requires c low =
-    (game_means (game_of c.requires.sound c.args.bench.now.few)).taken c.args.from.mask _
+    (game_means (game_on c.args.bench.now)).taken c.args.from.mask _
     (c.requires.options c.loop-option.option-index _ c.loop-option-test.true) low
 
 pub loop-option-preserved : goal.loop-option-preserved

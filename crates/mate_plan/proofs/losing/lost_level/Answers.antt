@@ -5,16 +5,19 @@ use Rattle.mate_plan.proofs.LevelLemmas.{names-grow}
 use Rattle.mate_plan.proofs.LostLevels.{lost_answers, rests_error}
 use Rattle.mate_plan.proofs.losing.lost_level.Goals as goal
 
-pub level_by-requires-2-clause-fits : goal.level_by-requires-2-clause-fits
-level_by-requires-2-clause-fits c =
+pub level_by-requires-2 : goal.level_by-requires-2
+level_by-requires-2 c =
     let p = c.args.bench.now.position.now in
     let from = c.args.from.now in
     let new = c.level_by.new.work.sets in
-    let grows = c.in_ok-rests.ensures.grows in (
-      names-grow p.men c.args.work.now.sets new (masks_of p) from.reach.now grows c.requires.reach,
-      names-grow p.men c.args.work.now.sets new (masks_of p) from.next_reach.now grows c.requires.next_reach,
-      c.in_ok-rests.ensures.names,
-    )
+    let grows = c.in_ok-rests.ensures.later.grows in
+    record {
+      fits = (
+        names-grow p.men c.args.work.now.sets new (masks_of p) from.reach.now grows c.requires.reach,
+        names-grow p.men c.args.work.now.sets new (masks_of p) from.next_reach.now grows c.requires.next_reach,
+        c.in_ok-rests.ensures.names,
+      );
+    }
 
 pub returns-in_err-rests-clause-answers : goal.returns-in_err-rests-clause-answers
 returns-in_err-rests-clause-answers c =
@@ -28,7 +31,7 @@ pub returns-clause-answers : goal.returns-clause-answers
 returns-clause-answers c =
     let p = c.args.bench.now.position.now in
     let from = c.args.from.now in
-    let ended = rw c.in_ok-rests.ensures.budget at c.level_by-2.ensures.answers in
+    let ended = rw c.in_ok-rests.ensures.later.budget at c.level_by-2.ensures.answers in
     lost_answers p from.side from.ply c.args.work.now.memo.budget c.args.work.now.sets from.reach.now from.next_reach.now from.next_kept.now
-    (level_in p c.level_by-2.new.work.sets) c.level_by-2.result c.level_by.new.work.sets c.in_ok-rests.rests c.in_ok-rests.ensures.grows
+    (level_in p c.level_by-2.new.work.sets) c.level_by-2.result c.level_by.new.work.sets c.in_ok-rests.rests c.in_ok-rests.ensures.later.grows
     c.requires.reach c.requires.next_reach c.in_ok-rests.ensures.answers ended

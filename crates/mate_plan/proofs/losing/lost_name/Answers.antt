@@ -27,7 +27,7 @@ lost_set-requires-clause-reach c =
 
 pub truncate-requires : goal.truncate-requires
 truncate-requires c =
-    let more = length-grows c.args.work.now.sets c.lost_set.new.work.sets c.in_ok-set.ensures.grows in
+    let more = length-grows c.args.work.now.sets c.lost_set.new.work.sets c.in_ok-set.ensures.later.grows in
     omega (arith, more, c.count-count.ensures)
 
 pub returns-then-is_lacking-clause-answers : goal.returns-then-is_lacking-clause-answers
@@ -68,14 +68,20 @@ returns-clause-name c =
     on_from_kept (mask_tracks c.args.bench.now.position.now c.args.mask) c.keep.new.self c.in_ok-set.set c.in_ok-keep.field-0 c.in_ok-set.ensures.set
     c.in_ok-keep.ensures.ok c.in_ok-keep.ensures.within
 
-pub returns-in_err-keep-clause-grows : goal.returns-in_err-keep-clause-grows
-returns-in_err-keep-clause-grows c =
-    let cut = grows_cut c.args.work.now.sets c.lost_set.new.work.sets c.count-count.result c.count-count.ensures c.in_ok-set.ensures.grows in
+pub returns-in_err-keep-clause-later : goal.returns-in_err-keep-clause-later
+returns-in_err-keep-clause-later c =
+    let cut = grows_cut c.args.work.now.sets c.lost_set.new.work.sets c.count-count.result c.count-count.ensures c.in_ok-set.ensures.later.grows in
     let To : List Automaton → Type 0 = λ t. Grows c.args.work.now.sets t in
-    grows-grows c.args.work.now.sets c.truncate.new.self c.keep.new.self (subst To (sym c.truncate.ensures) cut) c.in_err-keep.ensures.grows
+    record {
+      grows = grows-grows c.args.work.now.sets c.truncate.new.self c.keep.new.self (subst To (sym c.truncate.ensures) cut) c.in_err-keep.ensures.grows;
+      budget = c.in_ok-set.ensures.later.budget;
+    }
 
-pub returns-clause-grows : goal.returns-clause-grows
-returns-clause-grows c =
-    let cut = grows_cut c.args.work.now.sets c.lost_set.new.work.sets c.count-count.result c.count-count.ensures c.in_ok-set.ensures.grows in
+pub returns-clause-later : goal.returns-clause-later
+returns-clause-later c =
+    let cut = grows_cut c.args.work.now.sets c.lost_set.new.work.sets c.count-count.result c.count-count.ensures c.in_ok-set.ensures.later.grows in
     let To : List Automaton → Type 0 = λ t. Grows c.args.work.now.sets t in
-    grows-grows c.args.work.now.sets c.truncate.new.self c.keep.new.self (subst To (sym c.truncate.ensures) cut) c.in_ok-keep.ensures.grows
+    record {
+      grows = grows-grows c.args.work.now.sets c.truncate.new.self c.keep.new.self (subst To (sym c.truncate.ensures) cut) c.in_ok-keep.ensures.grows;
+      budget = c.in_ok-set.ensures.later.budget;
+    }

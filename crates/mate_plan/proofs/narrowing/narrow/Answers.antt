@@ -28,4 +28,4 @@ returns-clause-answers c =
 
 pub returns-clause-set : goal.returns-clause-set
 returns-clause-set c =
-    set-reduced_on (mask_tracks c.args.bench.now.position.now c.args.stage.mask) c.in_ok-made.made.set c.in_ok-last.last.set c.in_ok-last.ensures.1 c.in_ok-made.ensures.fits.2
+    set-reduced_on (mask_tracks c.args.bench.now.position.now c.args.stage.mask) c.in_ok-made.made.set c.in_ok-last.last.set c.in_ok-last.ensures.1 c.in_ok-made.ensures.fits.1

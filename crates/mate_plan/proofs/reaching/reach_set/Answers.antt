@@ -13,7 +13,7 @@ use Rattle.mate_plan.specs.PlanOf.{rules_of}
 use Rattle.mate_plan.specs.declared.names.Part.TheVariants as kind
 use Rattle.mate_plan.proofs.Counts.{bearings_few}
 use Rattle.mate_plan.proofs.PartItems.{bearings_all}
-use Rattle.mate_plan.proofs.UnionAnswers.{game_of}
+use Rattle.mate_plan.proofs.UnionAnswers.{game_on}
 use Rattle.mate_plan.proofs.reaching.reach_set.Goals as goal
 
 pub narrow-requires-clause-bearings : goal.narrow-requires-clause-bearings
@@ -21,7 +21,7 @@ narrow-requires-clause-bearings c =
     let are : c.as_slice.result.now ≡ bearings_of c.args.bench.now.position.now.men c.args.mask (other c.args.from.now.side) =
     c.as_slice.ensures.value ∙ c.in_ok-attacks.ensures.list ∙ ap (λ s. bearings_of c.args.bench.now.position.now.men c.args.mask s) c.other.ensures in
     bearings_all c.args.bench.now.position.now c.args.mask (other c.args.from.now.side) c.as_slice.result.now
-    (game_of c.requires.sound c.args.bench.now.few) c.requires.mask are
+    (game_on c.args.bench.now) c.requires.mask are
 
 pub narrow-requires-clause-few : goal.narrow-requires-clause-few
 narrow-requires-clause-few c =

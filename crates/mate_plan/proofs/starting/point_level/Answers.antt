@@ -17,7 +17,7 @@ returns-in_err-made-clause-answers c =
 pub returns-clause-answers : goal.returns-clause-answers
 returns-clause-answers c =
     point_ends c.args.bench.now.position.now c.mask-mask.result (mask_one c.mask-mask.ensures)
-    c.args.work.now.memo.budget c.requires.sound c.args.bench.now.few (made_of c.in_ok-made.made) c.keep.new.self c.in_ok-name.name
+    c.args.work.now.memo.budget c.args.bench.now.sound c.args.bench.now.few (made_of c.in_ok-made.made) c.keep.new.self c.in_ok-name.name
     c.in_ok-level_at.field-0 c.in_ok-made.ensures.answers c.in_ok-name.ensures.ok c.in_ok-level_at.ensures
 
 pub returns-clause-names : goal.returns-clause-names

@@ -11,7 +11,7 @@ use Rattle.mate_plan.proofs.StartAnswers.{plain_compilable, point_answers, some_
 use Rattle.mate_plan.proofs.starting.point_set.Goals as goal
 
 pub point_formula-requires : goal.point_formula-requires
-point_formula-requires c = some_live c.requires.sound
+point_formula-requires c = some_live c.args.bench.now.sound
 
 pub make-requires-clause-compilable : goal.make-requires-clause-compilable
 make-requires-clause-compilable c = plain_compilable c.table.result.now c.in_ok-formula.ensures.modest c.in_ok-formula.ensures.names

@@ -7,7 +7,7 @@ use Rattle.mate_plan.specs.Plan.{name}
 use Rattle.mate_plan.specs.declared.names.Part.TheVariants as kind
 use Rattle.mate_plan.proofs.Counts.{bears_few}
 use Rattle.mate_plan.proofs.PartItems.{bears_on, bears_thin}
-use Rattle.mate_plan.proofs.UnionAnswers.{few_formulas, game_of, items_on, set_on, union_answers}
+use Rattle.mate_plan.proofs.UnionAnswers.{few_formulas, game_on, items_on, set_on, union_answers}
 use Rattle.mate_plan.proofs.unions.check_set.Goals as goal
 
 pub united-requires-clause-items : goal.united-requires-clause-items
@@ -16,7 +16,7 @@ united-requires-clause-items c =
     c.args.source.name =
     ap (λ l. map tree_of l) c.deref.ensures.value ∙ c.in_ok-formulas.ensures
     ∙ ap (λ s. bear_trees c.args.bench.now.position.now s c.args.source.stage.mask c.args.source.name) c.other.ensures in
-    let game = game_of c.requires.sound c.args.bench.now.few in
+    let game = game_on c.args.bench.now in
     items_on c.args.bench.now.position.now c.args.sets.now c.part.result (name c.args.source.stage.ply c.args.source.stage.mask kind.Check) c.part.ensures c.deref.result.now _ trees
     (bears_on c.args.bench.now.position.now game c.args.sets.now (other c.args.source.stage.side) c.args.source.name c.requires.mask c.requires.source)
 
@@ -34,7 +34,7 @@ returns-clause-answers c =
     c.args.source.name =
     ap (λ l. map tree_of l) c.deref.ensures.value ∙ c.in_ok-formulas.ensures
     ∙ ap (λ s. bear_trees c.args.bench.now.position.now s c.args.source.stage.mask c.args.source.name) c.other.ensures in
-    let game = game_of c.requires.sound c.args.bench.now.few in
+    let game = game_on c.args.bench.now in
     union_answers c.args.bench.now.position.now c.args.sets.now c.part.result (name c.args.source.stage.ply c.args.source.stage.mask kind.Check)
     c.part.ensures c.deref.result.now _ _ c.args.memo.now.budget c.united.result trees
     (bears_thin c.args.bench.now.position.now game c.args.sets.now (other c.args.source.stage.side) c.args.source.stage.mask c.args.source.name

@@ -5,7 +5,7 @@ use Rattle.mate_plan.specs.Formulas.{pre_trees}
 use Rattle.mate_plan.specs.Plan.{name}
 use Rattle.mate_plan.proofs.Counts.{pres_few}
 use Rattle.mate_plan.proofs.PartItems.{pres_on, pres_thin}
-use Rattle.mate_plan.proofs.UnionAnswers.{few_formulas, game_of, items_on, set_on, union_answers}
+use Rattle.mate_plan.proofs.UnionAnswers.{few_formulas, game_on, items_on, set_on, union_answers}
 use Rattle.mate_plan.proofs.unions.pre_set.Goals as goal
 
 pub united-requires-clause-items : goal.united-requires-clause-items
@@ -13,7 +13,7 @@ united-requires-clause-items c =
     let trees : map tree_of c.deref.result.now ≡ pre_trees c.args.bench.now.position.now c.args.moves.now.set.stage.side
     c.args.moves.now.set.stage.mask c.args.moves.now.set.name c.args.moves.now.into.now =
     ap (λ l. map tree_of l) c.deref.ensures.value ∙ c.in_ok-formulas.ensures in
-    let game = game_of c.requires.sound c.args.bench.now.few in
+    let game = game_on c.args.bench.now in
     items_on c.args.bench.now.position.now c.args.sets.now c.part.result
     (name c.args.moves.now.set.stage.ply c.args.moves.now.set.stage.mask c.args.moves.now.part) c.part.ensures c.deref.result.now _ trees
     (pres_on c.args.bench.now.position.now game c.args.sets.now c.args.moves.now.set.stage.side c.args.moves.now.set.stage.mask
@@ -33,7 +33,7 @@ returns-clause-answers c =
     let trees : map tree_of c.deref.result.now ≡ pre_trees c.args.bench.now.position.now c.args.moves.now.set.stage.side
     c.args.moves.now.set.stage.mask c.args.moves.now.set.name c.args.moves.now.into.now =
     ap (λ l. map tree_of l) c.deref.ensures.value ∙ c.in_ok-formulas.ensures in
-    let game = game_of c.requires.sound c.args.bench.now.few in
+    let game = game_on c.args.bench.now in
     union_answers c.args.bench.now.position.now c.args.sets.now c.part.result
     (name c.args.moves.now.set.stage.ply c.args.moves.now.set.stage.mask c.args.moves.now.part) c.part.ensures c.deref.result.now _ _
     c.args.memo.now.budget c.united.result trees

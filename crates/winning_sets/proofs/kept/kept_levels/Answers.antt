@@ -53,12 +53,12 @@ loop-left-preserved c =
     let back =
     back_next p budget c.args.work.now.sets c.args.reach.now c.loop-left.work.sets c.loop-left.kept.items (ply turn) c.loop-left.left
     c.index-reach-ply.result c.index-reach-ply-in-loop-left.result c.index.result.now
-    (before_last turn) c.loop-left.auto.left c.loop-left.invariant.0 c.index-reach-ply.is (next_reach turn) c.index.ensures new more c.in_ok-level.ensures.grows c.in_ok-level.ensures.names said in (
+    (before_last turn) c.loop-left.auto.left c.loop-left.invariant.0 c.index-reach-ply.is (next_reach turn) c.index.ensures new more c.in_ok-level.ensures.later.grows c.in_ok-level.ensures.names said in (
       subst
           (λ (kept : List Names). IsBack p budget (whole_back p c.args.work.now.sets c.args.reach.now) c.args.work.now.sets new c.args.reach.now kept
           (c.loop-left.left + 1))
           (sym c.in_ok-push_level-2.ensures.ok) back,
-      c.in_ok-level.ensures.budget ∙ c.loop-left.invariant.1,
+      c.in_ok-level.ensures.later.budget ∙ c.loop-left.invariant.1,
     )
 
 pub returns-clause-answers : goal.returns-clause-answers

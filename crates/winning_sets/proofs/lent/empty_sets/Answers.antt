@@ -1,4 +1,4 @@
-use Rattle.std.proofs.Common.{ℕ, ◌+◌, ◌≤◌, List, length, get_or, take, subst, sym}
+use Rattle.std.proofs.Common.{ℕ, ◌+◌, ◌≤◌, List, length, get_or, take, subst, sym, arith}
 use Rattle.std.proofs.lemmas.List.{take_all}
 use Rattle.track_word.specs.declared.tracks.Var.{Var}
 use Rattle.track_word.specs.Tracks.{IsAscending}
@@ -14,7 +14,7 @@ empty_set-requires-clause-ascending c =
 
 pub empty_set-requires-clause-few : goal.empty_set-requires-clause-few
 empty_set-requires-clause-few c =
-    subst (λ (tracks : List Var). length tracks ≤ 20) (sym c.in_ok-tracks.ensures) (tracks_few c.args.p.now.men (get_or c.args.masks.now c.loop-mask.mask-index 0) c.requires)
+    subst (λ (tracks : List Var). length tracks ≤ 20) (sym c.in_ok-tracks.ensures) (tracks_few c.args.p.now.men (get_or c.args.masks.now c.loop-mask.mask-index 0) (omega (arith, c.count.ensures)))
 
 pub loop-mask-preserved : goal.loop-mask-preserved
 loop-mask-preserved c =

@@ -7,7 +7,7 @@ use Rattle.mate_plan.proofs.by_mask.ByMaskSteps.step.Goals as goal
 
 pub name-requires-clause-mask : goal.name-requires-clause-mask
 name-requires-clause-mask g c =
-    let (rest, (so_far, fits, sound)) = c.requires.fits in
+    let (rest, (so_far, fits)) = c.requires.fits in
     mask_here c.args.self.now.bench.now.position.now c.args.mask.now rest so_far
 
 pub returns-in_err-name-clause-answers : goal.returns-in_err-name-clause-answers
@@ -20,21 +20,20 @@ returns-in_err-name-clause-answers g c =
 
 pub returns-clause-answers : goal.returns-clause-answers
 returns-clause-answers g c =
-    let (rest, (so_far, fits, sound)) = c.requires.fits in
+    let (rest, (so_far, fits)) = c.requires.fits in
     let position = c.args.self.now.bench.now.position.now in
     let made = c.in_ok-name.ensures in
     rw c.in_ok-push.ensures.ok
-    (with_mask_ends position c.args.work.now.sets c.name.new.work.sets c.args.so_far c.args.mask.now rest so_far made.grows c.in_ok-name.name
+    (with_mask_ends position c.args.work.now.sets c.name.new.work.sets c.args.so_far c.args.mask.now rest so_far made.later.grows c.in_ok-name.name
     (g.M.MaskSets.program c.args.self.now.making.now position c.args.work.now.sets) c.args.work.now.memo.budget made.answers)
 
 pub returns-clause-fits : goal.returns-clause-fits
-returns-clause-fits g c = λ rest (so_far, fits, sound).
+returns-clause-fits g c = λ rest (so_far, fits).
     let position = c.args.self.now.bench.now.position.now in
     let made = c.in_ok-name.ensures in (
       rw c.in_ok-push.ensures.ok
-          (so_far_more position c.args.work.now.sets c.name.new.work.sets c.args.so_far c.args.mask.now rest so_far made.grows c.in_ok-name.name made.name),
+          (so_far_more position c.args.work.now.sets c.name.new.work.sets c.args.so_far c.args.mask.now rest so_far made.later.grows c.in_ok-name.name made.name),
       made.fits,
-      sound,
     )
 
 pub returns-in_err-name-clause-program : goal.returns-in_err-name-clause-program

@@ -8,7 +8,7 @@ pub returns-clause-fits : goal.returns-clause-fits
 returns-clause-fits c =
     let p = c.args.bench.now.position.now in
     let it = c.args.self.now in
-    let grows = c.lost_name.ensures.grows in (
+    let grows = c.lost_name.ensures.later.grows in (
       names-grow p.men c.args.work.now.sets c.lost_name.new.work.sets (masks_of p) it.reach.now grows c.requires.fits.0,
       names-grow p.men c.args.work.now.sets c.lost_name.new.work.sets (masks_of p) it.next_reach.now grows c.requires.fits.1,
       names-grow p.men c.args.work.now.sets c.lost_name.new.work.sets (masks_of p) it.rests.now grows c.requires.fits.2,
@@ -18,7 +18,7 @@ pub returns-clause-same : goal.returns-clause-same
 returns-clause-same c =
     let p = c.args.bench.now.position.now in
     let it = c.args.self.now in
-    let grows = c.lost_name.ensures.grows in
+    let grows = c.lost_name.ensures.later.grows in
     at_three (lost_set_if (rules_of p) it.side it.ply) _ _ _ _ _ _
     (level-grows p.men c.args.work.now.sets c.lost_name.new.work.sets (masks_of p) it.reach.now grows c.requires.fits.0)
     (level-grows p.men c.args.work.now.sets c.lost_name.new.work.sets (masks_of p) it.next_reach.now grows c.requires.fits.1)

@@ -15,18 +15,18 @@ use Rattle.mate_plan.specs.declared.names.Part.TheVariants as kind
 use Rattle.mate_plan.proofs.LevelLemmas.{grows_cut, length-grows}
 use Rattle.mate_plan.proofs.PartAnswers.{Error-make}
 use Rattle.mate_plan.proofs.SafeAnswers.{safe_item_on, safe_item_same}
-use Rattle.mate_plan.proofs.UnionAnswers.{game_of}
+use Rattle.mate_plan.proofs.UnionAnswers.{game_on}
 use Rattle.mate_plan.proofs.narrowing.NarrowingSteps.step.Goals as goal
 
 pub make_reached-requires-clause-item : goal.make_reached-requires-clause-item
 make_reached-requires-clause-item c =
-    let on : IsReachedOn (mask_tracks c.args.self.now.bench.now.position.now c.args.self.now.stage.mask) c.in-Some.source = rw c.in-Some.is at c.requires.fits.1.2 in
+    let on : IsReachedOn (mask_tracks c.args.self.now.bench.now.position.now c.args.self.now.stage.mask) c.in-Some.source = rw c.in-Some.is at c.requires.fits.1.1 in
     let item =
     safe_item_on c.args.self.now.bench.now.position.now
-    (game_of c.requires.fits.1.0 c.args.self.now.bench.now.few) c.put.new.self
+    (game_on c.args.self.now.bench.now) c.put.new.self
     c.args.self.now.stage.mask c.args.bearing.now
     (All-head (λ b. IsBearer c.args.self.now.bench.now.position.now.men c.args.self.now.stage.mask b.man b.ray b.king) c.args.bearing.now
-    c.requires.fits.0 c.requires.fits.1.1)
+    c.requires.fits.0 c.requires.fits.1.0)
     c.in_ok-id.id (tree_of c.in_ok-formula.formula) c.in_ok-formula.ensures.tree c.in-Some.source c.in_ok-id.ensures.ok on in
     rw c.table.ensures
     (item-own (mask_tracks c.args.self.now.bench.now.position.now c.args.self.now.stage.mask) c.put.new.self (tree_of c.in_ok-formula.formula) item)
@@ -38,14 +38,14 @@ truncate-requires c =
 
 pub returns-clause-answers : goal.returns-clause-answers
 returns-clause-answers c =
-    let on : IsReachedOn (mask_tracks c.args.self.now.bench.now.position.now c.args.self.now.stage.mask) c.in-Some.source = rw c.in-Some.is at c.requires.fits.1.2 in
+    let on : IsReachedOn (mask_tracks c.args.self.now.bench.now.position.now c.args.self.now.stage.mask) c.in-Some.source = rw c.in-Some.is at c.requires.fits.1.1 in
     let is : as_set c.args.so_far.set ≡ tables c.put.new.self c.in_ok-id.id.0 = ap as_set c.in-Some.is ∙ sym (ap as_set c.in_ok-id.ensures.ok) in
     let same =
     safe_item_same c.args.self.now.bench.now.position.now
-    (game_of c.requires.fits.1.0 c.args.self.now.bench.now.few) c.put.new.self
+    (game_on c.args.self.now.bench.now) c.put.new.self
     c.args.self.now.stage.mask c.args.bearing.now
     (All-head (λ b. IsBearer c.args.self.now.bench.now.position.now.men c.args.self.now.stage.mask b.man b.ray b.king) c.args.bearing.now
-    c.requires.fits.0 c.requires.fits.1.1)
+    c.requires.fits.0 c.requires.fits.1.0)
     c.in_ok-id.id (tree_of c.in_ok-formula.formula) c.in_ok-formula.ensures.tree c.in-Some.source c.in_ok-id.ensures.ok on
     (as_set c.args.so_far.set) is in
     let made = rw (c.table.ensures, c.part.ensures) at c.in_ok-made.ensures.answers in
@@ -55,16 +55,15 @@ returns-clause-answers c =
     (made_of c.in_ok-made.made) same made
 
 pub returns-clause-fits : goal.returns-clause-fits
-returns-clause-fits c = λ rest (sound, all, set, room).
-    let on : IsReachedOn (mask_tracks c.args.self.now.bench.now.position.now c.args.self.now.stage.mask) c.in-Some.source = rw c.in-Some.is at c.requires.fits.1.2 in
+returns-clause-fits c = λ rest (all, set, room).
+    let on : IsReachedOn (mask_tracks c.args.self.now.bench.now.position.now c.args.self.now.stage.mask) c.in-Some.source = rw c.in-Some.is at c.requires.fits.1.1 in
     let item =
     safe_item_on c.args.self.now.bench.now.position.now
-    (game_of c.requires.fits.1.0 c.args.self.now.bench.now.few) c.put.new.self
+    (game_on c.args.self.now.bench.now) c.put.new.self
     c.args.self.now.stage.mask c.args.bearing.now
     (All-head (λ b. IsBearer c.args.self.now.bench.now.position.now.men c.args.self.now.stage.mask b.man b.ray b.king) c.args.bearing.now
-    c.requires.fits.0 c.requires.fits.1.1)
+    c.requires.fits.0 c.requires.fits.1.0)
     c.in_ok-id.id (tree_of c.in_ok-formula.formula) c.in_ok-formula.ensures.tree c.in-Some.source c.in_ok-id.ensures.ok on in (
-      sound,
       λ k d within. all (suc k) d (omega (arith, within)),
       subst (λ (tracks : List Var). IfSome c.in_ok-made.made.set (IsReachedOn tracks)) item.over c.in_ok-made.ensures.set,
       omega (arith, room, c.in_ok-made.ensures.room),
@@ -75,14 +74,14 @@ returns-clause-keeps c = rw c.truncate.ensures (grows_cut c.args.work.now.sets c
 
 pub returns-in_err-made-clause-answers : goal.returns-in_err-made-clause-answers
 returns-in_err-made-clause-answers c =
-    let on : IsReachedOn (mask_tracks c.args.self.now.bench.now.position.now c.args.self.now.stage.mask) c.in-Some.source = rw c.in-Some.is at c.requires.fits.1.2 in
+    let on : IsReachedOn (mask_tracks c.args.self.now.bench.now.position.now c.args.self.now.stage.mask) c.in-Some.source = rw c.in-Some.is at c.requires.fits.1.1 in
     let is : as_set c.args.so_far.set ≡ tables c.put.new.self c.in_ok-id.id.0 = ap as_set c.in-Some.is ∙ sym (ap as_set c.in_ok-id.ensures.ok) in
     let same =
     safe_item_same c.args.self.now.bench.now.position.now
-    (game_of c.requires.fits.1.0 c.args.self.now.bench.now.few) c.put.new.self
+    (game_on c.args.self.now.bench.now) c.put.new.self
     c.args.self.now.stage.mask c.args.bearing.now
     (All-head (λ b. IsBearer c.args.self.now.bench.now.position.now.men c.args.self.now.stage.mask b.man b.ray b.king) c.args.bearing.now
-    c.requires.fits.0 c.requires.fits.1.1)
+    c.requires.fits.0 c.requires.fits.1.0)
     c.in_ok-id.id (tree_of c.in_ok-formula.formula) c.in_ok-formula.ensures.tree c.in-Some.source c.in_ok-id.ensures.ok on
     (as_set c.args.so_far.set) is in
     let made = rw (c.table.ensures, c.part.ensures) at c.in_err-made.ensures.answers in
@@ -95,7 +94,7 @@ returns-in_err-made-clause-answers c =
 
 pub safe_formula-requires : goal.safe_formula-requires
 safe_formula-requires c =
-    All-head (λ b. IsBearer c.args.self.now.bench.now.position.now.men c.args.self.now.stage.mask b.man b.ray b.king) c.args.bearing.now c.requires.fits.0 c.requires.fits.1.1
+    All-head (λ b. IsBearer c.args.self.now.bench.now.position.now.men c.args.self.now.stage.mask b.man b.ray b.king) c.args.bearing.now c.requires.fits.0 c.requires.fits.1.0
 
 pub returns-in_default-clause-fits : goal.returns-in_default-clause-fits
-returns-in_default-clause-fits c = λ rest (sound, all, set, room). (sound, λ k d within. all (suc k) d (omega (arith, within)), tt, omega (arith, room))
+returns-in_default-clause-fits c = λ rest (all, set, room). (λ k d within. all (suc k) d (omega (arith, within)), tt, omega (arith, room))

@@ -66,7 +66,7 @@ invariant_of-self c =
     let i = c.self.inside in
     let made = c.kept_levels.ensures in
     grown_finished i.position i.work.memo.budget c.kept_levels.new.work.memo.budget i.masks.items i.empties.items i.work.sets
-    c.kept_levels.new.work.sets i.count i.levels.items i.levels.items c.self.invariant.0 made.grows made.budget refl c.self.invariant.1
+    c.kept_levels.new.work.sets i.count i.levels.items i.levels.items c.self.invariant.0 made.later.grows made.later.budget refl c.self.invariant.1
 
 pub returns-in_err-kept-clause-error : goal.returns-in_err-kept-clause-error
 returns-in_err-kept-clause-error c =
@@ -93,7 +93,7 @@ returns-in_err-kept-clause-same c =
     let i = c.self.inside in
     let made = c.kept_levels.ensures in
     state-grows i.position i.winner i.empties.items i.work.memo.budget c.kept_levels.new.work.memo.budget i.work.sets c.kept_levels.new.work.sets
-    i.count i.levels.items c.self.invariant.0 made.grows made.budget i.levels.items refl
+    i.count i.levels.items c.self.invariant.0 made.later.grows made.later.budget i.levels.items refl
     ∙ c.self.view_is
 
 pub copied-requires : goal.copied-requires
@@ -111,14 +111,14 @@ invariant_of-self-in_err-copied c =
     let i = c.self.inside in
     let made = c.kept_levels.ensures in
     grown_finished i.position i.work.memo.budget c.kept_levels.new.work.memo.budget i.masks.items i.empties.items i.work.sets
-    c.kept_levels.new.work.sets i.count i.levels.items i.levels.items c.self.invariant.0 made.grows made.budget refl c.self.invariant.1
+    c.kept_levels.new.work.sets i.count i.levels.items i.levels.items c.self.invariant.0 made.later.grows made.later.budget refl c.self.invariant.1
 
 pub returns-in_err-copied-clause-same : goal.returns-in_err-copied-clause-same
 returns-in_err-copied-clause-same c =
     let i = c.self.inside in
     let made = c.kept_levels.ensures in
     state-grows i.position i.winner i.empties.items i.work.memo.budget c.kept_levels.new.work.memo.budget i.work.sets c.kept_levels.new.work.sets
-    i.count i.levels.items c.self.invariant.0 made.grows made.budget i.levels.items refl
+    i.count i.levels.items c.self.invariant.0 made.later.grows made.later.budget i.levels.items refl
     ∙ c.self.view_is
 
 pub invariant_of-self-2 : goal.invariant_of-self-2
@@ -126,7 +126,7 @@ invariant_of-self-2 c =
     let i = c.self.inside in
     let made = c.kept_levels.ensures in
     grown_finished i.position i.work.memo.budget c.kept_levels.new.work.memo.budget i.masks.items i.empties.items i.work.sets
-    c.kept_levels.new.work.sets i.count i.levels.items i.levels.items c.self.invariant.0 made.grows made.budget refl c.self.invariant.1
+    c.kept_levels.new.work.sets i.count i.levels.items i.levels.items c.self.invariant.0 made.later.grows made.later.budget refl c.self.invariant.1
 
 pub returns-clause-kept : goal.returns-clause-kept
 returns-clause-kept c =
@@ -158,5 +158,5 @@ returns-clause-same c =
     let i = c.self.inside in
     let made = c.kept_levels.ensures in
     state-grows i.position i.winner i.empties.items i.work.memo.budget c.kept_levels.new.work.memo.budget i.work.sets c.kept_levels.new.work.sets
-    i.count i.levels.items c.self.invariant.0 made.grows made.budget i.levels.items refl
+    i.count i.levels.items c.self.invariant.0 made.later.grows made.later.budget i.levels.items refl
     ∙ c.self.view_is

@@ -32,24 +32,26 @@ ply_is c = omega (arith, plies c, c.requires.some, c.len-ply.ensures)
 turn_is : (c : After-index) → c.side_at-side.result ≡ turn_at c.self.inside.position.turn (c.len-ply.result - 1)
 turn_is c = c.side_at-side.ensures ∙ ap (λ s. turn_at s (c.len-ply.result - 1)) c.turn.ensures
 
-pub reach_level-requires-clause-level : goal.reach_level-requires-clause-level
-reach_level-requires-clause-level c =
-    let start = (goal.at.reach_level-requires-clause-level c).After-index in
+pub reach_level-requires : goal.reach_level-requires
+reach_level-requires c =
+    let start = (goal.at.reach_level-requires c).After-index in
     let i = c.self.inside in
     let p = i.position in
     let n = c.len-ply.result - 1 in
     let ids = c.index.result.now in
     let less : n < length i.levels.items = omega (arith, next start) in
     let here = All-get_or (AreNames p.men (take i.count i.work.sets) (masks_of p)) i.levels.items n ids less c.self.invariant.1.names in
-    names-grow (take i.count i.work.sets) i.work.sets (grows-take i.count i.work.sets) p.men (masks_of p) ids
-    (subst (AreNames p.men (take i.count i.work.sets) (masks_of p)) (sym c.index.ensures) here)
+    record {
+      level = names-grow (take i.count i.work.sets) i.work.sets (grows-take i.count i.work.sets) p.men (masks_of p) ids
+          (subst (AreNames p.men (take i.count i.work.sets) (masks_of p)) (sym c.index.ensures) here);
+    }
 
 pub invariant_of-self : goal.invariant_of-self
 invariant_of-self c =
     let i = c.self.inside in
     let made = c.reach_level.ensures in
     grown_finished i.position i.work.memo.budget c.reach_level.new.work.memo.budget i.masks.items i.empties.items i.work.sets
-    c.reach_level.new.work.sets i.count i.levels.items i.levels.items c.self.invariant.0 made.grows made.budget refl c.self.invariant.1
+    c.reach_level.new.work.sets i.count i.levels.items i.levels.items c.self.invariant.0 made.later.grows made.later.budget refl c.self.invariant.1
 
 pub returns-in_err-level-clause-error : goal.returns-in_err-level-clause-error
 returns-in_err-level-clause-error c =
@@ -77,14 +79,14 @@ returns-in_err-level-clause-after c =
     let new = c.reach_level.new.work.sets in
     let other = c.reach_level.new.work.memo.budget in
     subst (λ (s : SolverState). IsSolverAfter s (state_of i.position i.winner i.empties.items other (take i.count new) i.levels.items)) c.self.view_is
-    (after_grown i.position i.winner i.empties.items i.work.memo.budget other i.work.sets new i.count i.levels.items c.self.invariant.0 made.grows made.budget i.levels.items refl)
+    (after_grown i.position i.winner i.empties.items i.work.memo.budget other i.work.sets new i.count i.levels.items c.self.invariant.0 made.later.grows made.later.budget i.levels.items refl)
 
 pub invariant_of-self-in_err-push_level : goal.invariant_of-self-in_err-push_level
 invariant_of-self-in_err-push_level c =
     let i = c.self.inside in
     let made = c.reach_level.ensures in
     grown_finished i.position i.work.memo.budget c.reach_level.new.work.memo.budget i.masks.items i.empties.items i.work.sets
-    c.reach_level.new.work.sets i.count i.levels.items c.push_level.new.levels.items c.self.invariant.0 made.grows made.budget
+    c.reach_level.new.work.sets i.count i.levels.items c.push_level.new.levels.items c.self.invariant.0 made.later.grows made.later.budget
     c.in_err-push_level.ensures.err c.self.invariant.1
 
 pub returns-in_err-push_level-clause-after : goal.returns-in_err-push_level-clause-after
@@ -95,7 +97,7 @@ returns-in_err-push_level-clause-after c =
     let other = c.reach_level.new.work.memo.budget in
     let levels = c.push_level.new.levels.items in
     subst (λ (s : SolverState). IsSolverAfter s (state_of i.position i.winner i.empties.items other (take i.count new) levels)) c.self.view_is
-    (after_grown i.position i.winner i.empties.items i.work.memo.budget other i.work.sets new i.count i.levels.items c.self.invariant.0 made.grows made.budget levels c.in_err-push_level.ensures.err)
+    (after_grown i.position i.winner i.empties.items i.work.memo.budget other i.work.sets new i.count i.levels.items c.self.invariant.0 made.later.grows made.later.budget levels c.in_err-push_level.ensures.err)
 
 pub invariant_of-self-2 : goal.invariant_of-self-2
 invariant_of-self-2 c =
@@ -116,10 +118,10 @@ invariant_of-self-2 c =
     let room : length i.levels.items ≤ 41 = omega (arith, plies start, c.requires.room) in
     let here =
     next_finished p i.work.memo.budget i.masks.items i.empties.items (take i.count i.work.sets) i.work.sets i.levels.items c.self.invariant.1
-    (grows-take i.count i.work.sets) n (next start) ids c.index.ensures side (turn_is start) new more made.grows room
+    (grows-take i.count i.work.sets) n (next start) ids c.index.ensures side (turn_is start) new more made.later.grows room
     c.in_ok-level.ensures.names said in
     all_finished p i.work.memo.budget c.reach_level.new.work.memo.budget i.masks.items i.empties.items new c.count-self-inside.result
-    (i.levels.items ++ more ∷ []) c.push_level.new.levels.items made.budget c.count-self-inside.ensures c.in_ok-push_level.ensures.ok here
+    (i.levels.items ++ more ∷ []) c.push_level.new.levels.items made.later.budget c.count-self-inside.ensures c.in_ok-push_level.ensures.ok here
 
 pub returns-clause-after : goal.returns-clause-after
 returns-clause-after c =
@@ -130,5 +132,5 @@ returns-clause-after c =
     let size = c.count-self-inside.result in
     let levels = c.push_level.new.levels.items in
     subst (λ (s : SolverState). IsSolverAfter s (state_of i.position i.winner i.empties.items other (take size new) levels)) c.self.view_is
-    (after_push i.position i.winner i.empties.items i.work.memo.budget other i.work.sets new i.count i.levels.items c.self.invariant.0 made.grows
-    made.budget size c.in_ok-level.level levels c.self.invariant.1.names c.count-self-inside.ensures c.in_ok-push_level.ensures.ok)
+    (after_push i.position i.winner i.empties.items i.work.memo.budget other i.work.sets new i.count i.levels.items c.self.invariant.0 made.later.grows
+    made.later.budget size c.in_ok-level.level levels c.self.invariant.1.names c.count-self-inside.ensures c.in_ok-push_level.ensures.ok)

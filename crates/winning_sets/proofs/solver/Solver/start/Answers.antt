@@ -19,7 +19,7 @@ invariant_of-self c =
     let i = c.self.inside in
     let made = c.point_level.ensures in
     grown_finished i.position i.work.memo.budget c.point_level.new.work.memo.budget i.masks.items i.empties.items i.work.sets
-    c.point_level.new.work.sets i.count i.levels.items i.levels.items c.self.invariant.0 made.grows made.budget refl c.self.invariant.1
+    c.point_level.new.work.sets i.count i.levels.items i.levels.items c.self.invariant.0 made.later.grows made.later.budget refl c.self.invariant.1
 
 pub returns-in_err-level-clause-error : goal.returns-in_err-level-clause-error
 returns-in_err-level-clause-error c =
@@ -37,14 +37,14 @@ returns-in_err-level-clause-after c =
     let new = c.point_level.new.work.sets in
     let other = c.point_level.new.work.memo.budget in
     subst (λ (s : SolverState). IsSolverAfter s (state_of i.position i.winner i.empties.items other (take i.count new) i.levels.items)) c.self.view_is
-    (after_grown i.position i.winner i.empties.items i.work.memo.budget other i.work.sets new i.count i.levels.items c.self.invariant.0 made.grows made.budget i.levels.items refl)
+    (after_grown i.position i.winner i.empties.items i.work.memo.budget other i.work.sets new i.count i.levels.items c.self.invariant.0 made.later.grows made.later.budget i.levels.items refl)
 
 pub invariant_of-self-in_err-push_level : goal.invariant_of-self-in_err-push_level
 invariant_of-self-in_err-push_level c =
     let i = c.self.inside in
     let made = c.point_level.ensures in
     grown_finished i.position i.work.memo.budget c.point_level.new.work.memo.budget i.masks.items i.empties.items i.work.sets
-    c.point_level.new.work.sets i.count i.levels.items c.push_level.new.levels.items c.self.invariant.0 made.grows made.budget
+    c.point_level.new.work.sets i.count i.levels.items c.push_level.new.levels.items c.self.invariant.0 made.later.grows made.later.budget
     c.in_err-push_level.ensures.err c.self.invariant.1
 
 pub returns-in_err-push_level-clause-after : goal.returns-in_err-push_level-clause-after
@@ -55,7 +55,7 @@ returns-in_err-push_level-clause-after c =
     let other = c.point_level.new.work.memo.budget in
     let levels = c.push_level.new.levels.items in
     subst (λ (s : SolverState). IsSolverAfter s (state_of i.position i.winner i.empties.items other (take i.count new) levels)) c.self.view_is
-    (after_grown i.position i.winner i.empties.items i.work.memo.budget other i.work.sets new i.count i.levels.items c.self.invariant.0 made.grows made.budget levels c.in_err-push_level.ensures.err)
+    (after_grown i.position i.winner i.empties.items i.work.memo.budget other i.work.sets new i.count i.levels.items c.self.invariant.0 made.later.grows made.later.budget levels c.in_err-push_level.ensures.err)
 
 pub invariant_of-self-2 : goal.invariant_of-self-2
 invariant_of-self-2 c =
@@ -68,21 +68,21 @@ invariant_of-self-2 c =
     let empties = c.in_ok-empties.empties.items in
     let none : i.levels.items ≡ [] = map-none (sets_or (take i.count i.work.sets) i.empties.items) i.levels.items (ap (λ s. s.reach) c.self.view_is ∙ c.requires) in
     let is = subst (λ (levels : List Names). AreFinished p i.work.memo.budget i.masks.items i.empties.items (take i.count i.work.sets) levels) none c.self.invariant.1 in
-    let grows = grows-trans (take i.count i.work.sets) i.work.sets new (grows-take i.count i.work.sets) made.grows in
+    let grows = grows-trans (take i.count i.work.sets) i.work.sets new (grows-take i.count i.work.sets) made.later.grows in
     let empties_are = subst (λ (ms : List ℕ). AreEmpties p.men ms empties) (c.as_slice.ensures.value ∙ c.in_ok-all.ensures.list) c.in_ok-empties.ensures in
     let first =
     first_finished new masks empties ids is grows
     c.in_ok-level.ensures.names c.in_ok-all.ensures.list empties_are c.in_ok-level.ensures.answers in
     let levels_are : c.push_level.new.levels.items ≡ ids ∷ [] = c.in_ok-push_level.ensures.ok ∙ ap (λ l. l ++ ids ∷ []) none in
     all_finished p i.work.memo.budget c.point_level.new.work.memo.budget masks empties new c.count-self-inside.result (ids ∷ [])
-    c.push_level.new.levels.items made.budget c.count-self-inside.ensures levels_are first
+    c.push_level.new.levels.items made.later.budget c.count-self-inside.ensures levels_are first
 
 pub returns-clause-after : goal.returns-clause-after
 returns-clause-after c =
     let i = c.self.inside in
     let new = c.point_level.new.work.sets in
     let state = state_of i.position i.winner c.in_ok-empties.empties.items c.point_level.new.work.memo.budget (take c.count-self-inside.result new) c.push_level.new.levels.items in
-    after_first c.args.self.now state (ap (λ s. s.position) c.self.view_is) (ap (λ s. s.winner) c.self.view_is) (c.point_level.ensures.budget ∙ ap (λ s. s.budget) c.self.view_is) c.requires
+    after_first c.args.self.now state (ap (λ s. s.position) c.self.view_is) (ap (λ s. s.winner) c.self.view_is) (c.point_level.ensures.later.budget ∙ ap (λ s. s.budget) c.self.view_is) c.requires
 
 pub returns-clause-count : goal.returns-clause-count
 returns-clause-count c =

@@ -1,0 +1,16 @@
+//! Whose turn it is.
+ghost use Rattle.std.specs.Prelude.{◌≡◌, ◌≤◌};
+ghost use Rattle.mate_plan.specs.Turns.{waits as plies};
+
+use game_rules::Side;
+
+/// How many plies the side waits for its turn, by the side that moves first.
+pub fn waits(side: Side, first: Side) -> u8
+    ensures plies { result ≡ plies side first }
+    ensures most { result ≤ 1 }
+{
+    match (side, first) {
+        (Side::White, Side::White) | (Side::Black, Side::Black) => 0,
+        (Side::White, Side::Black) | (Side::Black, Side::White) => 1,
+    }
+}
