@@ -1,29 +1,28 @@
 -- The rule of the start, by the side that moves first.
-use Rattle.std.proofs.Common.{◌≡◌, ◌≢◌, ℕ, zero, suc, Result, refl, subst}
+use Rattle.std.proofs.Common.{◌≡◌, ◌≢◌, ℕ, zero, suc, Result, refl, sym, ap, ◌∙◌, subst}
+use Rattle.game_rules.specs.Game.{Position}
 use Rattle.game_rules.specs.declared.men.Side.{Side}
-use Rattle.game_rules.specs.declared.men.Side.TheVariants.{White, Black}
 use Rattle.mask_sets.specs.Stock.{mask_of}
 use Rattle.mask_sets.specs.Tuple.{tuple_of}
 use Rattle.set_plan.specs.declared.stop.PlanError.{PlanError}
 use Rattle.mate_plan.specs.Claim.{Claim, claimed_level}
 use Rattle.mate_plan.specs.Plan.{Level, Program}
 use Rattle.mate_plan.specs.PlanOf.{rules_of}
+use Rattle.mate_plan.specs.Turns.{waits}
 use Rattle.mate_plan.specs.declared.names.PartName.{PartName}
 use Rattle.claim_plan.specs.CheckPlan.{Finding, check_first, check_move, check_moving, check_waiting}
 use Rattle.claim_check.specs.Finds.{Finds}
 
 module _ (c : Claim) where
-  pub first_moving : (winner first : Side) → first ≡ winner → check_first c winner first ≡ check_moving c c.moves
-  first_moving White White e = refl
-  first_moving Black Black e = refl
-  first_moving White Black e = absurd (cc)
-  first_moving Black White e = absurd (cc)
+  -- how long the winner waits for his turn, as it was asked
+  pub waits_is : {p : Position} {w s : Side} {plies : ℕ} → p ≡ c.position → w ≡ c.winner → s ≡ p.turn → plies ≡ waits w s → waits c.winner c.position.turn ≡ plies
+  waits_is {w} {s} at winner turn is =
+      let there : s ≡ c.position.turn = turn ∙ ap (λ (q : Position). q.turn) at in
+      sym (is ∙ (ap (λ (side : Side). waits side s) winner ∙ ap (waits c.winner) there))
 
-  pub first_waiting : (winner first : Side) → first ≢ winner → check_first c winner first ≡ check_waiting c
-  first_waiting White White e = absurd (e refl)
-  first_waiting Black Black e = absurd (e refl)
-  first_waiting White Black e = refl
-  first_waiting Black White e = refl
+  pub first_waiting : (plies : ℕ) → plies ≢ 0 → check_first c plies ≡ check_waiting c
+  first_waiting zero some = absurd (some refl)
+  first_waiting (suc plies) some = refl
 
   module _ (budget : ℕ) where
     pub moving_finds : (moves : ℕ) (r : Result Finding (PlanError PartName)) → moves ≢ 0 → c.position.turn ≡ c.winner

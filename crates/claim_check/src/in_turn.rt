@@ -2,6 +2,7 @@
 ghost use Rattle.std.specs.Prelude.{◌≡◌, ℕ, All, List};
 ghost use Rattle.auto_core.specs.Automaton.{Automaton};
 ghost use Rattle.set_plan.specs.Sets.{Grows};
+ghost use Rattle.mate_plan.specs.Bench.{IsLater};
 ghost use Rattle.mate_plan.specs.Plan.{Program};
 ghost use Rattle.claim_plan.specs.CheckPlan as plan;
 ghost use Rattle.claim_check.specs.Finds.{FindsBy};
@@ -16,7 +17,7 @@ pub(crate) trait Checks {
     /// The program of an item, over the sets of a table.
     ghost program: { Self → List Automaton → ℕ → Program plan.Finding };
 
-    /// What is checked is ready, and its names are those of sets of the table.
+    /// What is checked can be, and its names are those of sets of the table.
     ghost fits: { Self → List Automaton → Type 0 };
 
     /// An item that can be checked.
@@ -27,8 +28,7 @@ pub(crate) trait Checks {
         requires fits { fits self.now work.old.sets }
         requires item { takes self.now item }
         ensures finds { FindsBy work.old (program self.now work.old.sets item) result }
-        ensures grows { Grows work.old.sets work.new.sets }
-        ensures budget { work.new.memo.budget ≡ work.old.memo.budget }
+        ensures later { IsLater work.old work.new }
         ensures fits { fits self.now work.new.sets }
         ensures same { program self.now work.new.sets ≡ program self.now work.old.sets };
 }
@@ -77,8 +77,7 @@ pub(crate) fn first_failing<C: Checks>(checks: &C, work: &mut Work, items: &[u8]
     requires fits { C.fits checks.now work.old.sets }
     requires items { All (C.takes checks.now) items.now }
     ensures finds { FindsBy work.old (plan.for_each items.now (C.program checks.now work.old.sets)) result }
-    ensures grows { Grows work.old.sets work.new.sets }
-    ensures budget { work.new.memo.budget ≡ work.old.memo.budget }
+    ensures later { IsLater work.old work.new }
 {
     each(&InTurn { checks }, work, items, None)
 }

@@ -5,6 +5,7 @@ ghost use Rattle.mate_plan.specs.Claim.{losers_plies as plies_of};
 
 use chess_game::Side;
 use limits::MOST_MOVES;
+use mate_plan::waits;
 use std::alloc::{AllocError, Global};
 
 /// Every second ply from a first one on, so many of them.
@@ -47,14 +48,8 @@ pub(crate) fn losers_plies(winner: Side, first: Side, moves: u8) -> Plies
     ensures plies { plies_in result ≡ plies_of winner first moves }
     ensures few { AreFew result }
 {
-    match (winner, first) {
-        (Side::White, Side::White) | (Side::Black, Side::Black) => Plies {
-            first: 1,
-            count: moves,
-        },
-        (Side::White, Side::Black) | (Side::Black, Side::White) => Plies {
-            first: 0,
-            count: moves + 1,
-        },
+    Plies {
+        first: waits(winner.other(), first),
+        count: moves + waits(winner, first),
     }
 }

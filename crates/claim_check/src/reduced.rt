@@ -1,12 +1,13 @@
-//! The sets of a claim as it is read from a file, reduced and ply by ply.
-ghost use Rattle.std.specs.Prelude.{◌≡◌, ◌++◌, ◌∷◌, [], IfOk, OnOk, map};
+//! A claim as it is read from a file, with its sets reduced and ply by ply.
+ghost use Rattle.std.specs.Prelude.{◌≡◌, ◌≤◌, ◌++◌, ◌∷◌, [], IfOk, OnOk, map, option_copied};
 ghost use Rattle.std.specs.List.{AllZip};
+ghost use Rattle.mate_plan.specs.Claim.{claimed_at};
 ghost use Rattle.claim_plan.specs.SameClaims.{IsSameClaim};
 ghost use Rattle.strategy_file.specs.ClaimedAutos.{automaton_in};
 ghost use Rattle.strategy_file.specs.Claims.{claim_of, set_of};
 ghost use Rattle.strategy_file.specs.Fitting.{HasFileOf};
 ghost use Rattle.strategy_file.specs.StrategyFile.{places_with};
-ghost use Rattle.winning_sets.specs.Claimed.{sets_from};
+ghost use Rattle.winning_sets.specs.Claimed.{IsWonClaim, sets_from, solution_of};
 ghost use Rattle.claim_check.specs.Plies.{AreFew, plies_in};
 ghost use Rattle.claim_check.specs.Ready.{IsReady, claim_in};
 ghost use Rattle.claim_check.specs.Reduced.{AreReduced, IsReducedOf};
@@ -14,10 +15,102 @@ ghost use Rattle.claim_check.specs.Reduced.{AreReduced, IsReducedOf};
 use crate::plies::{Plies, losers_plies};
 use auto_core::Auto;
 use auto_reduce::reduce;
+use chess_game::Side;
+use limits::MOST_MOVES;
+use mate_plan::Bench;
 use rule_formula::masks;
 use std::alloc::{AllocError, Global};
+use std::marker::Model;
 use strategy_file::{Claim, ClaimedSet};
-use winning_sets::{ClaimedSets, PlySets};
+use winning_sets::{ClaimedSets, PlySets, Solved, set_at};
+
+/// A claim with its sets reduced, ready for its plan to be gone through.
+#[derive(Drop)]
+pub(crate) struct ReducedClaim {
+    alloc: Global,
+    claimed: ClaimedSets,
+}
+
+impl Model for ReducedClaim {
+    ghost use Rattle.winning_sets.specs.declared.claimed.ClaimedSets.{ClaimedSets};
+    ghost use Rattle.claim_check.specs.Ready.{IsReady};
+
+    ghost Value = { ClaimedSets };
+
+    ghost view = { λ c. c.claimed };
+
+    ghost invariant = { λ c. IsReady c.claimed };
+}
+
+impl ReducedClaim {
+    /// Reduces the sets of a claim.
+    pub(crate) fn new(alloc: Global, claim: Claim) -> Result<ReducedClaim, AllocError>
+        requires file { HasFileOf (claim_of claim) }
+        ensures same { IfOk result (λ reduced. IsSameClaim (claim_of claim) (claim_in reduced)) }
+        ensures ready { IfOk result IsReady }
+    {
+        let all = masks(alloc, &claim.position)?;
+        let losers = losers_plies(claim.winner, claim.position.turn(), claim.moves);
+        let plies = reduced_plies(alloc, claim.sets, all.as_slice(), losers)?;
+        Ok(ReducedClaim {
+            alloc,
+            claimed: ClaimedSets {
+                position: claim.position,
+                winner: claim.winner,
+                moves: claim.moves,
+                masks: all,
+                plies,
+            },
+        })
+    }
+
+    /// The bench of its position.
+    pub(crate) fn bench(&self) -> Bench<'_>
+        ensures position { result.position.now ≡ self.now.position }
+        ensures ready { IsReady self.now }
+    {
+        Bench {
+            alloc: self.alloc,
+            position: &self.claimed.position,
+            masks: self.claimed.masks.as_slice(),
+        }
+    }
+
+    /// The side that is to mate.
+    pub(crate) fn winner(&self) -> Side
+        ensures { result ≡ self.now.winner }
+    {
+        self.claimed.winner
+    }
+
+    /// How many moves the winner has.
+    pub(crate) fn moves(&self) -> u8
+        ensures moves { result ≡ self.now.moves }
+        ensures few { result ≤ MOST_MOVES }
+    {
+        self.claimed.moves
+    }
+
+    /// The set that is claimed at a ply for a mask.
+    pub(crate) fn set(&self, ply: u8, mask: u8) -> Option<&Auto>
+        ensures { option_copied result ≡ claimed_at (claim_in self.now) ply mask }
+    {
+        set_at(
+            self.claimed.masks.as_slice(),
+            self.claimed.plies.as_slice(),
+            ply,
+            mask,
+        )
+    }
+
+    /// The solved position of its sets, where the claim is won. It takes no memory.
+    pub(crate) fn into_solved(self) -> Solved
+        requires { IsWonClaim (solution_of self) }
+        ensures { result ≡ solution_of self }
+    {
+        Solved::from_sets(self.alloc, self.claimed)
+    }
+}
 
 /// A set, reduced. The table that was read is let go.
 fn reduced_set(alloc: Global, claimed: ClaimedSet) -> Result<Auto, AllocError>
@@ -70,22 +163,4 @@ fn reduced_plies(
         left = later;
     }
     Ok(plies)
-}
-
-/// The sets of a claim, reduced.
-pub(crate) fn reduced_claim(alloc: Global, claim: Claim) -> Result<ClaimedSets, AllocError>
-    requires file { HasFileOf (claim_of claim) }
-    ensures same { IfOk result (λ sets. IsSameClaim (claim_of claim) (claim_in sets)) }
-    ensures ready { IfOk result IsReady }
-{
-    let all = masks(alloc, &claim.position)?;
-    let losers = losers_plies(claim.winner, claim.position.turn(), claim.moves);
-    let plies = reduced_plies(alloc, claim.sets, all.as_slice(), losers)?;
-    Ok(ClaimedSets {
-        position: claim.position,
-        winner: claim.winner,
-        moves: claim.moves,
-        masks: all,
-        plies,
-    })
 }

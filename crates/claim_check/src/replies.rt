@@ -2,23 +2,22 @@
 //! he has one.
 ghost use Rattle.std.specs.Prelude.{◌≡◌, ◌≤◌, All, IfOk};
 ghost use Rattle.rule_formula.specs.Fits.{IsGameMask};
-ghost use Rattle.set_plan.specs.Sets.{Grows};
+ghost use Rattle.mate_plan.specs.Bench.{IsLater};
 ghost use Rattle.claim_plan.specs.CheckPlan as plan;
 ghost use Rattle.claim_check.specs.Finds.{AnswersBy, FindsBy};
 ghost use Rattle.claim_check.specs.Programs.{check_all_left_in, check_all_stale_in, check_left_in, check_stale_in, reach_in, reached_in};
-ghost use Rattle.claim_check.specs.Ready.{AreSigned, IsReady, claim_in};
+ghost use Rattle.claim_check.specs.Ready.{AreSigned, claim_in};
 ghost use Rattle.claim_check.specs.Replies.{AreReplies};
 
 use crate::claimed::claimed_level;
 use crate::in_turn::{Checks, first_failing};
+use crate::reduced::ReducedClaim;
 use crate::rules::{Found, judged_by, rule_at};
 use claim_plan::Rule;
 use mate_plan::{
-    Bench, LevelNames, MovesInto, PartName, Reaching, Stage, Work, are_answered, have_replies,
-    reach_level,
+    LevelNames, MovesInto, PartName, Reaching, Stage, Work, are_answered, have_replies, reach_level,
 };
 use set_plan::PlanError;
-use winning_sets::ClaimedSets;
 
 /// The replies at a ply of the loser.
 #[derive(Drop)]
@@ -34,28 +33,25 @@ struct Replies {
 
 /// The replies at a ply, which has a next one.
 fn replies_at(
-    bench: &Bench,
+    claim: &ReducedClaim,
     work: &mut Work,
-    claimed: &ClaimedSets,
     ply: u8,
 ) -> Result<Replies, PlanError<PartName>>
-    requires of { bench.now.position.now ≡ claimed.now.position }
-    requires ready { IsReady claimed.now }
-    requires signed { AreSigned (claim_in claimed.now) }
+    requires signed { AreSigned (claim_in claim.now) }
     requires ply { ply ≤ 41 }
-    ensures reached { AnswersBy work.old (reach_in claimed.now ply) (reached_in claimed.now work.new.sets) result }
-    ensures replies { IfOk result (λ r. AreReplies claimed.now ply work.new.sets r) }
-    ensures grows { Grows work.old.sets work.new.sets }
-    ensures budget { work.new.memo.budget ≡ work.old.memo.budget }
+    ensures reached { AnswersBy work.old (reach_in claim.now ply) (reached_in claim.now work.new.sets) result }
+    ensures replies { IfOk result (λ r. AreReplies claim.now ply work.new.sets r) }
+    ensures later { IsLater work.old work.new }
 {
-    let here = claimed_level(bench, work, claimed, ply)?;
+    let bench = claim.bench();
+    let here = claimed_level(claim, work, ply)?;
     let from = Reaching {
-        side: claimed.winner.other(),
+        side: claim.winner().other(),
         ply: ply + 1,
         level: &here,
     };
-    let reached = reach_level(bench, work, &from)?;
-    let later = claimed_level(bench, work, claimed, ply + 2)?;
+    let reached = reach_level(&bench, work, &from)?;
+    let later = claimed_level(claim, work, ply + 2)?;
     Ok(Replies {
         ply,
         claimed: here,
@@ -65,24 +61,16 @@ fn replies_at(
 }
 
 /// Whether each position with the mask that is reached has an answer.
-fn check_left(
-    bench: &Bench,
-    work: &mut Work,
-    claimed: &ClaimedSets,
-    replies: &Replies,
-    mask: u8,
-) -> Found
-    requires of { bench.now.position.now ≡ claimed.now.position }
-    requires ready { IsReady claimed.now }
-    requires replies { AreReplies claimed.now replies.now.ply work.old.sets replies.now }
-    ensures finds { FindsBy work.old (check_left_in claimed.now work.old.sets replies.now mask) result }
-    ensures grows { Grows work.old.sets work.new.sets }
-    ensures budget { work.new.memo.budget ≡ work.old.memo.budget }
+fn check_left(claim: &ReducedClaim, work: &mut Work, replies: &Replies, mask: u8) -> Found
+    requires { AreReplies claim.now replies.now.ply work.old.sets replies.now }
+    ensures finds { FindsBy work.old (check_left_in claim.now work.old.sets replies.now mask) result }
+    ensures later { IsLater work.old work.new }
 {
+    let bench = claim.bench();
     let ply = replies.ply + 1;
     let moves = MovesInto {
         stage: Stage {
-            side: claimed.winner,
+            side: claim.winner(),
             ply,
             mask,
         },
@@ -91,29 +79,21 @@ fn check_left(
     };
     judged_by(
         rule_at(ply, mask, Rule::Left),
-        are_answered(bench, work, &moves),
+        are_answered(&bench, work, &moves),
     )
 }
 
 /// Whether the loser is in check or has a reply in each claimed position with the mask.
-fn check_stale(
-    bench: &Bench,
-    work: &mut Work,
-    claimed: &ClaimedSets,
-    replies: &Replies,
-    mask: u8,
-) -> Found
-    requires of { bench.now.position.now ≡ claimed.now.position }
-    requires ready { IsReady claimed.now }
-    requires mask { IsGameMask claimed.now.position mask }
-    requires replies { AreReplies claimed.now replies.now.ply work.old.sets replies.now }
-    ensures finds { FindsBy work.old (check_stale_in claimed.now work.old.sets replies.now mask) result }
-    ensures grows { Grows work.old.sets work.new.sets }
-    ensures budget { work.new.memo.budget ≡ work.old.memo.budget }
+fn check_stale(claim: &ReducedClaim, work: &mut Work, replies: &Replies, mask: u8) -> Found
+    requires mask { IsGameMask claim.now.position mask }
+    requires replies { AreReplies claim.now replies.now.ply work.old.sets replies.now }
+    ensures finds { FindsBy work.old (check_stale_in claim.now work.old.sets replies.now mask) result }
+    ensures later { IsLater work.old work.new }
 {
+    let bench = claim.bench();
     let moves = MovesInto {
         stage: Stage {
-            side: claimed.winner.other(),
+            side: claim.winner().other(),
             ply: replies.ply,
             mask,
         },
@@ -122,108 +102,82 @@ fn check_stale(
     };
     judged_by(
         rule_at(replies.ply, mask, Rule::Stale),
-        have_replies(bench, work, &moves),
+        have_replies(&bench, work, &moves),
     )
 }
 
 /// Whether what is reached has answers, mask by mask.
 #[derive(Clone, Copy)]
 struct AnswersByMask<'a> {
-    bench: &'a Bench<'a>,
-    claimed: &'a ClaimedSets,
+    claim: &'a ReducedClaim,
     replies: &'a Replies,
 }
 
 impl Checks for AnswersByMask<'_> {
-    ghost program = { λ s sets mask. check_left_in s.claimed.now sets s.replies.now mask };
+    ghost program = { λ s sets mask. check_left_in s.claim.now sets s.replies.now mask };
 
-    ghost fits = { λ s sets. IsReady s.claimed.now × (s.bench.now.position.now ≡ s.claimed.now.position)
-        × AreReplies s.claimed.now s.replies.now.ply sets s.replies.now };
+    ghost fits = { λ s sets. AreReplies s.claim.now s.replies.now.ply sets s.replies.now };
 
-    ghost takes = { λ s mask. IsGameMask s.claimed.now.position mask };
+    ghost takes = { λ s mask. IsGameMask s.claim.now.position mask };
 
     fn check(&self, work: &mut Work, mask: u8) -> Found {
-        check_left(self.bench, work, self.claimed, self.replies, mask)
+        check_left(self.claim, work, self.replies, mask)
     }
 }
 
 /// Whether the loser is in check or has a reply, mask by mask.
 #[derive(Clone, Copy)]
 struct StalematesByMask<'a> {
-    bench: &'a Bench<'a>,
-    claimed: &'a ClaimedSets,
+    claim: &'a ReducedClaim,
     replies: &'a Replies,
 }
 
 impl Checks for StalematesByMask<'_> {
-    ghost program = { λ s sets mask. check_stale_in s.claimed.now sets s.replies.now mask };
+    ghost program = { λ s sets mask. check_stale_in s.claim.now sets s.replies.now mask };
 
-    ghost fits = { λ s sets. IsReady s.claimed.now × (s.bench.now.position.now ≡ s.claimed.now.position)
-        × AreReplies s.claimed.now s.replies.now.ply sets s.replies.now };
+    ghost fits = { λ s sets. AreReplies s.claim.now s.replies.now.ply sets s.replies.now };
 
-    ghost takes = { λ s mask. IsGameMask s.claimed.now.position mask };
+    ghost takes = { λ s mask. IsGameMask s.claim.now.position mask };
 
     fn check(&self, work: &mut Work, mask: u8) -> Found {
-        check_stale(self.bench, work, self.claimed, self.replies, mask)
+        check_stale(self.claim, work, self.replies, mask)
     }
 }
 
 /// Whether each position that is reached has an answer, mask by mask.
-fn check_all_left(bench: &Bench, work: &mut Work, claimed: &ClaimedSets, replies: &Replies) -> Found
-    requires of { bench.now.position.now ≡ claimed.now.position }
-    requires ready { IsReady claimed.now }
-    requires replies { AreReplies claimed.now replies.now.ply work.old.sets replies.now }
-    ensures finds { FindsBy work.old (check_all_left_in claimed.now work.old.sets replies.now) result }
-    ensures grows { Grows work.old.sets work.new.sets }
-    ensures budget { work.new.memo.budget ≡ work.old.memo.budget }
+fn check_all_left(claim: &ReducedClaim, work: &mut Work, replies: &Replies) -> Found
+    requires { AreReplies claim.now replies.now.ply work.old.sets replies.now }
+    ensures finds { FindsBy work.old (check_all_left_in claim.now work.old.sets replies.now) result }
+    ensures later { IsLater work.old work.new }
 {
-    let masks = AnswersByMask {
-        bench,
-        claimed,
-        replies,
-    };
-    first_failing(&masks, work, claimed.masks.as_slice())
+    let bench = claim.bench();
+    first_failing(&AnswersByMask { claim, replies }, work, bench.masks)
 }
 
 /// Whether the loser is in check or has a reply in each claimed position, mask by mask.
-fn check_all_stale(
-    bench: &Bench,
-    work: &mut Work,
-    claimed: &ClaimedSets,
-    replies: &Replies,
-) -> Found
-    requires of { bench.now.position.now ≡ claimed.now.position }
-    requires ready { IsReady claimed.now }
-    requires replies { AreReplies claimed.now replies.now.ply work.old.sets replies.now }
-    ensures finds { FindsBy work.old (check_all_stale_in claimed.now work.old.sets replies.now) result }
-    ensures grows { Grows work.old.sets work.new.sets }
-    ensures budget { work.new.memo.budget ≡ work.old.memo.budget }
+fn check_all_stale(claim: &ReducedClaim, work: &mut Work, replies: &Replies) -> Found
+    requires { AreReplies claim.now replies.now.ply work.old.sets replies.now }
+    ensures finds { FindsBy work.old (check_all_stale_in claim.now work.old.sets replies.now) result }
+    ensures later { IsLater work.old work.new }
 {
-    let masks = StalematesByMask {
-        bench,
-        claimed,
-        replies,
-    };
-    first_failing(&masks, work, claimed.masks.as_slice())
+    let bench = claim.bench();
+    first_failing(&StalematesByMask { claim, replies }, work, bench.masks)
 }
 
 /// The rules of the replies at a ply. Its sets are let go after it.
-fn check_ply(bench: &Bench, work: &mut Work, claimed: &ClaimedSets, ply: u8) -> Found
-    requires of { bench.now.position.now ≡ claimed.now.position }
-    requires ready { IsReady claimed.now }
-    requires signed { AreSigned (claim_in claimed.now) }
+fn check_ply(claim: &ReducedClaim, work: &mut Work, ply: u8) -> Found
+    requires signed { AreSigned (claim_in claim.now) }
     requires ply { ply ≤ 41 }
-    ensures finds { FindsBy work.old (plan.check_ply (claim_in claimed.now) ply) result }
-    ensures grows { Grows work.old.sets work.new.sets }
-    ensures budget { work.new.memo.budget ≡ work.old.memo.budget }
+    ensures finds { FindsBy work.old (plan.check_ply (claim_in claim.now) ply) result }
+    ensures later { IsLater work.old work.new }
 {
     let count = work.sets.count();
-    let replies = replies_at(bench, work, claimed, ply)?;
-    let left = check_all_left(bench, work, claimed, &replies)?;
+    let replies = replies_at(claim, work, ply)?;
+    let left = check_all_left(claim, work, &replies)?;
     if left.is_some() {
         return Ok(left);
     }
-    let stale = check_all_stale(bench, work, claimed, &replies)?;
+    let stale = check_all_stale(claim, work, &replies)?;
     work.sets.truncate(count);
     Ok(stale)
 }
@@ -231,36 +185,27 @@ fn check_ply(bench: &Bench, work: &mut Work, claimed: &ClaimedSets, ply: u8) -> 
 /// The rules of the replies, ply by ply.
 #[derive(Clone, Copy)]
 struct RepliesByPly<'a> {
-    bench: &'a Bench<'a>,
-    claimed: &'a ClaimedSets,
+    claim: &'a ReducedClaim,
 }
 
 impl Checks for RepliesByPly<'_> {
-    ghost program = { λ s _ ply. plan.check_ply (claim_in s.claimed.now) ply };
+    ghost program = { λ s _ ply. plan.check_ply (claim_in s.claim.now) ply };
 
-    ghost fits = { λ s _. IsReady s.claimed.now × (s.bench.now.position.now ≡ s.claimed.now.position)
-        × AreSigned (claim_in s.claimed.now) };
+    ghost fits = { λ s _. AreSigned (claim_in s.claim.now) };
 
     ghost takes = { λ _ ply. ply ≤ 41 };
 
     fn check(&self, work: &mut Work, ply: u8) -> Found {
-        check_ply(self.bench, work, self.claimed, ply)
+        check_ply(self.claim, work, ply)
     }
 }
 
 /// The rules of the replies at all plies of the loser.
-pub(crate) fn check_replies(
-    bench: &Bench,
-    work: &mut Work,
-    claimed: &ClaimedSets,
-    plies: &[u8],
-) -> Found
-    requires of { bench.now.position.now ≡ claimed.now.position }
-    requires ready { IsReady claimed.now }
-    requires signed { AreSigned (claim_in claimed.now) }
+pub(crate) fn check_replies(claim: &ReducedClaim, work: &mut Work, plies: &[u8]) -> Found
+    requires signed { AreSigned (claim_in claim.now) }
     requires low { All (λ ply. ply ≤ 41) plies.now }
-    ensures finds { FindsBy work.old (plan.for_each plies.now (plan.check_ply (claim_in claimed.now))) result }
+    ensures finds { FindsBy work.old (plan.for_each plies.now (plan.check_ply (claim_in claim.now))) result }
     ensures budget { work.new.memo.budget ≡ work.old.memo.budget }
 {
-    first_failing(&RepliesByPly { bench, claimed }, work, plies)
+    first_failing(&RepliesByPly { claim }, work, plies)
 }

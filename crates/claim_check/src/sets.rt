@@ -3,23 +3,23 @@
 ghost use Rattle.std.specs.Prelude.{◌≡◌, ℕ, All, IsSome, None, Ok, Some};
 ghost use Rattle.auto_core.specs.Integers.{DecidesIntegers};
 ghost use Rattle.rule_formula.specs.Fits.{IsGameMask};
-ghost use Rattle.set_plan.specs.Sets.{Grows};
+ghost use Rattle.mate_plan.specs.Bench.{IsLater};
 ghost use Rattle.mate_plan.specs.Claim.{claimed_at, losers_plies};
 ghost use Rattle.mate_plan.specs.Levels.{AreNamesIn};
 ghost use Rattle.claim_plan.specs.CheckPlan as plan;
 ghost use Rattle.claim_check.specs.Finds.{Finds, FindsBy};
 ghost use Rattle.claim_check.specs.Programs.{check_guard_in, check_same_in};
-ghost use Rattle.claim_check.specs.Ready.{AreThere, IsReady, claim_in};
+ghost use Rattle.claim_check.specs.Ready.{AreThere, claim_in};
 
-use crate::claimed::{claimed_set, lone_level};
+use crate::claimed::lone_level;
 use crate::in_turn::{Checks, first_failing};
+use crate::reduced::ReducedClaim;
 use crate::rules::{Found, judged, judged_by, rule_at};
 use auto_core::Auto;
 use auto_reduce::sign_stable;
 use claim_plan::Rule;
-use mate_plan::{Bench, Stage, StageLevel, Work, are_apart, are_safe};
+use mate_plan::{Stage, StageLevel, Work, are_apart, are_safe};
 use std::alloc::Global;
-use winning_sets::ClaimedSets;
 
 /// Whether a claimed set is one of tuples of integers.
 fn check_sign(alloc: Global, ply: u8, mask: u8, set: &Auto) -> Found
@@ -31,44 +31,40 @@ fn check_sign(alloc: Global, ply: u8, mask: u8, set: &Auto) -> Found
 }
 
 /// Whether the live men stand apart in the set of the stage.
-fn check_same(bench: &Bench, work: &mut Work, claimed: &ClaimedSets, at: &StageLevel) -> Found
-    requires of { bench.now.position.now ≡ claimed.now.position }
-    requires ready { IsReady claimed.now }
-    requires mask { IsGameMask claimed.now.position at.now.stage.mask }
-    requires level { AreNamesIn claimed.now.position work.old.sets at.now.level.now }
-    ensures finds { FindsBy work.old (check_same_in claimed.now work.old.sets at.now) result }
+fn check_same(claim: &ReducedClaim, work: &mut Work, at: &StageLevel) -> Found
+    requires mask { IsGameMask claim.now.position at.now.stage.mask }
+    requires level { AreNamesIn claim.now.position work.old.sets at.now.level.now }
+    ensures finds { FindsBy work.old (check_same_in claim.now work.old.sets at.now) result }
     ensures sets { work.new.sets ≡ work.old.sets }
     ensures budget { work.new.memo.budget ≡ work.old.memo.budget }
 {
+    let bench = claim.bench();
     let rule = rule_at(at.stage.ply, at.stage.mask, Rule::Same);
-    judged_by(rule, are_apart(bench, work, at))
+    judged_by(rule, are_apart(&bench, work, at))
 }
 
 /// Whether no man of the side of the stage bears on the other king in its set.
-fn check_guard(bench: &Bench, work: &mut Work, claimed: &ClaimedSets, at: &StageLevel) -> Found
-    requires of { bench.now.position.now ≡ claimed.now.position }
-    requires ready { IsReady claimed.now }
-    requires mask { IsGameMask claimed.now.position at.now.stage.mask }
-    requires level { AreNamesIn claimed.now.position work.old.sets at.now.level.now }
-    ensures finds { FindsBy work.old (check_guard_in claimed.now work.old.sets at.now) result }
+fn check_guard(claim: &ReducedClaim, work: &mut Work, at: &StageLevel) -> Found
+    requires mask { IsGameMask claim.now.position at.now.stage.mask }
+    requires level { AreNamesIn claim.now.position work.old.sets at.now.level.now }
+    ensures finds { FindsBy work.old (check_guard_in claim.now work.old.sets at.now) result }
     ensures sets { work.new.sets ≡ work.old.sets }
     ensures budget { work.new.memo.budget ≡ work.old.memo.budget }
 {
+    let bench = claim.bench();
     let rule = rule_at(at.stage.ply, at.stage.mask, Rule::Guard);
-    judged_by(rule, are_safe(bench, work, at))
+    judged_by(rule, are_safe(&bench, work, at))
 }
 
 /// The rules of the set that is claimed at a ply for a mask. It is named only after its rule of signs is kept, since a
 /// named set is one of tuples of integers.
-fn check_set(bench: &Bench, work: &mut Work, claimed: &ClaimedSets, ply: u8, mask: u8) -> Found
-    requires of { bench.now.position.now ≡ claimed.now.position }
-    requires ready { IsReady claimed.now }
-    requires there { IsSome (claimed_at (claim_in claimed.now) ply mask) }
-    ensures finds { FindsBy work.old (plan.check_set (claim_in claimed.now) ply mask) result }
-    ensures grows { Grows work.old.sets work.new.sets }
-    ensures budget { work.new.memo.budget ≡ work.old.memo.budget }
+fn check_set(claim: &ReducedClaim, work: &mut Work, ply: u8, mask: u8) -> Found
+    requires { IsSome (claimed_at (claim_in claim.now) ply mask) }
+    ensures finds { FindsBy work.old (plan.check_set (claim_in claim.now) ply mask) result }
+    ensures later { IsLater work.old work.new }
 {
-    let Some(set) = claimed_set(claimed, ply, mask) else {
+    let bench = claim.bench();
+    let Some(set) = claim.set(ply, mask) else {
         unreachable!();
     };
     let sign = check_sign(bench.alloc, ply, mask, set)?;
@@ -76,9 +72,9 @@ fn check_set(bench: &Bench, work: &mut Work, claimed: &ClaimedSets, ply: u8, mas
         return Ok(sign);
     }
     let count = work.sets.count();
-    let level = lone_level(bench, work, claimed, mask, set)?;
+    let level = lone_level(claim, work, mask, set)?;
     let stage = Stage {
-        side: claimed.winner.other(),
+        side: claim.winner().other(),
         ply,
         mask,
     };
@@ -86,11 +82,11 @@ fn check_set(bench: &Bench, work: &mut Work, claimed: &ClaimedSets, ply: u8, mas
         stage,
         level: &level,
     };
-    let same = check_same(bench, work, claimed, &at)?;
+    let same = check_same(claim, work, &at)?;
     if same.is_some() {
         return Ok(same);
     }
-    let guard = check_guard(bench, work, claimed, &at)?;
+    let guard = check_guard(claim, work, &at)?;
     work.sets.truncate(count);
     Ok(guard)
 }
@@ -98,71 +94,56 @@ fn check_set(bench: &Bench, work: &mut Work, claimed: &ClaimedSets, ply: u8, mas
 /// The rules of the sets of a ply, mask by mask.
 #[derive(Clone, Copy)]
 struct SetsByMask<'a> {
-    bench: &'a Bench<'a>,
-    claimed: &'a ClaimedSets,
+    claim: &'a ReducedClaim,
     ply: u8,
 }
 
 impl Checks for SetsByMask<'_> {
-    ghost program = { λ s _ mask. plan.check_set (claim_in s.claimed.now) s.ply mask };
+    ghost program = { λ s _ mask. plan.check_set (claim_in s.claim.now) s.ply mask };
 
-    ghost fits = { λ s _. IsReady s.claimed.now × (s.bench.now.position.now ≡ s.claimed.now.position) };
+    ghost fits = { λ _ _. Unit {0} };
 
-    ghost takes = { λ s mask. IsSome (claimed_at (claim_in s.claimed.now) s.ply mask) };
+    ghost takes = { λ s mask. IsSome (claimed_at (claim_in s.claim.now) s.ply mask) };
 
     fn check(&self, work: &mut Work, mask: u8) -> Found {
-        check_set(self.bench, work, self.claimed, self.ply, mask)
+        check_set(self.claim, work, self.ply, mask)
     }
 }
 
 /// The rules of the sets of a ply.
-fn check_sets_at(bench: &Bench, work: &mut Work, claimed: &ClaimedSets, ply: u8) -> Found
-    requires of { bench.now.position.now ≡ claimed.now.position }
-    requires ready { IsReady claimed.now }
-    requires there { AreThere (claim_in claimed.now) ply }
-    ensures finds { FindsBy work.old (plan.check_sets (claim_in claimed.now) ply) result }
-    ensures grows { Grows work.old.sets work.new.sets }
-    ensures budget { work.new.memo.budget ≡ work.old.memo.budget }
+fn check_sets_at(claim: &ReducedClaim, work: &mut Work, ply: u8) -> Found
+    requires { AreThere (claim_in claim.now) ply }
+    ensures finds { FindsBy work.old (plan.check_sets (claim_in claim.now) ply) result }
+    ensures later { IsLater work.old work.new }
 {
-    let masks = SetsByMask {
-        bench,
-        claimed,
-        ply,
-    };
-    first_failing(&masks, work, claimed.masks.as_slice())
+    let bench = claim.bench();
+    first_failing(&SetsByMask { claim, ply }, work, bench.masks)
 }
 
 /// The rules of the sets, ply by ply.
 #[derive(Clone, Copy)]
 struct SetsByPly<'a> {
-    bench: &'a Bench<'a>,
-    claimed: &'a ClaimedSets,
+    claim: &'a ReducedClaim,
 }
 
 impl Checks for SetsByPly<'_> {
-    ghost program = { λ s _ ply. plan.check_sets (claim_in s.claimed.now) ply };
+    ghost program = { λ s _ ply. plan.check_sets (claim_in s.claim.now) ply };
 
-    ghost fits = { λ s _. IsReady s.claimed.now × (s.bench.now.position.now ≡ s.claimed.now.position) };
+    ghost fits = { λ _ _. Unit {0} };
 
-    ghost takes = { λ s ply. AreThere (claim_in s.claimed.now) ply };
+    ghost takes = { λ s ply. AreThere (claim_in s.claim.now) ply };
 
     fn check(&self, work: &mut Work, ply: u8) -> Found {
-        check_sets_at(self.bench, work, self.claimed, ply)
+        check_sets_at(self.claim, work, ply)
     }
 }
 
 /// The rules of the sets of all plies of the loser.
-pub(crate) fn check_sets(
-    bench: &Bench,
-    work: &mut Work,
-    claimed: &ClaimedSets,
-    plies: &[u8],
-) -> Found
-    requires of { bench.now.position.now ≡ claimed.now.position }
-    requires ready { IsReady claimed.now }
-    requires plies { plies.now ≡ losers_plies claimed.now.winner claimed.now.position.turn claimed.now.moves }
-    ensures finds { FindsBy work.old (plan.for_each plies.now (plan.check_sets (claim_in claimed.now))) result }
+pub(crate) fn check_sets(claim: &ReducedClaim, work: &mut Work, plies: &[u8]) -> Found
+    requires { plies.now ≡ losers_plies claim.now.winner claim.now.position.turn claim.now.moves }
+    ensures finds { FindsBy work.old (plan.for_each plies.now (plan.check_sets (claim_in claim.now))) result }
     ensures budget { work.new.memo.budget ≡ work.old.memo.budget }
 {
-    first_failing(&SetsByPly { bench, claimed }, work, plies)
+    let _bench = claim.bench(); // for its invariant
+    first_failing(&SetsByPly { claim }, work, plies)
 }

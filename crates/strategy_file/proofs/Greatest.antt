@@ -10,7 +10,7 @@ use Rattle.strategy_file.specs.declared.version.Version.{Version}
 use Rattle.strategy_file.specs.declared.version.Version.TheVariants.{Dense, Shared}
 use Rattle.strategy_file.specs.Fitting.{FitsVersion}
 use Rattle.strategy_file.specs.Versions.{most_kind, most_men, most_turn}
-use Rattle.strategy_file.specs.Written.{kind_byte, turn_byte}
+use Rattle.strategy_file.specs.Numbers.{kind_byte, turn_byte}
 
 pub few_men : (version : Version) (n : ℕ) → n ≤ most_men version → n ≤ most_men Shared
 few_men Dense n h = omega (arith, h)

@@ -4,14 +4,15 @@ use Rattle.std.specs.Prelude.{Contains}
 use Rattle.std.specs.List.{flat_map}
 use Rattle.std.proofs.lemmas.List.Concat.{flat_map-cons}
 use Rattle.std.proofs.lemmas.List.Elements.{Contains-append_cases, Contains-append_left, Contains-append_right}
-use Rattle.game_rules.specs.Game.{Position}
+use Rattle.game_rules.specs.Game.{Position, other}
 use Rattle.game_rules.specs.declared.men.Side.{Side}
-use Rattle.game_rules.specs.declared.men.Side.TheVariants.{White, Black}
 use Rattle.rule_formula.specs.Fits.{IsGameMask, masks_of}
 use Rattle.rule_formula.proofs.MasksTheorem.{masks_are}
 use Rattle.set_plan.proofs.Takings.{contains_cases, contains_head, contains_none, contains_rest}
 use Rattle.mate_plan.specs.PlanOf.{last_ply}
 use Rattle.mate_plan.specs.Claim.{IsLosersPly, every_second, losers_plies}
+use Rattle.mate_plan.specs.Turns.{waits}
+use Rattle.mate_plan.proofs.TurnLemmas.{waits_sum}
 use Rattle.claim_plan.proofs.PlaceLemmas.{plies-have}
 use Rattle.strategy_file.specs.StrategyFile.{places_of}
 
@@ -29,25 +30,14 @@ every_second-of start (suc count) ply h =
           (suc there.0, omega (arith, below), omega (arith, is))
     ]
 
-odd_left : (moves ply : ℕ) → Contains (every_second 1 moves) ply → (left : ℕ) × (ply + (2 * left + 1) ≡ 2 * moves)
-odd_left moves ply h =
-    let there = every_second-of 1 moves ply h in
-    let below = there.1 in
-    let is = there.2 in
-    (moves - there.0 - 1, omega (arith, below, is))
-
-even_left : (moves ply : ℕ) → Contains (every_second 0 (suc moves)) ply → (left : ℕ) × (ply + (2 * left + 1) ≡ 2 * moves + 1)
-even_left moves ply h =
-    let there = every_second-of 0 (suc moves) ply h in
-    let below = there.1 in
-    let is = there.2 in
-    (moves - there.0, omega (arith, below, is))
-
 left_at : (winner s : Side) (moves ply : ℕ) → Contains (losers_plies winner s moves) ply → (left : ℕ) × (ply + (2 * left + 1) ≡ last_ply winner s moves)
-left_at White White moves ply h = odd_left moves ply h
-left_at Black Black moves ply h = odd_left moves ply h
-left_at White Black moves ply h = even_left moves ply h
-left_at Black White moves ply h = even_left moves ply h
+left_at winner s moves ply h =
+    let count = moves + waits winner s in
+    let there = every_second-of (waits (other winner) s) count ply h in
+    let below = there.1 in
+    let is = there.2 in
+    let one = waits_sum winner s in
+    (count - there.0 - 1, omega (arith, below, is, one))
 
 -- the plies that are listed are those of the loser
 pub losers_plies-are : (winner : Side) (p : Position) (moves ply : ℕ) → Contains (losers_plies winner p.turn moves) ply ↔ IsLosersPly winner p moves ply

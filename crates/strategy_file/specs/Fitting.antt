@@ -12,7 +12,7 @@ use Rattle.strategy_file.specs.declared.version.Version.{Version}
 use Rattle.strategy_file.specs.declared.version.Version.TheVariants as versions
 use Rattle.strategy_file.specs.Versions.{most_turn, most_men, most_kind}
 use Rattle.strategy_file.specs.StrategyFile.{places_of}
-use Rattle.strategy_file.specs.Written.{turn_byte, kind_byte}
+use Rattle.strategy_file.specs.Numbers.{turn_byte, kind_byte}
 
 -- an automaton over the tracks of the mask's men, with no more states than a file may have for a set
 pub record IsFormed (p : Position) (s : ClaimedSet) : Type 0 where

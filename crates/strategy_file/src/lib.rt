@@ -1,7 +1,6 @@
-//! The bytes of a strategy file: what a claim is written as, and exactly which bytes are read as a claim.
+//! The bytes of a strategy file: exactly which bytes are read as a claim.
 //!
-//! `specs/Layout` says how bytes are read field by field, `specs/StrategyFile` has the fields of a file in order, and
-//! `specs/SolvedFile` says which claim is written for a solved position.
+//! `specs/Layout` says how bytes are read field by field, and `specs/StrategyFile` has the fields of a file in order.
 #![tactic(auto)]
 
 mod charts;
@@ -9,13 +8,11 @@ mod claim;
 mod claimed;
 mod dense;
 mod fields;
-mod kept;
-mod kept_claim;
 pub mod laws;
 mod men;
 mod nodes;
 mod numbers;
-mod places;
+mod place_list;
 mod reading;
 mod refusal;
 mod rows;
@@ -23,14 +20,13 @@ mod shared;
 mod start;
 mod tables;
 mod version;
-mod writing;
-mod writing_shared;
 
 pub use claim::{Claim, ClaimedSet};
 pub use claimed::ClaimedAuto;
 pub use dense::DenseAuto;
+pub use numbers::{kind_number, side_number, turn_number};
+pub use place_list::places;
 pub use reading::read_file;
 pub use refusal::{ByteWhy, FileError};
 pub use shared::SharedAuto;
 pub use version::Version;
-pub use writing::{WriteFileError, write_claim, write_file, write_file_1};

@@ -2,7 +2,7 @@
 
 ghost use Rattle.std.specs.Prelude.{◌≡◌};
 ghost use Rattle.strategy_file.specs.Men.{kind_of as kind_at, side_of as side_at, turn_of as turn_at, winner_of as winner_at};
-ghost use Rattle.strategy_file.specs.Written.{kind_byte, side_byte, turn_byte};
+ghost use Rattle.strategy_file.specs.Numbers.{kind_byte, side_byte, turn_byte};
 
 use chess_game::{Kind, Side};
 
@@ -15,7 +15,8 @@ pub(crate) fn side_of(number: u8) -> Side
     }
 }
 
-pub(crate) fn side_number(side: Side) -> u8
+/// The number for the side of a man.
+pub fn side_number(side: Side) -> u8
     ensures { result ≡ side_byte side }
 {
     match side {
@@ -45,7 +46,7 @@ pub(crate) fn winner_of(number: u8) -> Side
 }
 
 /// The number for a winner and a side to move.
-pub(crate) fn turn_number(winner: Side, turn: Side) -> u8
+pub fn turn_number(winner: Side, turn: Side) -> u8
     ensures { result ≡ turn_byte winner turn }
 {
     match (winner, turn) {
@@ -73,7 +74,8 @@ pub(crate) fn kind_of(number: u8) -> Kind
     }
 }
 
-pub(crate) fn kind_number(kind: Kind) -> u8
+/// The number for the kind of a man.
+pub fn kind_number(kind: Kind) -> u8
     ensures { result ≡ kind_byte kind }
 {
     match kind {

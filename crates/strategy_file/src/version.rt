@@ -3,7 +3,7 @@
 ghost use Rattle.std.specs.Prelude.{◌≡◌, ◌≤◌, ◌↔◌, IsTrue};
 ghost use Rattle.std.specs.List.{All};
 ghost use Rattle.strategy_file.specs.Fitting.{FitsVersion};
-ghost use Rattle.strategy_file.specs.Written.{kind_byte};
+ghost use Rattle.strategy_file.specs.Numbers.{kind_byte};
 ghost use Rattle.strategy_file.specs.Versions.{most_kind, most_men, most_turn, version_byte, version_of};
 
 use crate::numbers::{kind_number, turn_number};
@@ -55,7 +55,7 @@ impl Version {
     }
 
     /// The number that stands for it in a file.
-    pub(crate) fn byte(self) -> u8
+    pub fn byte(self) -> u8
         ensures { result ≡ version_byte self }
     {
         match self {

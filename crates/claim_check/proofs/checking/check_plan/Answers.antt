@@ -1,55 +1,54 @@
-use Rattle.std.proofs.Common.{ℕ, ◌≤◌, List, None, refl, sym, ap, ◌∙◌, subst}
+use Rattle.std.proofs.Common.{ℕ, ◌≤◌, List, None, refl, sym, ◌∙◌, subst}
 use Rattle.std.proofs.lemmas.List.Elements.{All-same}
 use Rattle.std.proofs.lemmas.Result.{err_from_is_err_and}
-use Rattle.game_rules.specs.declared.men.Side.{Side}
 use Rattle.set_plan.specs.Outcome.{Ends}
-use Rattle.mate_plan.specs.Claim.{losers_plies}
+use Rattle.mate_plan.specs.Turns.{waits}
 use Rattle.claim_plan.specs.CheckPlan.{and_then, check_first, check_plan, check_ply, check_sets, for_each}
 use Rattle.claim_check.specs.Ready.{claim_in}
 use Rattle.claim_check.proofs.FindLemmas.{found_in, left_after, left_finds, none_found, stopped_in}
-use Rattle.claim_check.proofs.PlanParts.{plan_leads}
+use Rattle.claim_check.proofs.PlanParts.{plan_leads, plies_are}
 use Rattle.claim_check.proofs.SignedSets.{signed_sets}
 use Rattle.claim_check.proofs.checking.check_plan.Goals as goal
 
-pub check_sets-requires-clause-plies : goal.check_sets-requires-clause-plies
-check_sets-requires-clause-plies c =
-    let At_turn : Side → List ℕ = λ s. losers_plies c.args.claimed.now.winner s c.args.claimed.now.moves in
-    c.as_slice-plies.ensures.value ∙ (c.in_ok-list.ensures.list ∙ (c.losers_plies-losers.ensures.plies ∙ ap At_turn c.turn.ensures))
+pub check_sets-requires : goal.check_sets-requires
+check_sets-requires c =
+    plies_are (claim_in c.args.claim.now) c.bench-bench.ensures.position c.winner.ensures c.turn.ensures c.moves.ensures.moves
+    (c.as_slice-plies.ensures.value ∙ (c.in_ok-list.ensures.list ∙ c.losers_plies-losers.ensures.plies))
 
-pub check_first-requires-clause-signed : goal.check_first-requires-clause-signed
-check_first-requires-clause-signed c =
-    let At_turn : Side → List ℕ = λ s. losers_plies c.args.claimed.now.winner s c.args.claimed.now.moves in
+pub check_first-requires : goal.check_first-requires
+check_first-requires c =
     let plies = c.as_slice-plies.result.now in
-    let are = c.as_slice-plies.ensures.value ∙ (c.in_ok-list.ensures.list ∙ (c.losers_plies-losers.ensures.plies ∙ ap At_turn c.turn.ensures)) in
-    let d = claim_in c.args.claimed.now in
+    let are = plies_are (claim_in c.args.claim.now) c.bench-bench.ensures.position c.winner.ensures c.turn.ensures c.moves.ensures.moves
+    (c.as_slice-plies.ensures.value ∙ (c.in_ok-list.ensures.list ∙ c.losers_plies-losers.ensures.plies)) in
+    let d = claim_in c.args.claim.now in
     let budget = c.args.work.now.memo.budget in
     let sets = for_each plies (check_sets d) in
     let At : List ℕ → Type 0 = λ l. Ends (for_each l (check_sets d)) budget None in
-    signed_sets d c.requires.ready.claim (subst At are (none_found budget refl (sym c.is_some.ensures ∙ c.if-is_some.false) c.in_ok-sets.ensures.finds))
+    signed_sets d c.bench-bench.ensures.ready.claim (subst At are (none_found budget refl (sym c.is_some.ensures ∙ c.if-is_some.false) c.in_ok-sets.ensures.finds))
 
 pub check_replies-requires-clause-signed : goal.check_replies-requires-clause-signed
 check_replies-requires-clause-signed c =
-    let At_turn : Side → List ℕ = λ s. losers_plies c.args.claimed.now.winner s c.args.claimed.now.moves in
     let plies = c.as_slice-plies.result.now in
-    let are = c.as_slice-plies.ensures.value ∙ (c.in_ok-list.ensures.list ∙ (c.losers_plies-losers.ensures.plies ∙ ap At_turn c.turn.ensures)) in
-    let d = claim_in c.args.claimed.now in
+    let are = plies_are (claim_in c.args.claim.now) c.bench-bench.ensures.position c.winner.ensures c.turn.ensures c.moves.ensures.moves
+    (c.as_slice-plies.ensures.value ∙ (c.in_ok-list.ensures.list ∙ c.losers_plies-losers.ensures.plies)) in
+    let d = claim_in c.args.claim.now in
     let budget = c.args.work.now.memo.budget in
     let sets = for_each plies (check_sets d) in
     let At : List ℕ → Type 0 = λ l. Ends (for_each l (check_sets d)) budget None in
-    signed_sets d c.requires.ready.claim (subst At are (none_found budget refl (sym c.is_some.ensures ∙ c.if-is_some.false) c.in_ok-sets.ensures.finds))
+    signed_sets d c.bench-bench.ensures.ready.claim (subst At are (none_found budget refl (sym c.is_some.ensures ∙ c.if-is_some.false) c.in_ok-sets.ensures.finds))
 
 pub check_replies-requires-clause-low : goal.check_replies-requires-clause-low
 check_replies-requires-clause-low c = All-same (λ ply. ply ≤ 41) c.as_slice-plies.result.now c.in_ok-list.list.items c.as_slice-plies.ensures.value c.in_ok-list.ensures.low
 
 pub returns-in_err-sets : goal.returns-in_err-sets
 returns-in_err-sets c =
-    let At_turn : Side → List ℕ = λ s. losers_plies c.args.claimed.now.winner s c.args.claimed.now.moves in
     let plies = c.as_slice-plies.result.now in
-    let are = c.as_slice-plies.ensures.value ∙ (c.in_ok-list.ensures.list ∙ (c.losers_plies-losers.ensures.plies ∙ ap At_turn c.turn.ensures)) in
-    let d = claim_in c.args.claimed.now in
+    let are = plies_are (claim_in c.args.claim.now) c.bench-bench.ensures.position c.winner.ensures c.turn.ensures c.moves.ensures.moves
+    (c.as_slice-plies.ensures.value ∙ (c.in_ok-list.ensures.list ∙ c.losers_plies-losers.ensures.plies)) in
+    let d = claim_in c.args.claim.now in
     let budget = c.args.work.now.memo.budget in
     let sets = for_each plies (check_sets d) in
-    let first = check_first d d.winner d.position.turn in
+    let first = check_first d (waits d.winner d.position.turn) in
     let replies = for_each plies (check_ply d) in
     let leads = plan_leads d budget plies are in
     let e = err_from_is_err_and c.from_residual-in_err-sets.result c.from_residual-in_err-sets.ensures.1 in
@@ -57,26 +56,26 @@ returns-in_err-sets c =
 
 pub returns-then-is_some : goal.returns-then-is_some
 returns-then-is_some c =
-    let At_turn : Side → List ℕ = λ s. losers_plies c.args.claimed.now.winner s c.args.claimed.now.moves in
     let plies = c.as_slice-plies.result.now in
-    let are = c.as_slice-plies.ensures.value ∙ (c.in_ok-list.ensures.list ∙ (c.losers_plies-losers.ensures.plies ∙ ap At_turn c.turn.ensures)) in
-    let d = claim_in c.args.claimed.now in
+    let are = plies_are (claim_in c.args.claim.now) c.bench-bench.ensures.position c.winner.ensures c.turn.ensures c.moves.ensures.moves
+    (c.as_slice-plies.ensures.value ∙ (c.in_ok-list.ensures.list ∙ c.losers_plies-losers.ensures.plies)) in
+    let d = claim_in c.args.claim.now in
     let budget = c.args.work.now.memo.budget in
     let sets = for_each plies (check_sets d) in
-    let first = check_first d d.winner d.position.turn in
+    let first = check_first d (waits d.winner d.position.turn) in
     let replies = for_each plies (check_ply d) in
     let leads = plan_leads d budget plies are in
     found_in sets (and_then first replies) (check_plan d) budget budget refl leads c.in_ok-sets.sets (sym c.is_some.ensures ∙ c.if-is_some.true) c.in_ok-sets.ensures.finds
 
 pub returns-in_err-first : goal.returns-in_err-first
 returns-in_err-first c =
-    let At_turn : Side → List ℕ = λ s. losers_plies c.args.claimed.now.winner s c.args.claimed.now.moves in
     let plies = c.as_slice-plies.result.now in
-    let are = c.as_slice-plies.ensures.value ∙ (c.in_ok-list.ensures.list ∙ (c.losers_plies-losers.ensures.plies ∙ ap At_turn c.turn.ensures)) in
-    let d = claim_in c.args.claimed.now in
+    let are = plies_are (claim_in c.args.claim.now) c.bench-bench.ensures.position c.winner.ensures c.turn.ensures c.moves.ensures.moves
+    (c.as_slice-plies.ensures.value ∙ (c.in_ok-list.ensures.list ∙ c.losers_plies-losers.ensures.plies)) in
+    let d = claim_in c.args.claim.now in
     let budget = c.args.work.now.memo.budget in
     let sets = for_each plies (check_sets d) in
-    let first = check_first d d.winner d.position.turn in
+    let first = check_first d (waits d.winner d.position.turn) in
     let replies = for_each plies (check_ply d) in
     let leads = plan_leads d budget plies are in
     let after_sets = left_after sets (and_then first replies) (check_plan d) budget budget refl leads c.in_ok-sets.sets (sym c.is_some.ensures ∙ c.if-is_some.false) c.in_ok-sets.ensures.finds in
@@ -85,13 +84,13 @@ returns-in_err-first c =
 
 pub returns-then-is_some-2 : goal.returns-then-is_some-2
 returns-then-is_some-2 c =
-    let At_turn : Side → List ℕ = λ s. losers_plies c.args.claimed.now.winner s c.args.claimed.now.moves in
     let plies = c.as_slice-plies.result.now in
-    let are = c.as_slice-plies.ensures.value ∙ (c.in_ok-list.ensures.list ∙ (c.losers_plies-losers.ensures.plies ∙ ap At_turn c.turn.ensures)) in
-    let d = claim_in c.args.claimed.now in
+    let are = plies_are (claim_in c.args.claim.now) c.bench-bench.ensures.position c.winner.ensures c.turn.ensures c.moves.ensures.moves
+    (c.as_slice-plies.ensures.value ∙ (c.in_ok-list.ensures.list ∙ c.losers_plies-losers.ensures.plies)) in
+    let d = claim_in c.args.claim.now in
     let budget = c.args.work.now.memo.budget in
     let sets = for_each plies (check_sets d) in
-    let first = check_first d d.winner d.position.turn in
+    let first = check_first d (waits d.winner d.position.turn) in
     let replies = for_each plies (check_ply d) in
     let leads = plan_leads d budget plies are in
     let after_sets = left_after sets (and_then first replies) (check_plan d) budget budget refl leads c.in_ok-sets.sets (sym c.is_some.ensures ∙ c.if-is_some.false) c.in_ok-sets.ensures.finds in
@@ -100,13 +99,13 @@ returns-then-is_some-2 c =
 
 pub returns : goal.returns
 returns c =
-    let At_turn : Side → List ℕ = λ s. losers_plies c.args.claimed.now.winner s c.args.claimed.now.moves in
     let plies = c.as_slice-plies.result.now in
-    let are = c.as_slice-plies.ensures.value ∙ (c.in_ok-list.ensures.list ∙ (c.losers_plies-losers.ensures.plies ∙ ap At_turn c.turn.ensures)) in
-    let d = claim_in c.args.claimed.now in
+    let are = plies_are (claim_in c.args.claim.now) c.bench-bench.ensures.position c.winner.ensures c.turn.ensures c.moves.ensures.moves
+    (c.as_slice-plies.ensures.value ∙ (c.in_ok-list.ensures.list ∙ c.losers_plies-losers.ensures.plies)) in
+    let d = claim_in c.args.claim.now in
     let budget = c.args.work.now.memo.budget in
     let sets = for_each plies (check_sets d) in
-    let first = check_first d d.winner d.position.turn in
+    let first = check_first d (waits d.winner d.position.turn) in
     let replies = for_each plies (check_ply d) in
     let leads = plan_leads d budget plies are in
     let after_sets = left_after sets (and_then first replies) (check_plan d) budget budget refl leads c.in_ok-sets.sets (sym c.is_some.ensures ∙ c.if-is_some.false) c.in_ok-sets.ensures.finds in

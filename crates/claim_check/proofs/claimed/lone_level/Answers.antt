@@ -12,16 +12,16 @@ use Rattle.claim_check.proofs.claimed.lone_level.Goals as goal
 pub one_level-requires : goal.one_level-requires
 one_level-requires c =
     let At : Position → Type 0 = λ p. IsGameMask p c.args.mask in
-    record { mask = subst At (sym c.requires.of) c.requires.mask }
+    record { mask = subst At (sym c.bench-bench.ensures.position) c.requires.mask }
 
 pub returns-clause-names : goal.returns-clause-names
 returns-clause-names c =
-    let on = subst (IsSetOn (mask_tracks c.args.claimed.now.position c.args.mask)) (sym c.in_ok-copy.ensures) c.requires.set in
+    let on = subst (IsSetOn (mask_tracks c.args.claim.now.position c.args.mask)) (sym c.in_ok-copy.ensures) c.requires.set in
     let On : Position → Type 0 = λ p. IsSetOn (mask_tracks p c.args.mask) c.in_ok-copy.field-0 in
     IfOk-weaker c.one_level.result _ _
     (λ names are.
     let At : Position → Type 0 = λ p. AreNamesIn p c.put.new.self names in
-    subst At c.requires.of (are c.put.new.self (c.in_ok-copy.field-0, c.in_ok-name.ensures.ok, subst On (sym c.requires.of) on)))
+    subst At c.bench-bench.ensures.position (are c.put.new.self (c.in_ok-copy.field-0, c.in_ok-name.ensures.ok, subst On (sym c.bench-bench.ensures.position) on)))
     c.one_level.ensures.names
 
 pub returns-clause-set : goal.returns-clause-set
@@ -29,6 +29,6 @@ returns-clause-set c =
     IfOk-weaker c.one_level.result _ _
     (λ names is.
     let At : Position → Type 0 = λ p. level_in p c.put.new.self names c.args.mask ≡ Table c.args.set.now in
-    subst At c.requires.of
-    (lone_set c.args.bench.now.position.now c.args.mask c.args.set.now c.in_ok-name.name c.put.new.self names (is c.put.new.self) (c.in_ok-name.ensures.ok ∙ ap Some c.in_ok-copy.ensures)))
+    subst At c.bench-bench.ensures.position
+    (lone_set c.bench-bench.result.position.now c.args.mask c.args.set.now c.in_ok-name.name c.put.new.self names (is c.put.new.self) (c.in_ok-name.ensures.ok ∙ ap Some c.in_ok-copy.ensures)))
     c.one_level.ensures.level

@@ -1,16 +1,31 @@
-use Rattle.std.proofs.Common.{rules, Ok, ◌≡◌, sym, subst}
-use Rattle.std.specs.Prelude.{IsTrue}
-use Rattle.claim_plan.specs.CheckPlan.{Finding}
+use Rattle.std.proofs.Common.{ℕ, sym, ◌∙◌, subst}
+use Rattle.set_plan.specs.Outcome.{Ends}
 use Rattle.mate_plan.specs.Plan.{Program}
-use Rattle.claim_check.specs.Ready.{claim_in}
+use Rattle.mate_plan.proofs.TurnLemmas.{moves_first}
+use Rattle.claim_plan.specs.CheckPlan.{Finding, check_first}
 use Rattle.claim_check.specs.Finds.{Finds}
-use Rattle.claim_check.proofs.FirstParts.{first_waiting}
+use Rattle.claim_check.specs.Ready.{claim_in}
+use Rattle.claim_check.proofs.FirstParts.{first_waiting, waits_is}
 use Rattle.claim_check.proofs.first.check_first.Goals as goal
 
-pub returns-else-eq-clause-finds : goal.returns-else-eq-clause-finds
-returns-else-eq-clause-finds c =
-    let d = claim_in c.args.claimed.now in
-    let equal : (IsTrue c.eq.result → d.position.turn ≡ d.winner) × (d.position.turn ≡ d.winner → IsTrue c.eq.result) = search rules in
-    let not_same : d.position.turn ≡ d.winner → ⊥ = λ e. (let yes' = equal.1 e in let no' = c.if-eq.false in absurd (cc)) in
-    let Of : Program Finding → Type 0 = λ m. Finds m c.args.work.now.memo.budget (Ok c.check_waiting.result) in
-    subst Of (sym (first_waiting d d.winner d.position.turn not_same)) (c.check_waiting.ensures c.args.work.now.memo.budget)
+pub check_moving-requires-clause-turn : goal.check_moving-requires-clause-turn
+check_moving-requires-clause-turn c =
+    let d = claim_in c.args.claim.now in
+    let is = waits_is d c.bench-bench.ensures.position c.winner.ensures c.turn.ensures c.waits.ensures.plies in
+    moves_first d.winner d.position.turn (is ∙ c.if-waits-eq0.true)
+
+pub returns-then-waits-eq0-clause-finds : goal.returns-then-waits-eq0-clause-finds
+returns-then-waits-eq0-clause-finds c =
+    let d = claim_in c.args.claim.now in
+    let is = waits_is d c.bench-bench.ensures.position c.winner.ensures c.turn.ensures c.waits.ensures.plies in
+    let After : ℕ → Type 0 = λ n. Finds (check_first d n) c.args.work.now.memo.budget c.check_moving.result in
+    subst After (sym (is ∙ c.if-waits-eq0.true)) c.check_moving.ensures.finds
+
+pub returns-else-waits-eq0-clause-finds : goal.returns-else-waits-eq0-clause-finds
+returns-else-waits-eq0-clause-finds c =
+    let d = claim_in c.args.claim.now in
+    let is = waits_is d c.bench-bench.ensures.position c.winner.ensures c.turn.ensures c.waits.ensures.plies in
+    let budget = c.args.work.now.memo.budget in
+    let After : ℕ → Type 0 = λ n. Ends (check_first d n) budget c.check_waiting.result in
+    let Of : Program Finding → Type 0 = λ m. Ends m budget c.check_waiting.result in
+    subst After (sym is) (subst Of (sym (first_waiting d c.waits.result c.if-waits-eq0.false)) (c.check_waiting.ensures budget))

@@ -13,8 +13,8 @@ use Rattle.claim_check.proofs.first.check_waiting.Goals as goal
 
 pub returns : goal.returns
 returns c =
-    let p = c.args.claimed.now.position in
-    let s = claimed_level (claim_in c.args.claimed.now) 0 (mask_of p) in
+    let p = c.args.claim.now.position in
+    let s = claimed_level (claim_in c.args.claim.now) 0 (mask_of p) in
     rw (c.judged.ensures, c.first_rule.ensures)
     (λ budget. holds_by-ends budget (rule_at 0 (mask_of p) rule.First) (Ask (Has s (tuple_of p)) (Give true) (Give false)) c.is_claimed.result
     (asked_ends budget (Has s (tuple_of p)) (Member s (tuple_of p)) c.is_claimed.result c.is_claimed.ensures (λ h. h) (λ h. h)))

@@ -7,11 +7,8 @@ use Rattle.claim_check.specs.Ready.{claim_in}
 use Rattle.claim_check.proofs.ClaimedLevels.{given_ends}
 use Rattle.claim_check.proofs.claimed.ClaimedPlyMaskSets.name.Goals as goal
 
-pub claimed_name-requires-clause-ready : goal.claimed_name-requires-clause-ready
-claimed_name-requires-clause-ready c = c.requires.fits.0
-
-pub claimed_name-requires-clause-signed : goal.claimed_name-requires-clause-signed
-claimed_name-requires-clause-signed c = c.requires.fits.1
+pub claimed_name-requires : goal.claimed_name-requires
+claimed_name-requires c = c.requires.fits.0
 
 pub returns-in_err-claimed_name-clause-answers : goal.returns-in_err-claimed_name-clause-answers
 returns-in_err-claimed_name-clause-answers c =
@@ -20,10 +17,10 @@ returns-in_err-claimed_name-clause-answers c =
 
 pub returns-clause-answers : goal.returns-clause-answers
 returns-clause-answers c =
-    given_ends (claim_in c.args.self.now.claimed.now) c.args.self.now.ply c.args.work.now.memo.budget c.args.mask
+    given_ends (claim_in c.args.self.now.claim.now) c.args.self.now.ply c.args.work.now.memo.budget c.args.mask
     (set_at c.claimed_name.new.work.sets c.in_ok-claimed_name.field-0) c.in_ok-claimed_name.ensures.set
 
 pub returns-clause-name : goal.returns-clause-name
 returns-clause-name c =
     let On : Position → Type 0 = λ p. IsNameOn (mask_tracks p c.args.mask) c.claimed_name.new.work.sets c.in_ok-claimed_name.field-0 in
-    subst On (sym c.requires.fits.2) c.in_ok-claimed_name.ensures.name
+    subst On (sym c.requires.fits.1) c.in_ok-claimed_name.ensures.name

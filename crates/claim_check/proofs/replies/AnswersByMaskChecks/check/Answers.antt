@@ -10,17 +10,11 @@ use Rattle.claim_check.proofs.ReplyParts.{replies_grow}
 use Rattle.claim_check.proofs.replies.AnswersByMaskChecks.check.Goals as goal
 
 pub returns-clause-fits : goal.returns-clause-fits
-returns-clause-fits c =
-    let s = c.args.self.now.claimed.now in
-    let r = c.args.self.now.replies.now in (
-      c.requires.fits.0,
-      c.requires.fits.1,
-      replies_grow c.check_left.new.work.sets c.check_left.ensures.grows c.requires.fits.2,
-    )
+returns-clause-fits c = replies_grow c.check_left.new.work.sets c.check_left.ensures.later.grows c.requires.fits
 
 pub returns-clause-same : goal.returns-clause-same
 returns-clause-same c =
-    let s = c.args.self.now.claimed.now in
+    let s = c.args.self.now.claim.now in
     let r = c.args.self.now.replies.now in
     let Of : Level → ℕ → Program Finding = λ l mask. check_left (rules_of s.position) s.winner (suc r.ply) l (claimed_level (claim_in s) (r.ply + 2)) mask in
-    ap Of (level-grows s.position.men c.args.work.now.sets c.check_left.new.work.sets (masks_of s.position) r.reached c.check_left.ensures.grows c.requires.fits.2.reached)
+    ap Of (level-grows s.position.men c.args.work.now.sets c.check_left.new.work.sets (masks_of s.position) r.reached c.check_left.ensures.later.grows c.requires.fits.reached)

@@ -1,0 +1,15 @@
+pub mod RangeLemmas
+pub mod Lengths
+pub mod SharedLengths
+pub mod Again
+pub mod ListedTables
+pub mod SharedAgain
+pub mod WrittenLemmas
+pub mod AlikeFiles
+pub mod SetCounts
+pub mod KeptClaims
+pub mod SharedWriting
+pub mod SolvedFiles
+pub mod Narrows
+pub mod WrittenClaims
+pub mod KeptFiles

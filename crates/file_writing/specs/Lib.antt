@@ -1,0 +1,9 @@
+pub mod KeptClaims
+pub mod Written
+pub mod SharedWritten
+pub mod Files
+pub mod ReducedClaims
+pub mod WriteRefusal
+pub mod SolvedFile
+pub mod KeptFile
+pub mod Laws

@@ -1,5 +1,0 @@
-use Rattle.strategy_file.proofs.KeptFiles as lemmas
-use Rattle.strategy_file.proofs.laws.kept_file_is_claim.Goals as goal
-
-pub returns : goal.returns
-returns c = lemmas.kept_file_is_claim
