@@ -1,8 +1,8 @@
 //! The masks that there may be after a move.
-ghost use Rattle.std.specs.Prelude.{◌≡◌, ◌≤◌, ◌++◌, ◌∷◌, [], if◌then◌else◌, IfOk, OnOk, length, not};
+ghost use Rattle.std.specs.Prelude.{◌≡◌, ◌≤◌, ◌++◌, ◌∷◌, [], if◌then◌else◌, IfOk, OnOk, length};
 ghost use Rattle.mask_sets.specs.Stock.{mask_of};
 ghost use Rattle.rule_formula.specs.Fits.{mask_without};
-ghost use Rattle.rule_formula.specs.Options.{is_king as king_of, is_prey as prey_of, is_side};
+ghost use Rattle.rule_formula.specs.Options.{is_king as king_of, is_prey as prey_of, is_side as side_of};
 ghost use Rattle.rule_formula.specs.Placed.{IsLiveIn, is_live as live_in};
 ghost use Rattle.first_sets.specs.RayFormula.{masks_after as all_masks};
 
@@ -26,13 +26,10 @@ fn live_mask(p: &Position) -> u8
     p.mask()
 }
 
-fn is_other_side(a: Side, b: Side) -> bool
-    ensures { result ≡ not (is_side a b) }
+fn is_side(his: Side, side: Side) -> bool
+    ensures { result ≡ side_of his side }
 {
-    matches!(
-        (a, b),
-        (Side::White, Side::Black) | (Side::Black, Side::White)
-    )
+    his == side
 }
 
 fn is_king(kind: Kind) -> bool
@@ -45,11 +42,11 @@ fn is_king(kind: Kind) -> bool
 fn is_prey(p: &Position, k: u8) -> bool
     requires low { 1 ≤ k }
     requires high { k ≤ length p.now.men }
-    requires few { k ≤ 8 }
     ensures { result ≡ prey_of p.now.men (mask_of p.now) p.now.turn k }
 {
+    let _ = p.count(); // for its invariant
     let man = p.man(k);
-    is_live(live_mask(p), k) && is_other_side(man.side, p.turn()) && !is_king(man.kind)
+    is_live(live_mask(p), k) && !is_side(man.side, p.turn()) && !is_king(man.kind)
 }
 
 /// The mask of the live men without this one.
@@ -69,9 +66,9 @@ fn without(p: &Position, taken: u8) -> u8
 fn push_capture(all: &mut Vec<u8>, p: &Position, k: u8) -> Result<(), AllocError>
     requires low { 1 ≤ k }
     requires high { k ≤ length p.now.men }
-    requires few { k ≤ 8 }
     ensures { OnOk result (all.new.items ≡ (if prey_of p.now.men (mask_of p.now) p.now.turn k then all.old.items ++ mask_without (mask_of p.now) k ∷ [] else all.old.items)) }
 {
+    let _ = p.count(); // for its invariant
     if is_prey(p, k) {
         all.push(without(p, k))?;
     }

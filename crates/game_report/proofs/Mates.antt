@@ -1,61 +1,51 @@
 -- A report that ends by mate ends at a mate.
-use Rattle.std.proofs.Common.{◌≡◌, inl, inr, ℕ, ◌+◌, ◌==◌, List, Bool, true, false, Option, Some, None, sym, ap, subst, ◌∙◌}
-use Rattle.desk_base.specs.Lines.{Lines, full, ended, cut, long}
+use Rattle.std.proofs.Common.{◌≡◌, inl, inr, ℕ, [], Option, Some, None, sym, ap, subst, ◌∙◌, codes}
+use Rattle.desk_base.specs.Lines.{Lines}
 use Rattle.game_rules.specs.Game.{Mate}
 use Rattle.chess_text.specs.declared.replies.Typed.{Typed}
 use Rattle.chess_text.specs.declared.replies.Typed.TheVariants as typed
-use Rattle.game_report.specs.Laws.{last_game}
-use Rattle.game_report.specs.GameReport.{AtLine, AtLines, AtLoser, AtTyped, AtWinner, IsReport, Match, GameReport, Unless, moved, most_lines}
-use Rattle.game_report.specs.declared.play.Ending.{Ending}
-use Rattle.game_report.specs.declared.play.Ending.TheVariants.{CutAt, LongAt, Many, Mated, NoLine, Quit, Wide}
+use Rattle.line_game.specs.LineReport.{IsReport, LineReport}
+use Rattle.line_game.specs.Turns.{AtRest, Comes, OfTyped, Turn, moves_first, stopped, told}
+use Rattle.line_game.specs.declared.ending.Ending.{Ending}
+use Rattle.line_game.specs.declared.ending.Ending.TheVariants.{Mated, Quit, Wide}
+use Rattle.line_game.proofs.TurnLemmas.{over_as}
+use Rattle.line_game.proofs.Walks.{IsOfLines, first, walk}
+use Rattle.game_report.specs.WinnerRules.{Match, moved, winner_rules}
 
--- it is mate where the report ends so, unless he has moved since
-abbrev Mates : Match → GameReport → Type 0
-Mates g r = r.ending ≡ Mated → Mate (last_game g r.games).position
+-- where a turn ends the game by mate, it is mate
+abbrev EndsByMate : Turn Match → Type 0
+EndsByMate t = t.over ≡ Some Mated → Mate t.after.position
 
-other_end : (g : Match) (r : GameReport) (ending : Ending) → (ending ≡ Mated → ⊥) → r.ending ≡ ending → Mates g r
-other_end g r ending not_so is mate = absurd (not_so (sym is ∙ mate))
+rest_mates : (g : Match) (t : Turn Match) → AtRest winner_rules g t → EndsByMate t
+rest_mates g t (inl (ending, (e, turn, mate), is)) over = subst (λ (x : Match). Mate x.position) (sym (ap (λ x. x.after) is)) mate
+rest_mates g t (inr (due, is)) over = absurd (let no : None ≡ Some Mated = over_as t (told [] g) (Some Mated) is over in cc)
 
-as_later : (g : Match) (r later : GameReport) → r.ending ≡ later.ending → r.games ≡ later.games → Mates g later → Mates g r
-as_later g r later ending games h mate = subst (λ xs. Mate (last_game g xs).position) (sym games) (h (sym ending ∙ mate))
+comes_mates : (g : Match) (t : Turn Match) → Comes winner_rules g t → EndsByMate t
+comes_mates g t (inl h) over = rest_mates g t h over
+comes_mates g t (inr (his, inl (none, is))) over = absurd (let no : Some Wide ≡ Some Mated = over_as t (stopped Wide g) (Some Mated) is over in cc)
+comes_mates g t (inr (his, inr (c, q, later, pick, legal, rest, is))) over =
+    subst (λ (x : Match). Mate x.position) (sym (ap (λ x. x.after) is))
+    (rest_mates (moved g q) later rest (over_as t (moves_first winner_rules c.mv (moved g q) later) (Some Mated) is over))
 
-module _ (On : Match → GameReport → Type 0) (go : (g : Match) (r : GameReport) → On g r → Mates g r) where
-  loser_mates : (left : Lines) (g : Match) (r : GameReport) → AtLoser On left g r → Mates g r
-  loser_mates left g r (inl (mate, is)) e = subst (λ xs. Mate (last_game g xs).position) (sym (ap (λ x. x.games) is)) mate
-  loser_mates left g r (inr (none, on)) e = go g r on e
+typed_mates : (g : Match) (reply : Option Typed) (t : Turn Match) → OfTyped winner_rules g reply t → EndsByMate t
+typed_mates g None t is over = absurd (let no : None ≡ Some Mated = over_as t (told (codes "unreadable\n") g) (Some Mated) is over in cc)
+typed_mates g (Some typed.Quit) t is over = absurd (let no : Some Quit ≡ Some Mated = over_as t (stopped Quit g) (Some Mated) is over in cc)
+typed_mates g (Some (typed.Move mv)) t (inl (none, is)) over = absurd (let no : None ≡ Some Mated = over_as t (told (codes "illegal\n") g) (Some Mated) is over in cc)
+typed_mates g (Some (typed.Move mv)) t (inr (q, legal, h)) over = comes_mates (moved g q) t h over
 
-  winner_mates : (left : Lines) (g h : Match) (r : GameReport) → AtWinner On left g r → Mates h r
-  winner_mates left g h r (inl (none, is)) e = absurd (let no : Wide ≡ Mated = sym (ap (λ x. x.ending) is) ∙ e in cc)
-  winner_mates left g h r (inr (c, q, later, pick, legal, goes, is)) e =
-      subst (λ xs. Mate (last_game h xs).position) (sym (ap (λ x. x.games) is))
-      (loser_mates left (moved g q) later goes (sym (ap (λ x. x.ending) is) ∙ e))
+abbrev Mates : LineReport Match → Type 0
+Mates r = r.ending ≡ Mated → Mate r.last.position
 
-  typed_mates : (left : Lines) (g : Match) (r : GameReport) (reply : Option Typed) → AtTyped On left g r reply → Mates g r
-  typed_mates left g r None (later, on, is) = as_later g r later (ap (λ x. x.ending) is) (ap (λ x. x.games) is) (go g later on)
-  typed_mates left g r (Some typed.Quit) is = other_end g r Quit (λ e. cc) (ap (λ x. x.ending) is)
-  typed_mates left g r (Some (typed.Move mv)) (inl (later, none, on, is)) = as_later g r later (ap (λ x. x.ending) is) (ap (λ x. x.games) is) (go g later on)
-  typed_mates left g r (Some (typed.Move mv)) (inr (q, legal, goes)) = winner_mates left (moved g q) g r goes
+not_by_lines : (ending : Ending) → IsOfLines ending → ending ≡ Mated → ⊥
+not_by_lines ending of e = subst IsOfLines e of
 
-  line_mates : (line : List ℕ) (left : Lines) (g : Match) (r : GameReport) → AtLine On line left g r → Mates g r
-  line_mates line left g r (reply, is, goes) = typed_mates left g r reply goes
-
-unless : (stop : Bool) (left : Lines) (g : Match) (r : GameReport) (Else : Type 0) → (Else → Mates g r) → Unless stop left r Else → Mates g r
-unless true left g r Else each h = other_end g r Many (λ e. cc) (ap (λ x. x.ending) h)
-unless false left g r Else each h = each h
-
-lines_mate : (before read : ℕ) (lines : Lines) (g : Match) (r : GameReport) → AtLines before read lines g r → Mates g r
-lines_mate before read (full line rest) g r h =
-    unless (read == most_lines) (full line rest) g r _
-    (line_mates (AtLines before (read + 1) rest) (λ next x. lines_mate before (read + 1) rest next x) line rest g r) h
-lines_mate before read ended g r h =
-    unless (read == most_lines) ended g r _ (λ is. other_end g r NoLine (λ e. cc) (ap (λ x. x.ending) is)) h
-lines_mate before read (cut front) g r h =
-    unless (read == most_lines) (cut front) g r _ (λ is. other_end g r (CutAt (before + read + 1)) (λ e. cc) (ap (λ x. x.ending) is)) h
-lines_mate before read long g r h =
-    unless (read == most_lines) long g r _ (λ is. other_end g r (LongAt (before + read + 1)) (λ e. cc) (ap (λ x. x.ending) is)) h
-
-pub mated_mate : (before : ℕ) (lines : Lines) (g : Match) (r : GameReport) → IsReport before lines g r → r.ending ≡ Mated → Mate (last_game g r.games).position
-mated_mate before lines g r (inl (turn, goes)) e =
-    winner_mates (AtLines before 0 lines) (λ next x. lines_mate before 0 lines next x) lines g g r goes e
-mated_mate before lines g r (inr (turn, goes)) e =
-    loser_mates (AtLines before 0 lines) (λ next x. lines_mate before 0 lines next x) lines g r goes e
+pub mated_mate : (before : ℕ) (lines : Lines) (g : Match) (r : LineReport Match) → IsReport winner_rules before lines g r → r.ending ≡ Mated → Mate r.last.position
+mated_mate before lines g r h =
+    first winner_rules (λ m x. Mates x) Mates g
+    (λ t ending left comes over e. comes_mates g t comes (over ∙ ap (λ x. Some x) e))
+    (λ t later comes still mates. mates) before lines
+    (λ t later comes still at. walk winner_rules (λ m. Unit {0}) (λ m x. Mates x)
+    (λ m line u kept of on. tt)
+    (λ m ending left kept of e. absurd (not_by_lines ending of e))
+    (λ m line u ending left kept of over e. typed_mates m of.0 u of.2 (over ∙ ap (λ x. Some x) e))
+    (λ m line u x kept of on mates. mates) before 0 lines t.after later tt at) r h

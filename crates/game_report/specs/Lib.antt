@@ -1,4 +1,3 @@
 pub mod Laws
-pub mod Played
-pub mod GameReport
-pub mod Turns
+pub mod WinnerRules
+pub mod Playable

@@ -1,9 +1,8 @@
-//! A game that its winner plays by a session, and whose other side's moves come as lines of a source: what a run reports of it (`specs/GameReport`), that
-//! there is exactly one report and what the winner's moves in it come to (`laws`), and the code that plays it, line by line (`specs/Played`).
+//! The winner of a game as a player against lines, who plays by a session: `specs/WinnerRules` says by which rules, and `laws` what the winner's moves in a
+//! report come to.
 #![tactic(auto)]
 
 pub mod laws;
-mod play;
-mod turn;
+mod winner;
 
-pub use play::{Ending, GameError, play_game};
+pub use winner::Winner;

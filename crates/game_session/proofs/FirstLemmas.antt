@@ -9,13 +9,11 @@ use Rattle.auto_search.proofs.Tallies.{has-same}
 use Rattle.game_rules.specs.declared.men.Man.{Man}
 use Rattle.game_rules.specs.declared.men.Place.TheVariants.{Gone}
 use Rattle.game_rules.specs.declared.men.Side.{Side}
-use Rattle.game_rules.specs.declared.men.Side.TheVariants.{White, Black}
 use Rattle.game_rules.specs.declared.men.Square.{Square}
 use Rattle.game_rules.specs.Game.{Position, Legal, Lost, Value, man_at, other}
 use Rattle.game_rules.specs.Rays.{ray_of}
 use Rattle.game_laws.proofs.SoundLemmas.{other_other}
 use Rattle.chess_game.specs.declared.way.Frame.{Frame}
-use Rattle.mate_plan.specs.PlanOf.{last_ply}
 use Rattle.mask_sets.specs.Sets.{HaveAtMost, IsIn, Table}
 use Rattle.winning_sets.specs.Claimed.{IsHeld, IsHeldFrom, IsValid}
 use Rattle.winning_sets.specs.Kept.{Kept, moves_left}
@@ -23,6 +21,7 @@ use Rattle.winning_sets.specs.Solve.{Solution, end_of}
 use Rattle.winning_sets.specs.declared.origin.Origin.{Origin}
 use Rattle.winning_sets.specs.declared.origin.Origin.TheVariants.{Plan}
 use Rattle.winning_sets.proofs.KeptParts.{value_lost}
+use Rattle.winning_sets.proofs.WonLemmas.{last_winner}
 use Rattle.move_choice.specs.Aims.{AreNext, HasRay}
 use Rattle.move_choice.specs.Along.{IsLeastOrNone, LeadsAlong}
 use Rattle.move_choice.proofs.Bridges.{led_to}
@@ -32,17 +31,10 @@ use Rattle.game_session.specs.Game.{HasRoom}
 use Rattle.game_session.specs.declared.first_line.FirstLine.{FirstLine}
 use Rattle.game_session.proofs.Games.{are_next, held_next, kept_set, next_held, table_of}
 
--- the last ply, where the winner is to move first
-winner_end : (w t : Side) (moves : ℕ) → t ≡ w → last_ply w t moves ≡ 2 * moves
-winner_end White White moves e = refl
-winner_end Black Black moves e = refl
-winner_end White Black moves e = cc
-winner_end Black White moves e = cc
-
 -- the sets that are kept after the winner's first move, as they are lent
 module _ (s : Solution) (valid : IsValid s) (plan : s.origin ≡ Plan) (turn : s.position.turn ≡ s.winner) (moves : 1 ≤ s.moves) where
   last_is : end_of s ≡ 2 * s.moves
-  last_is = winner_end s.winner s.position.turn s.moves turn
+  last_is = last_winner s.winner s.position.turn s.moves turn
 
   left_is : moves_left (end_of s) 1 ≡ s.moves - 1
   left_is = omega (arith, last_is, moves)

@@ -5,7 +5,6 @@ use Rattle.std.proofs.lemmas.Option.{same_Some}
 use Rattle.auto_core.specs.Automaton.{Automaton}
 use Rattle.auto_core.specs.Integers.{IsAccepted}
 use Rattle.game_rules.specs.declared.men.Side.{Side}
-use Rattle.game_rules.specs.declared.men.Side.TheVariants.{White, Black}
 use Rattle.game_rules.specs.declared.men.Square.{Square}
 use Rattle.game_rules.specs.Game.{Position, InCheck, Legal, Lost, Moves, Sound, Step, Value, other}
 use Rattle.game_laws.proofs.MoveLemmas.{same_after}
@@ -18,20 +17,22 @@ use Rattle.mask_sets.specs.Tuple.{tuple_of}
 use Rattle.mask_sets.specs.Sets.{HaveAtMost, IsIn, Table, set_at}
 use Rattle.mate_plan.specs.Plan.{turn_at}
 use Rattle.mate_plan.specs.PlanOf.{last_ply}
+use Rattle.mate_plan.specs.Turns.{waits}
 use Rattle.mate_plan.specs.Won.{IsBegun, IsWonBy}
+use Rattle.mate_plan.proofs.TurnLemmas.{its_plies, moves_first, moves_later, waits_none, waits_one, waits_sum}
 use Rattle.winning_sets.specs.Claimed.{IsHeld, IsValid}
 use Rattle.winning_sets.specs.Kept.{moves_left}
 use Rattle.winning_sets.specs.Reach.{Reach}
 use Rattle.winning_sets.specs.Solve.{Solution, end_of, kept_at}
 use Rattle.winning_sets.proofs.KeptParts.{reached_sound, turn-reach}
 use Rattle.winning_sets.proofs.Places.{sets_at-ply}
-use Rattle.winning_sets.proofs.Tuples.{tuple_count, turn_by}
+use Rattle.winning_sets.proofs.Tuples.{tuple_count}
 use Rattle.winning_sets.proofs.ValidLemmas.{valid_formed, valid_moves, valid_sound}
 use Rattle.move_choice.specs.Aims.{AreNext}
 use Rattle.move_choice.specs.Choice.{Pick, target}
 use Rattle.move_choice.specs.declared.choice.Choice.{Choice}
 use Rattle.move_choice.proofs.Firsts.{own_stock, step_stock, stock_trans}
-use Rattle.game_session.specs.Game.{Game, Continues, HasRoom, IsGame, IsLostAfter, IsPicked, LostIn, Plays, Stands, WinPick, WinnerContinues, made, made_in, moved_to, one_if_same, start_of}
+use Rattle.game_session.specs.Game.{Game, Continues, HasRoom, IsGame, IsLostAfter, IsPicked, LostIn, Plays, Stands, WinPick, WinnerContinues, made, made_in, moved_to, start_of}
 use Rattle.game_session.proofs.Held.{HasHeld, Losing, has_held, held_won, losing_lost}
 
 -- the kept sets of a ply, as they are lent
@@ -117,72 +118,38 @@ module _ (s : Solution) (valid : IsValid s) (ply : ℕ) (p : Position) (reached 
     }) before;
   }
 
+-- of so many plies every second one is the winner's, from his first turn on
+made_of : (winner first : Side) (ply : ℕ) → made winner first ply ≡ (ply + waits (other winner) first) / 2
+made_of winner first zero = let one = waits_sum winner first in omega (arith, one)
+made_of winner first (suc ply) = by (made_of winner first ply) (waits winner (turn_at first ply)) refl
+  where
+    by : made winner first ply ≡ (ply + waits (other winner) first) / 2 → (n : ℕ) → waits winner (turn_at first ply) ≡ n
+        → made winner first (suc ply) ≡ (suc ply + waits (other winner) first) / 2
+    by so_far zero none =
+        let at = (its_plies winner first ply (moves_first winner (turn_at first ply) none)).1 in
+        let sum = waits_sum winner first in
+        let here = waits_sum winner (turn_at first ply) in
+        omega (arith, so_far, sum, here, none, at)
+    by so_far (suc n) some =
+        let at = (its_plies (other winner) first ply (moves_later winner (turn_at first ply) n some)).1 in
+        let sum = waits_sum winner first in
+        let here = waits_sum winner (turn_at first ply) in
+        omega (arith, so_far, sum, here, some, at)
+
 -- how many moves are made and left
-made_same : (w : Side) (ply : ℕ) → made w w ply ≡ (ply + 1) / 2
-made_same w zero = refl
-made_same w (suc ply) =
-    let so_far = made_same w ply in
-    elim (turn_by w ply) [
-      | inl (even, is) ↦ let one : one_if_same w (turn_at w ply) ≡ 1 = ap (one_if_same w) is ∙ self w in omega (arith, so_far, even, one)
-      | inr (odd, is) ↦ let none : one_if_same w (turn_at w ply) ≡ 0 = ap (one_if_same w) is ∙ not_self w in omega (arith, so_far, odd, none)
-    ]
-  where
-    self : (w : Side) → one_if_same w w ≡ 1
-    self White = refl
-    self Black = refl
-
-    not_self : (w : Side) → one_if_same w (other w) ≡ 0
-    not_self White = refl
-    not_self Black = refl
-
-made_after : (w : Side) (ply : ℕ) → made w (other w) ply ≡ ply / 2
-made_after w zero = refl
-made_after w (suc ply) =
-    let so_far = made_after w ply in
-    elim (turn_by (other w) ply) [
-      | inl (even, is) ↦ let none : one_if_same w (turn_at (other w) ply) ≡ 0 = ap (one_if_same w) is ∙ not_self w in omega (arith, so_far, even, none)
-      | inr (odd, is) ↦ let one : one_if_same w (turn_at (other w) ply) ≡ 1 = ap (one_if_same w) (is ∙ other_other w) ∙ self w in omega (arith, so_far, odd, one)
-    ]
-  where
-    self : (w : Side) → one_if_same w w ≡ 1
-    self White = refl
-    self Black = refl
-
-    not_self : (w : Side) → one_if_same w (other w) ≡ 0
-    not_self White = refl
-    not_self Black = refl
-
 pub left_made : (winner first : Side) (moves ply : ℕ) → ply ≤ last_ply winner first moves → moves_left (last_ply winner first moves) ply + made winner first ply ≡ moves
-left_made White White moves ply low = let m = made_same White ply in omega (arith, low, m)
-left_made Black Black moves ply low = let m = made_same Black ply in omega (arith, low, m)
-left_made White Black moves ply low = let m = made_after White ply in omega (arith, low, m)
-left_made Black White moves ply low = let m = made_after Black ply in omega (arith, low, m)
+left_made winner first moves ply low =
+    let m = made_of winner first ply in
+    let one = waits_sum winner first in
+    omega (arith, low, m, one)
 
 -- before the last ply, where the winner is to move, another ply comes before the last
 winners_ply : (winner first : Side) (moves ply : ℕ) → ply < last_ply winner first moves → turn_at first ply ≡ winner → suc ply < last_ply winner first moves
-winners_ply White White moves ply low is = elim (turn_by White ply) [
-  | inl (even, at) ↦ omega (arith, low, even)
-  | inr (odd, at) ↦ absurd (let no : Black ≡ White = sym at ∙ is in cc)
-]
-winners_ply Black Black moves ply low is = elim (turn_by Black ply) [
-  | inl (even, at) ↦ omega (arith, low, even)
-  | inr (odd, at) ↦ absurd (let no : White ≡ Black = sym at ∙ is in cc)
-]
-winners_ply White Black moves ply low is = elim (turn_by Black ply) [
-  | inl (even, at) ↦ absurd (let no : Black ≡ White = sym at ∙ is in cc)
-  | inr (odd, at) ↦ omega (arith, low, odd)
-]
-winners_ply Black White moves ply low is = elim (turn_by White ply) [
-  | inl (even, at) ↦ absurd (let no : White ≡ Black = sym at ∙ is in cc)
-  | inr (odd, at) ↦ omega (arith, low, odd)
-]
+winners_ply winner first moves ply low is = let at = (its_plies winner first ply is).1 in omega (arith, low, at)
 
 -- a game has few plies
 end_few : (w t : Side) (n : ℕ) → n ≤ 20 → last_ply w t n ≤ 41
-end_few White White n h = omega (arith, h)
-end_few Black Black n h = omega (arith, h)
-end_few White Black n h = omega (arith, h)
-end_few Black White n h = omega (arith, h)
+end_few w t n h = let one = waits_sum w t in omega (arith, one, h)
 
 module _ (g : Game) (game : IsGame g) where
   abbrev winner : Side
@@ -284,21 +251,14 @@ pub picked_game : {g : Game} (after : Game) (c : Choice) → IsGame g → g.posi
     → IsGame after × (after.solution ≡ g.solution) × (after.position.turn ≡ other g.solution.winner) × (made_in after ≡ made_in g + 1)
 picked_game {g} after c game turn picked =
     let kept = held_pick g game turn c picked.pick picked.legal in
-    let one : one_if_same g.solution.winner (turn_at g.solution.position.turn g.ply) ≡ 1 =
-    ap (one_if_same g.solution.winner) (sym (game_turn g game) ∙ turn) ∙ self g.solution.winner in (
+    let w = g.solution.winner in
+    let one : waits (other w) (turn_at g.solution.position.turn g.ply) ≡ 1 =
+    waits_one (other w) (turn_at g.solution.position.turn g.ply) ((sym (game_turn g game) ∙ turn) ∙ sym (other_other w)) in (
       subst IsGame (sym picked.is_after) kept,
       ap (λ h. h.solution) picked.is_after,
       picked.legal.step.after.turn ∙ ap other turn,
       ap made_in picked.is_after ∙ ap (λ k. made_in g + k) one,
     )
-  where
-    self : (w : Side) → one_if_same w w ≡ 1
-    self White = refl
-    self Black = refl
-
-one_not : (w s : Side) → s ≡ other w → one_if_same w s ≡ 0
-one_not White s e = ap (one_if_same White) e
-one_not Black s e = ap (one_if_same Black) e
 
 none_get : (games : List Game) (k : ℕ) (after : Game) → games ≡ [] → slice_get games k ≡ Some after → ⊥
 none_get [] k after e is = cc
@@ -329,7 +289,9 @@ goes_lost (mv ∷ typed) games game turn (inl (refused, goes)) k after is = goes
 goes_lost {g} (mv ∷ typed) games game turn (inr (q, legal, goes)) k after is =
     let reply : IsGame (moved_to g q) = held_reply g game turn legal in
     let his : q.turn ≡ g.solution.winner = legal.step.after.turn ∙ (ap other turn ∙ other_other g.solution.winner) in
-    let none : one_if_same g.solution.winner (turn_at g.solution.position.turn g.ply) ≡ 0 = one_not g.solution.winner (turn_at g.solution.position.turn g.ply) (sym (game_turn g game) ∙ turn) in
+    let w = g.solution.winner in
+    let none : waits (other w) (turn_at g.solution.position.turn g.ply) ≡ 0 =
+    waits_none (other w) (turn_at g.solution.position.turn g.ply) (sym (game_turn g game) ∙ turn) in
     let all = winner_lost typed games reply his goes (λ next later kept turns on i at there. goes_lost typed later kept turns on i at there) k after is in
     record { same = all.same; made = (let count = all.made in omega (arith, count, none)); lost = all.lost }
 

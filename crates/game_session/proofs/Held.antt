@@ -1,18 +1,19 @@
 -- What a session rests on, wherever its sets come from: the positions that are held where the loser is to move are of the game, they are those of
 -- the sets, and where the winner mates in time they are won.
-use Rattle.std.proofs.Common.{◌≡◌, inl, inr, ℕ, ◌+◌, ◌*◌, ◌-◌, ◌/◌, ◌≤◌, Option, sym, subst, ◌∙◌, arith}
+use Rattle.std.proofs.Common.{◌≡◌, ℕ, ◌+◌, ◌-◌, ◌≤◌, Option, sym, subst, ◌∙◌, arith}
 use Rattle.std.specs.Prelude.{IsSomeAnd}
 use Rattle.auto_core.specs.Automaton.{Automaton}
 use Rattle.auto_core.specs.Integers.{IsAccepted}
 use Rattle.game_rules.specs.declared.men.Side.{Side}
-use Rattle.game_rules.specs.declared.men.Side.TheVariants.{White, Black}
 use Rattle.game_rules.specs.Game.{Position, Lost, Value, other}
 use Rattle.mask_sets.specs.Stock.{HasStock, mask_of}
 use Rattle.mask_sets.specs.Tuple.{tuple_of}
 use Rattle.mate_plan.specs.Claim.{IsClaimed, IsLosersPly}
 use Rattle.mate_plan.specs.Plan.{turn_at}
 use Rattle.mate_plan.specs.PlanOf.{last_ply}
+use Rattle.mate_plan.specs.Turns.{waits}
 use Rattle.mate_plan.specs.Won.{IsWonBy}
+use Rattle.mate_plan.proofs.TurnLemmas.{its_plies, waits_sum}
 use Rattle.winning_sets.specs.KeptByLoser.{KeptByLoser}
 use Rattle.winning_sets.proofs.KeptGame.{kept_are_of_game, kept_is_won}
 use Rattle.winning_sets.specs.Claimed.{IsHeldFrom, IsValid, IsValidBy, IsWonClaim, claim_of}
@@ -25,30 +26,15 @@ use Rattle.winning_sets.proofs.ClaimedLemmas.{of_game}
 use Rattle.winning_sets.proofs.ClaimPlaces.{claimed_kept}
 use Rattle.winning_sets.proofs.KeptParts.{left_half_more, turn-reach}
 use Rattle.winning_sets.proofs.MeaningLaws.{keeps_kept}
-use Rattle.winning_sets.proofs.Tuples.{turn_by}
 use Rattle.winning_sets.proofs.WonLemmas.{claimed_lost}
 
 -- at a ply up to the last one where the loser is to move, the winner has so many moves left
 pub losers_ply : (winner : Side) (p : Position) (moves ply : ℕ) → ply ≤ last_ply winner p.turn moves → turn_at p.turn ply ≡ other winner → IsLosersPly winner p moves ply
-losers_ply winner p moves ply low is = let h = by winner p.turn low is in record { left = h.0; before = h.1 }
-  where
-    by : (w first : Side) → ply ≤ last_ply w first moves → turn_at first ply ≡ other w → (left : ℕ) × (ply + (2 * left + 1) ≡ last_ply w first moves)
-    by White White low is = elim (turn_by White ply) [
-      | inl (even, at) ↦ absurd (let no : White ≡ Black = sym at ∙ is in cc)
-      | inr (odd, at) ↦ ((2 * moves - ply) / 2, omega (arith, low, odd))
-    ]
-    by Black Black low is = elim (turn_by Black ply) [
-      | inl (even, at) ↦ absurd (let no : Black ≡ White = sym at ∙ is in cc)
-      | inr (odd, at) ↦ ((2 * moves - ply) / 2, omega (arith, low, odd))
-    ]
-    by White Black low is = elim (turn_by Black ply) [
-      | inl (even, at) ↦ ((2 * moves + 1 - ply) / 2, omega (arith, low, even))
-      | inr (odd, at) ↦ absurd (let no : White ≡ Black = sym at ∙ is in cc)
-    ]
-    by Black White low is = elim (turn_by White ply) [
-      | inl (even, at) ↦ ((2 * moves + 1 - ply) / 2, omega (arith, low, even))
-      | inr (odd, at) ↦ absurd (let no : Black ≡ White = sym at ∙ is in cc)
-    ]
+losers_ply winner p moves ply low is =
+    let there = its_plies (other winner) p.turn ply is in
+    let at = there.1 in
+    let one = waits_sum winner p.turn in
+    record { left = moves + waits winner p.turn - there.0 - 1; before = omega (arith, low, at, one) }
 
 -- what is held where the loser is to move
 abbrev pub Losing : Origin → Solution → ℕ → Position → Type 0

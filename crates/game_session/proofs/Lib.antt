@@ -1,3 +1,5 @@
 pub mod Held
 pub mod Games
 pub mod FirstLemmas
+pub mod Movers
+pub mod Known

@@ -3,10 +3,10 @@ use Rattle.std.specs.Prelude.{◌≡◌, ◌⊎◌, ℕ, zero, suc, ◌+◌, ◌
 use Rattle.auto_core.specs.Automaton.{Automaton}
 use Rattle.game_rules.specs.Game.{Position, Legal, Lost, Value, other}
 use Rattle.game_rules.specs.declared.men.Side.{Side}
-use Rattle.game_rules.specs.declared.men.Side.TheVariants.{White, Black}
 use Rattle.chess_game.specs.declared.moves.Move.{Move}
 use Rattle.chess_game.specs.declared.way.Frame.{Frame}
 use Rattle.mate_plan.specs.Plan.{turn_at}
+use Rattle.mate_plan.specs.Turns.{waits}
 use Rattle.mate_plan.specs.Won.{LeadsInto}
 use Rattle.winning_sets.specs.Claimed.{IsHeld, IsValid}
 use Rattle.winning_sets.specs.Reach.{Reach}
@@ -46,16 +46,10 @@ pub record IsGame (g : Game) : Type 0 where
   pub before : g.ply < end_of g.solution
   pub stands : Stands g
 
-abbrev pub one_if_same : Side → Side → ℕ
-one_if_same White White = 1
-one_if_same Black Black = 1
-one_if_same White Black = 0
-one_if_same Black White = 0
-
--- how many of the first moves are the winner's
+-- how many of the first moves are the winner's: those at which the loser waits for his turn
 abbrev pub made : Side → Side → ℕ → ℕ
 made winner first zero = 0
-made winner first (suc ply) = made winner first ply + one_if_same winner (turn_at first ply)
+made winner first (suc ply) = made winner first ply + waits (other winner) (turn_at first ply)
 
 -- the number of the winner's moves that were made in the game
 abbrev pub made_in : Game → ℕ

@@ -9,3 +9,5 @@ pub mod Counted
 pub mod Picks
 pub mod Once
 pub mod HisRays
+pub mod Least
+pub mod Picking

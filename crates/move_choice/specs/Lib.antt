@@ -2,6 +2,5 @@ pub mod Choice
 pub mod Along
 pub mod Aims
 pub mod Facts
-pub mod Soundness
 pub mod Aimed
 pub mod Squares

@@ -2,7 +2,7 @@
 ghost use Rattle.game_rules.specs.Game.{Sound};
 ghost use Rattle.move_choice.specs.Aims.{AreNext, IsMover};
 ghost use Rattle.move_choice.specs.Facts.{AreNext-prop, IsMover-prop};
-ghost use Rattle.move_choice.specs.Soundness.{Sound-prop};
+ghost use Rattle.game_laws.specs.Soundness.{Sound-prop};
 
 use chess_game::{Frame, Position, Ray};
 use mask_sets::MaskSets;

@@ -1,4 +1,3 @@
-use Rattle.move_choice.specs.Choice.{target}
 use Rattle.game_session.proofs.Games.{held_reply}
 use Rattle.game_session.proofs.session.Session.other_move.Goals as goal
 

@@ -1,0 +1,4 @@
+pub mod Turns
+pub mod LineReport
+pub mod Played
+pub mod Laws
