@@ -1,204 +1,125 @@
 -- What a defence keeps, move by move.
-use Rattle.std.proofs.Common.{◌≡◌, ◌↔◌, inl, inr, ℕ, zero, suc, ◌+◌, ◌*◌, ◌<◌, ◌≤◌, List, [], ◌∷◌, Option, Some, refl, sym, ap, subst, ◌∙◌, arith}
+use Rattle.std.proofs.Common.{◌≡◌, ◌↔◌, inl, inr, ℕ, zero, suc, ◌<◌, ◌≤◌, List, [], ◌∷◌, Option, Some, refl, sym, ap, subst, ◌∙◌, arith}
 use Rattle.std.specs.Prelude.{slice_get}
 use Rattle.std.proofs.lemmas.Bool.{cases_lt}
 use Rattle.std.proofs.lemmas.Option.{same_Some}
 use Rattle.auto_core.specs.Automaton.{Automaton}
 use Rattle.game_rules.specs.declared.men.Square.{Square}
-use Rattle.game_rules.specs.Game.{Position, HasMove, Legal, Lost, Sound, Value, Win, other}
+use Rattle.game_rules.specs.Game.{Position, HasMove, Legal, Sound, Value, other}
+use Rattle.game_laws.proofs.DecideLemmas.{Decided, not_decided}
 use Rattle.game_laws.proofs.MoveLemmas.{same_after}
-use Rattle.game_laws.proofs.SoundLemmas.{other_differs, other_other, side_or_other}
+use Rattle.game_laws.proofs.SoundLemmas.{side_or_other}
 use Rattle.chess_game.specs.declared.moves.Move.{Move}
 use Rattle.chess_game.specs.declared.way.Frame.{Frame}
 use Rattle.mask_sets.specs.Sets.{HaveAtMost, IsIn, Table}
-use Rattle.mate_plan.specs.Claim.{IsLosersPly}
-use Rattle.mate_plan.specs.Plan.{turn_at}
 use Rattle.mate_plan.specs.Won.{LeadsInto}
 use Rattle.winning_sets.specs.Kept.{moves_left}
 use Rattle.winning_sets.specs.Reach.{Reach}
 use Rattle.winning_sets.specs.Solve.{IsSolution, Solution, end_of}
 use Rattle.winning_sets.specs.declared.origin.Origin.TheVariants.{Plan}
-use Rattle.winning_sets.proofs.KeptParts.{left_first, left_half, left_half_more, reached_sound, turn-reach, value_win}
+use Rattle.winning_sets.proofs.KeptParts.{reached_sound, value_win}
 use Rattle.move_choice.specs.Aims.{AreNext}
 use Rattle.move_choice.specs.Choice.{Pick}
 use Rattle.move_choice.specs.declared.choice.Choice.{Choice}
 use Rattle.game_session.specs.Game.{Game, made_in, moved_to, start_of}
-use Rattle.game_session.proofs.Games.{left_made}
-use Rattle.game_session.proofs.Held.{losers_ply}
 use Rattle.defender.specs.Leading.{LeadsNowhere}
-use Rattle.defender.specs.Defending.{CanDefend, Defends, Continues, HasMovesLeft, DefencePick, IsDefence, IsDefended, IsLosersTurn, IsMated, IsSaved, IsNextUnwon, IsWinnersTurn, LoserContinues, StandsAs}
+use Rattle.defender.specs.Defending.{CanDefend, Continues, DefencePick, Defends, HasMovesLeft, IsDefence, IsDefended, IsLosersTurn, IsNextUnwon, IsSaved, IsWinnersTurn, LoserContinues, seen, StandsAs}
 use Rattle.defender.specs.Unwon.{AreUnwonPlies, HaveRoom, IsUnwon, IsWon, table_into}
 use Rattle.defender.specs.declared.defence.Stand.{Stand}
 use Rattle.defender.specs.declared.defence.Stand.TheVariants.{Held, Stuck, Attack, Answer}
 use Rattle.defender.proofs.FirstSteps.{moves_known}
+use Rattle.defender.proofs.Matches.{first_unwon, his_next, made_within, not_all_won, pick_unwon, two_left, typed_unwon, unmated}
 use Rattle.defender.proofs.UnwonParts.{kept_or_not, not_won}
 use Rattle.defender.proofs.UnwonTables.{are_next, leads_same, moves_unwon, nowhere_same, pick_same, table_few}
 
 module _ (g : Game) (keeps : IsDefence g) where
-  abbrev s : Solution
-  s = g.solution
-
-  abbrev last : ℕ
-  last = end_of g.solution
-
   pub defence_sound : Sound g.position
-  defence_sound = reached_sound g.solution.position keeps.valid.sound g.ply g.position keeps.reached
-
-  pub defence_turn : g.position.turn ≡ turn_at g.solution.position.turn g.ply
-  defence_turn = turn-reach g.solution.position g.position g.ply keeps.reached
-
-  pub left_is : moves_left (end_of g.solution) g.ply + made_in g ≡ g.solution.moves
-  left_is = left_made g.solution.winner g.solution.position.turn g.solution.moves g.ply keeps.within
-
-  -- where the winner has a move left, two plies are left
-  pub two_left : HasMovesLeft g → suc g.ply < end_of g.solution
-  two_left on = let left = left_is in omega (arith, left, on)
+  defence_sound = reached_sound g.solution.position keeps.valid.sound g.ply g.position keeps.unwon.reached
 
   -- with the loser to move
-  module _ (turn : IsLosersTurn g) where
-    losers : IsLosersPly g.solution.winner g.solution.position g.solution.moves g.ply
-    losers = losers_ply g.solution.winner g.solution.position g.solution.moves g.ply keeps.within (sym defence_turn ∙ turn)
-
-    -- the winner has as many moves left after the next ply
-    same_left : moves_left (end_of g.solution) (suc g.ply) ≡ moves_left (end_of g.solution) g.ply
-    same_left =
-        let k = losers.left in
-        let at : g.ply + (2 * losers.left + 1) ≡ end_of g.solution = losers.before in
-        left_half (end_of g.solution) (suc g.ply) losers.left (omega (arith, at)) ∙ sym (left_half_more (end_of g.solution) g.ply losers.left at)
-
-    his_next : {i : ℕ} {z : Square} {q : Position} → Legal g.position i z q → q.turn ≡ g.solution.winner
-    his_next legal = legal.step.after.turn ∙ (ap other turn ∙ other_other g.solution.winner)
-
+  module _ (turn : IsLosersTurn (seen g)) where
     -- a legal move to a position that is not won keeps the defence
-    pub pick_keeps : HasMovesLeft g → {i : ℕ} {z : Square} {q : Position} → Legal g.position i z q → IsNextUnwon g q → IsDefence (moved_to g q)
-    pick_keeps on {i} {z} {q} legal unwon =
-        let two = two_left on in
-        record {
-          plan = keeps.plan;
-          valid = keeps.valid;
-          reached = (g.position, keeps.reached, (i, z, legal));
-          within = omega (arith, two);
-          not_won = λ value. unwon (value_win g.solution.winner (moves_left (end_of g.solution) (suc g.ply)) q (his_next legal) value);
-        }
+    pub pick_keeps : HasMovesLeft (seen g) → {i : ℕ} {z : Square} {q : Position} → Legal g.position i z q → IsNextUnwon (seen g) q → IsDefence (moved_to g q)
+    pick_keeps on legal unwon = record { plan = keeps.plan; valid = keeps.valid; unwon = pick_unwon (seen g) keeps.unwon turn on legal unwon }
 
-    -- where each legal move leads to a position that is won, and there is one, he is lost
-    pub not_all_won : HasMove g.position → ((i : ℕ) (z : Square) (q : Position) → Legal g.position i z q → IsWon g.solution (suc g.ply) q) → ⊥
-    not_all_won moves wins =
-        keeps.not_won (inr (
-          turn,
-          inr (
-            moves,
-            λ i z r legal.
-                subst (λ n. Win g.solution.winner n r) same_left (wins i z r legal),
-          ),
-        ))
+    -- it is known of each legal move whether it leads to a position that is won
+    won_or_not : HasMovesLeft (seen g) → (i : ℕ) (z : Square) (q : Position) → Legal g.position i z q → Decided (IsWon g.solution (suc g.ply) q)
+    won_or_not on i z q legal =
+        let two = two_left (seen g) keeps.unwon on in
+        let reached : Reach g.solution.position (suc g.ply) q = (g.position, keeps.unwon.reached, (i, z, legal)) in
+        elim (kept_or_not g.solution keeps.valid (suc g.ply) (omega (arith, two)) q reached) [
+          | inl kept ↦ inl (value_win g.solution.winner (moves_left (end_of g.solution) (suc g.ply)) q (his_next (seen g) keeps.unwon turn legal) kept.value)
+          | inr off ↦ inr (λ win. off (record { reached = reached; value = inl win }))
+        ]
 
-  -- with the winner to move
-  module _ (turn : IsWinnersTurn g) where
-    -- his legal move keeps the defence
-    pub typed_keeps : HasMovesLeft g → {i : ℕ} {z : Square} {q : Position} → Legal g.position i z q → IsDefence (moved_to g q)
-    typed_keeps on {i} {z} {q} legal =
-        let two = two_left on in
-        let next : turn_at g.solution.position.turn (suc g.ply) ≡ other g.solution.winner = ap other (sym defence_turn ∙ turn) in
-        let losers = losers_ply g.solution.winner g.solution.position g.solution.moves (suc g.ply) (omega (arith, two)) next in
-        let at : suc g.ply + (2 * losers.left + 1) ≡ end_of g.solution = losers.before in
-        let later : moves_left (end_of g.solution) (suc g.ply) ≡ losers.left = left_half_more (end_of g.solution) (suc g.ply) losers.left at in
-        let here : moves_left (end_of g.solution) g.ply ≡ suc losers.left = left_half (end_of g.solution) g.ply (suc losers.left) (omega (arith, at)) in
-        let his : q.turn ≡ other g.solution.winner = legal.step.after.turn ∙ ap other turn in
-        record {
-          plan = keeps.plan;
-          valid = keeps.valid;
-          reached = (g.position, keeps.reached, (i, z, legal));
-          within = omega (arith, two);
-          not_won = λ value. elim value [
-            | inl win ↦ not_won g.solution.winner (moves_left (end_of g.solution) (suc g.ply)) q his win
-            | inr lost ↦
-                keeps.not_won (subst (λ n. Value g.solution.winner n g.position) (sym here)
-                (inl (turn, (i, z, q, legal, subst (λ n. Lost g.solution.winner n q) later lost))))
-          ];
-        }
+    pub unwon_or_not : HasMovesLeft (seen g) → (i : ℕ) (z : Square) (q : Position) → Legal g.position i z q → Decided (IsNextUnwon (seen g) q)
+    unwon_or_not on i z q legal = not_decided (IsWon g.solution (suc g.ply) q) (won_or_not on i z q legal)
+
+  -- with the winner to move, his legal move keeps the defence
+  pub typed_keeps : IsWinnersTurn (seen g) → HasMovesLeft (seen g) → {i : ℕ} {z : Square} {q : Position} → Legal g.position i z q → IsDefence (moved_to g q)
+  typed_keeps turn on legal = record { plan = keeps.plan; valid = keeps.valid; unwon = typed_unwon (seen g) keeps.unwon turn on legal }
 
   -- whoever is to move, a position that a legal move leads to is reached
-  reached_unwon : {i : ℕ} {z : Square} {q : Position} → Legal g.position i z q → IsUnwon g.solution (suc g.ply) q ↔ IsNextUnwon g q
-  reached_unwon {i} {z} {q} legal = (λ h. h.not_won, λ h. record { reached = (g.position, keeps.reached, (i, z, legal)); not_won = h })
+  reached_unwon : {i : ℕ} {z : Square} {q : Position} → Legal g.position i z q → IsUnwon g.solution (suc g.ply) q ↔ IsNextUnwon (seen g) q
+  reached_unwon {i} {z} {q} legal = (λ h. h.not_won, λ h. record { reached = (g.position, keeps.unwon.reached, (i, z, legal)); not_won = h })
 
   -- the sets of the next ply, as they are lent
-  module _ (plies : List (List Automaton)) (unwon : AreUnwonPlies g.solution plies) (on : HasMovesLeft g) (t : Table) (is : t ≡ table_into g.solution plies (suc g.ply)) where
+  module _ (plies : List (List Automaton)) (unwon : AreUnwonPlies g.solution plies) (on : HasMovesLeft (seen g)) (t : Table) (is : t ≡ table_into g.solution plies (suc g.ply)) where
     within : suc g.ply < end_of g.solution
-    within = two_left on
+    within = two_left (seen g) keeps.unwon on
 
     pub lent_next : AreNext g.position t
-    lent_next = subst (AreNext g.position) (sym is) (are_next g.solution keeps.valid plies unwon g.ply within g.position keeps.reached)
+    lent_next = subst (AreNext g.position) (sym is) (are_next g.solution keeps.valid plies unwon g.ply within g.position keeps.unwon.reached)
 
     pub lent_few : (states : ℕ) → HaveRoom states g.solution plies → HaveAtMost states t
     lent_few states room = subst (HaveAtMost states) (sym is) (table_few g.solution plies states (suc g.ply) room within)
 
     -- a legal move leads into them exactly where it leads to a position that is not won
-    lent_same : (i : ℕ) (z : Square) (q : Position) → Legal g.position i z q → IsIn t q ↔ IsNextUnwon g q
+    lent_same : (i : ℕ) (z : Square) (q : Position) → Legal g.position i z q → IsIn t q ↔ IsNextUnwon (seen g) q
     lent_same i z q legal =
-        let in_sets = moves_unwon g.solution keeps.valid plies unwon g.ply within g.position keeps.reached legal in
+        let in_sets = moves_unwon g.solution keeps.valid plies unwon g.ply within g.position keeps.unwon.reached legal in
         let next = reached_unwon legal in
         (λ h. next.0 (in_sets.0 (subst (λ u. IsIn u q) is h)), λ h. subst (λ u. IsIn u q) (sym is) (in_sets.1 (next.1 h)))
 
-    pub lent_pick : (o : Option Choice) → Pick (IsIn t) g.frame g.position o → DefencePick g o
-    lent_pick o pick = pick_same (IsIn t) (IsNextUnwon g) g.frame g.position lent_same o pick
+    pub lent_pick : (o : Option Choice) → Pick (IsIn t) g.frame g.position o → DefencePick (seen g) o
+    lent_pick o pick = pick_same (IsIn t) (IsNextUnwon (seen g)) g.frame g.position lent_same o pick
 
-    pub lent_leads : LeadsInto (IsIn t) g.position → CanDefend g
-    lent_leads leads = leads_same (IsIn t) (IsNextUnwon g) g.frame g.position lent_same leads
+    pub lent_leads : LeadsInto (IsIn t) g.position → CanDefend (seen g)
+    lent_leads leads = leads_same (IsIn t) (IsNextUnwon (seen g)) g.frame g.position lent_same leads
 
-    pub lent_nowhere : LeadsNowhere (IsIn t) g.position → LeadsNowhere (IsNextUnwon g) g.position
-    lent_nowhere none = nowhere_same (IsIn t) (IsNextUnwon g) g.frame g.position lent_same none
+    pub lent_nowhere : LeadsNowhere (IsIn t) g.position → LeadsNowhere (IsNextUnwon (seen g)) g.position
+    lent_nowhere none = nowhere_same (IsIn t) (IsNextUnwon (seen g)) g.frame g.position lent_same none
 
   -- where no legal move leads to a position that is not won, there is no legal move
-  pub none_moves : HasMovesLeft g → LeadsNowhere (IsNextUnwon g) g.position → HasMove g.position → ⊥
+  pub none_moves : HasMovesLeft (seen g) → LeadsNowhere (IsNextUnwon (seen g)) g.position → HasMove g.position → ⊥
   none_moves on none moves =
       elim (side_or_other g.position.turn g.solution.winner) [
         | inl his ↦
             let (i, z, q, legal) = moves in
             none i z q legal
             (not_won g.solution.winner (moves_left (end_of g.solution) (suc g.ply)) q (legal.step.after.turn ∙ ap other his))
-        | inr turn ↦ not_all_won turn moves (λ i z q legal.
-            let two = two_left on in
-            let reached : Reach g.solution.position (suc g.ply) q = (g.position, keeps.reached, (i, z, legal)) in
-            elim (kept_or_not g.solution keeps.valid (suc g.ply) (omega (arith, two)) q reached) [
-              | inl kept ↦ value_win g.solution.winner (moves_left (end_of g.solution) (suc g.ply)) q (his_next turn legal) kept.value
-              | inr off ↦ absurd (none i z q legal (λ win. off (record { reached = reached; value = inl win })))
-            ])
+        | inr turn ↦ not_all_won (seen g) keeps.unwon turn moves (λ i z q legal. elim (won_or_not turn on i z q legal) [ inl won ↦ won | inr unwon ↦ absurd (none i z q legal unwon) ])
       ]
-
-  -- the loser is not mated
-  pub unmated : IsMated g → ⊥
-  unmated (turn, mate) = keeps.not_won (inr (turn, inl mate))
-
-  -- nor has the winner made more moves than he has
-  pub made_within : made_in g ≤ g.solution.moves
-  made_within = let left = left_is in omega (arith, left)
 
 pub moves_of : {S : Position → Type 0} (p : Position) → LeadsInto S p → HasMove p
 moves_of p (q, (i, z, legal), is) = (i, z, q, legal)
 
 -- the first game
 pub first_defence : (s : Solution) (f : Frame) → s.origin ≡ Plan → IsSolution s → (Value s.winner s.moves s.position → ⊥) → IsDefence (start_of s f)
-first_defence s f plan valid none = record {
-  plan = plan;
-  valid = valid;
-  reached = refl;
-  within = omega arith;
-  not_won = λ value. none (subst (λ n. Value s.winner n s.position) (left_first s.winner s.position.turn s.moves) value);
-}
+first_defence s f plan valid none = record { plan = plan; valid = valid; unwon = first_unwon (seen (start_of s f)) refl refl none }
 
 pub saved : {g : Game} (after : Game) → IsDefence after → after.solution ≡ g.solution → IsSaved g after
 saved {g} after keeps same = record {
   same = same;
-  within = subst (λ (s : Solution). made_in after ≤ s.moves) same (made_within after keeps);
-  not_mated = unmated after keeps;
+  within = subst (λ (s : Solution). made_in after ≤ s.moves) same (made_within (seen after) keeps.unwon);
+  not_mated = unmated (seen after) keeps.unwon;
 }
 
 -- so does the loser's pick
-pub defended_keeps : {g : Game} (after : Game) (choice : Choice) → IsDefence g → HasMovesLeft g → IsLosersTurn g → IsDefended g choice after → IsDefence after
+pub defended_keeps : {g : Game} (after : Game) (choice : Choice) → IsDefence g → HasMovesLeft (seen g) → IsLosersTurn (seen g) → IsDefended g choice after → IsDefence after
 defended_keeps {g} after choice keeps on turn h =
     let same : h.pick.position ≡ after.position = same_after h.pick.leads.legal.step.after h.legal.step.after in
-    let unwon : IsNextUnwon g after.position = subst (IsNextUnwon g) same h.pick.leads.is_in in
+    let unwon : IsNextUnwon (seen g) after.position = subst (IsNextUnwon (seen g)) same h.pick.leads.is_in in
     subst IsDefence (sym h.is_after) (pick_keeps g keeps turn on h.legal unwon)
 
 none_get : (games : List Game) (k : ℕ) (after : Game) → games ≡ [] → slice_get games k ≡ Some after → ⊥
@@ -245,29 +166,10 @@ all_saved g typed games keeps (inl (turn, goes)) k after is = goes_saved typed g
 all_saved g typed games keeps (inr (turn, goes)) k after is =
     loser_saved (λ h rest. Continues h typed rest) games keeps goes (λ h rest kept on j at there. goes_saved typed rest kept on j at there) k after is
 
--- a game stands in one way
-pub stands_once : (g : Game) (one two : Stand) → StandsAs g one → StandsAs g two → one ≡ two
-stands_once g Held Held h k = refl
-stands_once g Held Stuck h k = absurd (let on = k.0 in omega (arith, h, on))
-stands_once g Held Attack h k = absurd (let on = k.0 in omega (arith, h, on))
-stands_once g Held Answer h k = absurd (let on = k.0 in omega (arith, h, on))
-stands_once g Stuck Held h k = absurd (let on = h.0 in omega (arith, k, on))
-stands_once g Stuck Stuck h k = refl
-stands_once g Stuck Attack h k = absurd (h.1 k.1)
-stands_once g Stuck Answer h k = absurd (h.1 k.1)
-stands_once g Attack Held h k = absurd (let on = h.0 in omega (arith, k, on))
-stands_once g Attack Stuck h k = absurd (k.1 h.1)
-stands_once g Attack Attack h k = refl
-stands_once g Attack Answer h k = absurd (other_differs g.solution.winner (sym h.2 ∙ k.2))
-stands_once g Answer Held h k = absurd (let on = h.0 in omega (arith, k, on))
-stands_once g Answer Stuck h k = absurd (k.1 h.1)
-stands_once g Answer Attack h k = absurd (other_differs g.solution.winner (sym k.2 ∙ h.2))
-stands_once g Answer Answer h k = refl
-
 -- a defence stands in some way: it is known whether there is a legal move
-pub some_stand : (g : Game) → IsDefence g → (stand : Stand) × StandsAs g stand
+pub some_stand : (g : Game) → IsDefence g → (stand : Stand) × StandsAs (seen g) stand
 some_stand g keeps = elim (cases_lt (made_in g) g.solution.moves) [
-  | inr all ↦ let few = made_within g keeps in (Held, omega (arith, all, few))
+  | inr all ↦ let few = made_within (seen g) keeps.unwon in (Held, omega (arith, all, few))
   | inl left ↦ elim (moves_known g.position (defence_sound g keeps)) [
     | inr none ↦ (Stuck, (left, none))
     | inl moves ↦ elim (side_or_other g.position.turn g.solution.winner) [

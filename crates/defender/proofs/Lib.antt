@@ -5,5 +5,6 @@ mod UnwonParts
 mod SetsInto
 pub mod UnwonTables
 mod AnyMoves
+pub mod Matches
 pub mod Defending
 pub mod Fitting

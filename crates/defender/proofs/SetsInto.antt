@@ -1,31 +1,18 @@
 -- The sets that moves are to lead into at a ply.
-use Rattle.std.proofs.Common.{◌≡◌, inl, inr, ℕ, ◌<◌, List, [], get_or, Option, Some, None, refl, sym, ◌∙◌, subst, arith}
+use Rattle.std.proofs.Common.{◌≡◌, inl, inr, ℕ, ◌<◌, List, [], get_or, Option, Some, None, refl, sym, ap, ◌∙◌, subst, arith}
 use Rattle.std.specs.List.{AllZip, Contains}
 use Rattle.auto_core.specs.Automaton.{Automaton}
 use Rattle.game_rules.specs.Game.{other}
-use Rattle.game_rules.specs.declared.men.Side.{Side}
-use Rattle.game_rules.specs.declared.men.Side.TheVariants.{White, Black}
 use Rattle.game_laws.proofs.SoundLemmas.{side_or_other}
 use Rattle.mate_plan.specs.Plan.{turn_at}
+use Rattle.mate_plan.proofs.TurnLemmas.{waits_none, waits_one}
 use Rattle.rule_formula.specs.Fits.{masks_of}
 use Rattle.winning_sets.specs.Solve.{IsSolution, Solution, end_of, reach_at}
 use Rattle.winning_sets.proofs.MeaningLaws.{mean}
 use Rattle.winning_sets.proofs.Places.{sets_at-ply}
-use Rattle.defender.specs.Unwon.{AreUnwonPlies, AreUnwonSets, IsUnwonSet, by_side, sets_into}
+use Rattle.defender.specs.Unwon.{AreUnwonPlies, AreUnwonSets, IsUnwonSet, by_turn, sets_into}
 use Rattle.defender.proofs.Zips.{zip_found, zip_set}
 use Rattle.defender.proofs.UnwonParts.{all_unwon, are_reached, reach_found}
-
-pub same_side : {A : Type 0} (s t : Side) (x y : A) → t ≡ s → by_side s t x y ≡ x
-same_side White White x y is = refl
-same_side Black Black x y is = refl
-same_side White Black x y is = absurd (cc)
-same_side Black White x y is = absurd (cc)
-
-pub other_side : {A : Type 0} (s t : Side) (x y : A) → t ≡ other s → by_side s t x y ≡ y
-other_side White White x y is = absurd (cc)
-other_side Black Black x y is = absurd (cc)
-other_side White Black x y is = refl
-other_side Black White x y is = refl
 
 some_or_none : (o : Option Automaton) → (o ≡ None → ⊥) → (a : Automaton) × (o ≡ Some a)
 some_or_none None some = absurd (some refl)
@@ -43,10 +30,10 @@ beside_masks s valid ply sets all = record {
 module _ (s : Solution) (plies : List (List Automaton)) (ply : ℕ) where
   -- with the winner to move they are those of the list, with the loser to move those that are reached
   pub winners_sets : turn_at s.position.turn ply ≡ s.winner → sets_into s plies ply ≡ get_or plies ply []
-  winners_sets turn = same_side s.winner (turn_at s.position.turn ply) (get_or plies ply []) (get_or s.reach ply []) turn
+  winners_sets turn = ap (λ n. by_turn n (get_or plies ply []) (get_or s.reach ply [])) (waits_none s.winner (turn_at s.position.turn ply) turn)
 
   pub losers_sets : turn_at s.position.turn ply ≡ other s.winner → sets_into s plies ply ≡ get_or s.reach ply []
-  losers_sets turn = other_side s.winner (turn_at s.position.turn ply) (get_or plies ply []) (get_or s.reach ply []) turn
+  losers_sets turn = ap (λ n. by_turn n (get_or plies ply []) (get_or s.reach ply [])) (waits_one s.winner (turn_at s.position.turn ply) turn)
 
   module _ (valid : IsSolution s) (unwon : AreUnwonPlies s plies) (some : 0 < ply) (before : ply < end_of s) where
     reached_unwon : turn_at s.position.turn ply ≡ other s.winner → AreUnwonSets s ply (get_or s.reach ply [])

@@ -8,7 +8,7 @@ use Rattle.winning_sets.specs.Solve.{IsSolution, IsWithin, Solution}
 use Rattle.winning_sets.specs.declared.origin.Origin.TheVariants.{Plan}
 use Rattle.move_choice.specs.Choice.{OnePick}
 use Rattle.game_session.specs.Game.{Game, start_of}
-use Rattle.defender.specs.Defending.{Defends, HasMovesLeft, IsDefence, IsLosersTurn, IsMated, IsNextUnwon, IsSaved, StandsAs}
+use Rattle.defender.specs.Defending.{DefenceMatch, Defends, HasMovesLeft, IsDefence, IsLosersTurn, IsMated, IsNextUnwon, IsSaved, seen, StandsAs}
 use Rattle.defender.specs.Leading.{LeadsNowhere}
 use Rattle.defender.specs.Unwon.{RestsFit}
 use Rattle.defender.specs.declared.defence.Stand.{Stand}
@@ -18,7 +18,7 @@ use Rattle.defender.specs.declared.defence.Stand.{Stand}
 abbrev pub NeverMated : Type 0
 NeverMated =
     (g : Game) (typed : List Move) (games : List Game) → IsDefence g → Defends g typed games
-    → (IsMated g → ⊥)
+    → (IsMated (seen g) → ⊥)
     × ((k : ℕ) (after : Game) → slice_get games k ≡ Some after → IsSaved g after)
 
 -- so it is from the start, where the winner does not mate in time
@@ -30,21 +30,21 @@ StartIsDefence =
 -- where the loser is to move and has a legal move, it is not so that each of them leads to a position that is won
 abbrev pub MovesAreLeft : Type 0
 MovesAreLeft =
-    (g : Game) → IsDefence g → HasMovesLeft g → IsLosersTurn g → HasMove g.position
-    → LeadsNowhere (IsNextUnwon g) g.position
+    (g : Game) → IsDefence g → HasMovesLeft (seen g) → IsLosersTurn (seen g) → HasMove g.position
+    → LeadsNowhere (IsNextUnwon (seen g)) g.position
     → ⊥
 
 -- the loser has one move at most, and not both one and none
 abbrev pub OneDefencePick : Type 0
-OneDefencePick = (g : Game) → OnePick (IsNextUnwon g) g.frame g.position
+OneDefencePick = (g : DefenceMatch) → OnePick (IsNextUnwon g) g.frame g.position
 
 -- a game stands in one way at most
 abbrev pub OneStand : Type 0
-OneStand = (g : Game) (one two : Stand) → StandsAs g one → StandsAs g two → one ≡ two
+OneStand = (g : DefenceMatch) (one two : Stand) → StandsAs g one → StandsAs g two → one ≡ two
 
 -- and a defence in one way at least
 abbrev pub SomeStand : Type 0
-SomeStand = (g : Game) → IsDefence g → (stand : Stand) × StandsAs g stand
+SomeStand = (g : Game) → IsDefence g → (stand : Stand) × StandsAs (seen g) stand
 
 -- where no step of the plan exceeds the budget, none of its parts in which kept sets are taken from reached ones does
 abbrev pub PlanFits : Type 0

@@ -1,9 +1,7 @@
 -- The positions that moves are to lead into where the winner does not mate in time, and the sets of them.
-use Rattle.std.specs.Prelude.{◌≡◌, ℕ, suc, ◌<◌, ◌≤◌, List, [], length, All, Result, Some, slice_index_or}
+use Rattle.std.specs.Prelude.{◌≡◌, ℕ, zero, suc, ◌<◌, ◌≤◌, List, [], length, All, Result, Some, slice_index_or}
 use Rattle.auto_core.specs.Automaton.{Automaton}
 use Rattle.game_rules.specs.Game.{Position, Win}
-use Rattle.game_rules.specs.declared.men.Side.{Side}
-use Rattle.game_rules.specs.declared.men.Side.TheVariants.{White, Black}
 use Rattle.lin_formula.specs.SetOf.{SetOf, as_set}
 use Rattle.mask_sets.specs.Sets.{Table, set_of}
 use Rattle.rule_formula.specs.Fits.{IsGameMask, masks_of}
@@ -14,6 +12,7 @@ use Rattle.set_plan.specs.declared.stop.PlanError.{PlanError}
 use Rattle.mate_plan.specs.Claim.{IsLosersPly}
 use Rattle.mate_plan.specs.Plan.{Level, Program, rest_set, turn_at}
 use Rattle.mate_plan.specs.PlanOf.{rules_of}
+use Rattle.mate_plan.specs.Turns.{waits}
 use Rattle.mate_plan.specs.declared.names.PartName.{PartName}
 use Rattle.winning_sets.specs.Kept.{moves_left}
 use Rattle.winning_sets.specs.Reach.{Reach}
@@ -38,18 +37,16 @@ pub record AreUnwonSets (s : Solution) (ply : ℕ) (sets : List Automaton) : Typ
   pub each : (mask : ℕ) (a : Automaton) → set_of (masks_of s.position) sets mask ≡ Some a → IsUnwonSet s ply mask a
   pub found : (mask : ℕ) → IsGameMask s.position mask → (a : Automaton) × (set_of (masks_of s.position) sets mask ≡ Some a)
 
--- the one where the two sides are the same, else the other
-abbrev pub by_side : {A : Type 0} → Side → Side → A → A → A
-by_side White White same differing = same
-by_side Black Black same differing = same
-by_side White Black same differing = differing
-by_side Black White same differing = differing
+-- by how many plies a side waits for its turn: the first where it is its turn, else the other
+abbrev pub by_turn : {A : Type 0} → ℕ → A → A → A
+by_turn zero own others = own
+by_turn (suc plies) own others = others
 
 -- the sets that moves are to lead into at a ply: with the winner to move there those of the list, with the loser to move
 -- those of all that is reached
 abbrev pub sets_into : Solution → List (List Automaton) → ℕ → List Automaton
 sets_into s plies ply =
-    by_side s.winner (turn_at s.position.turn ply) (slice_index_or plies ply []) (slice_index_or s.reach ply [])
+    by_turn (waits s.winner (turn_at s.position.turn ply)) (slice_index_or plies ply []) (slice_index_or s.reach ply [])
 
 -- the same with their masks
 abbrev pub table_into : Solution → List (List Automaton) → ℕ → Table

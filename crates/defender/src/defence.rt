@@ -5,7 +5,7 @@ ghost use Rattle.chess_game.specs.Refusal.{IsRefusal};
 ghost use Rattle.move_choice.specs.Choice.{target};
 ghost use Rattle.game_session.specs.Game.{made_in, moved_to, start_of};
 ghost use Rattle.winning_sets.specs.declared.origin.Origin.TheVariants as origin;
-ghost use Rattle.defender.specs.Defending.{CanDefend, DefencePick, HasMovesLeft, IsDefence, IsDefendedBy, IsLosersTurn, IsWinnersTurn, StandsAs};
+ghost use Rattle.defender.specs.Defending.{CanDefend, DefencePick, HasMovesLeft, IsDefence, IsDefendedBy, IsLosersTurn, IsWinnersTurn, seen, StandsAs};
 ghost use Rattle.defender.specs.Unwon.{RestsFit};
 
 use crate::any_move::leads_into;
@@ -120,9 +120,9 @@ impl Defence {
 
     /// Whether the side to move has a legal move. If it is the loser's turn, one then leads to a position that is not won.
     fn can_move(&mut self) -> bool
-        requires { HasMovesLeft self.old }
+        requires { HasMovesLeft (seen self.old) }
         ensures some { result ≡ true → HasMove self.old.position }
-        ensures defends { result ≡ true → IsLosersTurn self.old → CanDefend self.old }
+        ensures defends { result ≡ true → IsLosersTurn (seen self.old) → CanDefend (seen self.old) }
         ensures none { result ≡ false → HasMove self.old.position → ⊥ }
         ensures kept { self.new ≡ self.old }
     {
@@ -134,9 +134,9 @@ impl Defence {
 
     /// Whose turn it is, where the side to move has a legal move.
     fn turn(&self) -> Stand
-        requires left { HasMovesLeft self.now }
+        requires left { HasMovesLeft (seen self.now) }
         requires moves { HasMove self.now.position }
-        ensures { StandsAs self.now result }
+        ensures { StandsAs (seen self.now) result }
     {
         if self.position.turn() == self.solved.winner() {
             Stand::Attack
@@ -148,8 +148,8 @@ impl Defence {
     /// How the game stands. Where the loser is to answer, some legal move of his leads to a position from which the winner does not mate within the moves
     /// that he has left, to whatever square of the board. It takes no memory.
     pub fn stand(&mut self) -> Stand
-        ensures stands { StandsAs self.old result }
-        ensures defends { result ≡ Stand.Answer → CanDefend self.old }
+        ensures stands { StandsAs (seen self.old) result }
+        ensures defends { result ≡ Stand.Answer → CanDefend (seen self.old) }
         ensures kept { self.new ≡ self.old }
     {
         let _position = self.position();
@@ -164,9 +164,9 @@ impl Defence {
 
     /// The loser's first move, by man, ray and distance, to a square of the frame, that leads to a position that is not won.
     fn pick(&mut self) -> Option<Choice>
-        requires left { HasMovesLeft self.old }
-        requires turn { IsLosersTurn self.old }
-        ensures pick { DefencePick self.old result }
+        requires left { HasMovesLeft (seen self.old) }
+        requires turn { IsLosersTurn (seen self.old) }
+        ensures pick { DefencePick (seen self.old) result }
         ensures kept { self.new ≡ self.old }
     {
         let next = self.ply + 1;
@@ -201,8 +201,8 @@ impl Defence {
 
     /// The winner's move is made, if it is legal. It takes no memory.
     pub fn typed(&mut self, mv: Move) -> Result<(), Illegal>
-        requires left { HasMovesLeft self.old }
-        requires turn { IsWinnersTurn self.old }
+        requires left { HasMovesLeft (seen self.old) }
+        requires turn { IsWinnersTurn (seen self.old) }
         ensures legal { OnOk result (Legal self.old.position mv.man (target mv) self.new.position) }
         ensures after { OnOk result (self.new ≡ moved_to self.old self.new.position) }
         ensures reason { IfErr result (IsRefusal self.old.position mv.man (target mv)) }
@@ -216,10 +216,10 @@ impl Defence {
     /// The loser makes his first move, by man, ray and distance, to a square of the frame that leads to a position from which the winner does not mate
     /// within the moves that he has left, captures included. It takes no memory.
     pub fn answer(&mut self) -> Result<Move, TooWide>
-        requires left { HasMovesLeft self.old }
-        requires turn { IsLosersTurn self.old }
+        requires left { HasMovesLeft (seen self.old) }
+        requires turn { IsLosersTurn (seen self.old) }
         ensures defended { IfOk result (λ mv. IsDefendedBy self.old mv self.new) }
-        ensures wide { OnErr result (DefencePick self.old None) }
+        ensures wide { OnErr result (DefencePick (seen self.old) None) }
         ensures unchanged { OnErr result (self.new ≡ self.old) }
     {
         let _position = self.position();

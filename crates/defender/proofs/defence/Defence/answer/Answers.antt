@@ -3,7 +3,7 @@ use Rattle.game_rules.specs.Game.{Legal, Position}
 use Rattle.game_laws.proofs.MoveLemmas.{same_after}
 use Rattle.move_choice.specs.Choice.{target}
 use Rattle.game_session.specs.Game.{Game, moved_to}
-use Rattle.defender.specs.Defending.{IsDefence, IsNextUnwon}
+use Rattle.defender.specs.Defending.{IsDefence, IsNextUnwon, seen}
 use Rattle.defender.proofs.Defending.{pick_keeps}
 use Rattle.defender.proofs.defence.Defence.answer.Goals as goal
 
@@ -16,7 +16,7 @@ make-requires c =
     subst (λ (h : Game). (q : Position) → Legal h.position choice.mv.man (target choice.mv) q → IsDefence (moved_to h q)) (sym c.pick.ensures.kept)
     (λ q legal.
     let same : pick.position ≡ q = same_after pick.leads.legal.step.after legal.step.after in
-    pick_keeps g keeps c.requires.turn c.requires.left legal (subst (IsNextUnwon g) same pick.leads.is_in))
+    pick_keeps g keeps c.requires.turn c.requires.left legal (subst (IsNextUnwon (seen g)) same pick.leads.is_in))
 
 pub unreachable-requires : goal.unreachable-requires
 unreachable-requires c =

@@ -9,4 +9,4 @@ returns c =
     let keeps = c.self.invariant.0 in
     subst (λ (h : Game). (c.last_ply.result - i.ply) / 2 + made_in h ≡ h.solution.moves) c.self.view_is
     (rw c.last_ply.ensures
-    (left_made i.solved.winner i.solved.position.turn i.solved.moves i.ply keeps.within))
+    (left_made i.solved.winner i.solved.position.turn i.solved.moves i.ply keeps.unwon.within))

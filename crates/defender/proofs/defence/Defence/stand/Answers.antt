@@ -1,7 +1,7 @@
 use Rattle.std.proofs.Common.{subst}
 use Rattle.game_session.specs.Game.{Game}
-use Rattle.defender.specs.Defending.{StandsAs}
+use Rattle.defender.specs.Defending.{seen, StandsAs}
 use Rattle.defender.proofs.defence.Defence.stand.Goals as goal
 
 pub returns-clause-stands : goal.returns-clause-stands
-returns-clause-stands c = subst (λ (h : Game). StandsAs h c.turn.result) c.can_move.ensures.kept c.turn.ensures
+returns-clause-stands c = subst (λ (h : Game). StandsAs (seen h) c.turn.result) c.can_move.ensures.kept c.turn.ensures
