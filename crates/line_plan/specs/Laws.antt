@@ -1,0 +1,59 @@
+-- What the sets of the plan are.
+use Rattle.std.specs.Prelude.{◌≡◌, ◌↔◌, ℕ, ◌+◌, ◌<◌, ◌≤◌, Bool, true, IsTrue, List, ◌∷◌, length, Option, Some, ℤ, Contains}
+use Rattle.game_rules.specs.Game.{Position, Sound, Value}
+use Rattle.game_rules.specs.declared.men.Side.{Side}
+use Rattle.track_word.specs.Tracks.{Values, values_at}
+use Rattle.lin_formula.specs.SetOf.{Member, SetOf}
+use Rattle.rule_formula.specs.declared.opt.Opt.{Opt}
+use Rattle.path_formula.specs.Paths.{Plays, after, options_at, turn_at}
+use Rattle.set_plan.specs.Outcome.{Ends, Stops}
+use Rattle.set_plan.specs.Program.{Entry, Takes}
+use Rattle.set_plan.specs.declared.stop.StepName.{StepName}
+use Rattle.line_plan.specs.Plan.{Found, distances, kept, plan, plies, reach}
+
+-- the set has exactly the tuples of so many distances of which the fact holds
+pub record IsSetWhere (n : ℕ) (P : Values → Type 0) (s : SetOf) : Type 0 where
+  pub over : (tuple : List ℤ) → Member s tuple → (v : Values) × (values_at (distances n) v ≡ tuple)
+  pub same : (v : Values) → Member s (values_at (distances n) v) ↔ P v
+
+-- the moves of the path are legal
+abbrev pub IsLine : Position → List Opt → SetOf → Type 0
+IsLine p s l = IsSetWhere (length s) (Plays p s) l
+
+-- and then the winner mates within so many moves of his own
+abbrev pub IsKept : Position → Side → ℕ → List Opt → SetOf → Type 0
+IsKept p winner moves s k = IsSetWhere (length s) (λ v. Plays p s v × Value winner moves (after p s v)) k
+
+-- a path has the distances at which its moves are legal, one after the other
+abbrev pub ReachIsLegal : Type 0
+ReachIsLegal =
+    (p : Position) (winner : Side) (s : List Opt) (o : Opt) (l : SetOf) (at : ℕ) (entries : List (Entry (Unit {0}))) (next : SetOf × ℕ)
+    → Sound p → length s < 16 → Contains (options_at p s) o → IsLine p s l
+    → Takes (reach p winner s o (l, at)) entries (Some next)
+    → IsLine p (o ∷ s) next.0
+
+-- what is kept after a path are the distances from which the winner mates in what is left
+abbrev pub KeptIsWon : Type 0
+KeptIsWon =
+    (p : Position) (winner : Side) (moves : ℕ) (s : List Opt) (l : SetOf) (at : ℕ) (entries : List (Entry (Unit {0})))
+    (found : Found) → Sound p → length s + plies (turn_at p s) winner moves ≤ 16 → IsLine p s l
+    → Takes (kept p winner (plies (turn_at p s) winner moves) s (l, at)) entries (Some found)
+    → found.known ≡ true → IsKept p winner moves s found.set
+
+-- the verdict is whether the winner mates within so many moves
+abbrev pub PlanDecides : Type 0
+PlanDecides =
+    (p : Position) (winner : Side) (moves : ℕ) (entries : List (Entry (Unit {0}))) (mates : Bool)
+    → Sound p → moves ≤ 7 → Takes (plan p winner moves) entries (Some (Some mates))
+    → IsTrue mates ↔ Value winner moves p
+
+-- within a budget the plan comes to one end, or stops at one step
+pub record EndsOnce (p : Position) (winner : Side) (moves budget : ℕ) : Type 0 where
+  pub one_end : (a b : Option Bool) → Ends (plan p winner moves) budget a → Ends (plan p winner moves) budget b → a ≡ b
+  pub one_step : (x y : StepName (Unit {0})) → Stops (plan p winner moves) budget x → Stops (plan p winner moves) budget y
+      → x ≡ y
+  pub not_both : (a : Option Bool) (x : StepName (Unit {0})) → Ends (plan p winner moves) budget a
+      → Stops (plan p winner moves) budget x → ⊥
+
+abbrev pub PlanEndsOnce : Type 0
+PlanEndsOnce = (p : Position) (winner : Side) (moves budget : ℕ) → EndsOnce p winner moves budget

@@ -1,0 +1,9 @@
+pub mod Numbers
+pub mod PlaceLemmas
+pub mod MeasureLemmas
+pub mod BearFormulas
+pub mod MoveFormulas
+pub mod PathTheorem
+pub mod GapLemmas
+pub mod AtomLemmas
+pub mod SmallRays
