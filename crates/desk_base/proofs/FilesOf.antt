@@ -10,9 +10,7 @@ use Rattle.std.specs.Map.{lookup}
 use Rattle.std.specs.BTreeMap.{BTreeMap, Updates, is_at, get_by_text}
 use Rattle.std.specs.FinMap as finite
 use Rattle.std.proofs.lemmas.Map.Text.{is_eq-slice_cmp, btree_map_updates_text}
-use Rattle.desk_base.specs.Calls.{Calls}
-use Rattle.desk_base.specs.Files.{Files, files_of}
-use Rattle.desk_base.specs.Memory.{Store}
+use Rattle.desk_base.specs.Files.{files_of}
 
 abbrev pub Entries : Type 0
 Entries = BTreeMap (String Global) (Vec ℕ Global)
@@ -48,14 +46,3 @@ file_put old new name bytes put = finite.same_map nat_list_cmp_total (finite.sli
       ∙ ap (λ b. cond b (Some bytes.items) (bytes_of (get_by_text old q))) (sym (is_eq-slice_cmp (string_bytes name) q) ∙ (eq_by_cmp_equiv nat_list_cmp_total).symm (string_bytes name) q)
       ∙ ap (cond (eq_by_cmp (slice_cmp nat_cmp) q (string_bytes name)) (Some bytes.items)) (sym (file_found old q))
       ∙ sym (finite.get-insert nat_list_cmp_total (files_of old.entries) (string_bytes name) bytes.items q)
-
-abbrev of_entries : Entries → Calls → Store
-of_entries entries calls = record { files = files_of entries.entries; calls = calls }
-
--- the same of a store
-pub store_put : (old new : Entries) (calls : Calls) (before : Store) (name : String Global) (bytes : Vec ℕ Global) → Updates string_cmp old new name (Some bytes) →
-    of_entries old calls ≡ before → of_entries new calls ≡ record before { files = finite.insert before.files (string_bytes name) bytes.items }
-store_put old new calls before name bytes put is =
-    let changed : Store → Store = λ s. record s { files = finite.insert s.files (string_bytes name) bytes.items } in
-    let with_files : Files → Store = λ files. record { files = files; calls = calls } in
-    ap with_files (file_put old new name bytes put) ∙ ap changed is

@@ -3,7 +3,7 @@ use Rattle.std.specs.Prelude.{◌≡◌, ℕ, ◌-◌, ◌<◌, List, [], ◌++�
 use Rattle.std.specs.Coded.{Coded, code_by, coded×, coded_ℕ, coded_list}
 use Rattle.std.specs.FinMap as finite
 use Rattle.desk_base.specs.Calls.{Calls, IsListed, no_calls, one_more, one_more_failed}
-use Rattle.desk_base.specs.Files.{Files, HasFileOver}
+use Rattle.desk_base.specs.Files.{Files, HasFileOver, files_code}
 
 -- a source: the bytes still to come, how many a call moves at most, and its calls
 pub record Input : Type 0 where
@@ -77,7 +77,7 @@ after_failed_call store = record store { calls = one_more_failed store.calls }
 abbrev pub store_code : Coded Store
 store_code =
     code_by (Files × (ℕ × (List ℕ × ℕ)))
-    (coded× (finite.code (coded_list coded_ℕ) (coded_list coded_ℕ))
+    (coded× files_code
     (coded× coded_ℕ (coded× (coded_list coded_ℕ) coded_ℕ)))
     (λ s. (s.files, (s.calls.made, (s.calls.fail, s.calls.faults))))
     (λ p. record { files = p.0; calls = record { made = p.1.0; fail = p.1.1.0; faults = p.1.1.1 } }) (λ _. refl)

@@ -58,7 +58,7 @@ pub trait Shelf {
     /// The files, by the bytes of their names; `None` where the store does not tell them.
     ghost files: { Self → Option Files };
 
-    /// How often it has failed. The count never falls, and stands still at 2^64 - 1.
+    /// How often it has failed. The count never falls, and stands still at 2^64 - 1. A store of a type that counts 0 whatever happens cannot fail.
     ghost faults: { Self → ℕ };
 
     /// The file of this name, or `None` where there is none. A file of more than `limit` bytes is too long.

@@ -7,27 +7,25 @@ ghost use Rattle.desk_base.specs.Memory.{FindsFileOver, after_call, after_failed
 
 use crate::calls::CallCount;
 use crate::files::{FetchError, KeepError, Shelf};
+use crate::mem_files::MemFiles;
 use std::alloc::{AllocError, Global};
-use std::collections::BTreeMap;
 use std::marker::Model;
 
-/// A store of files in memory.
+/// A store of files in memory, some of whose calls are to fail.
 #[derive(Drop)]
 pub struct MemShelf {
-    files: BTreeMap<String, Vec<u8>>,
+    files: MemFiles,
     calls: CallCount,
 }
 
 impl Model for MemShelf {
-    ghost use Rattle.std.specs.Prelude.{◌≤◌};
-    ghost use Rattle.desk_base.specs.Files.{files_of};
     ghost use Rattle.desk_base.specs.Memory.{Store, store_code};
 
     ghost Value = { Store };
 
     ghost coded = { store_code };
 
-    ghost view = { λ s. record { files = files_of s.files.entries; calls = s.calls } };
+    ghost view = { λ s. record { files = s.files; calls = s.calls } };
 }
 
 impl MemShelf {
@@ -37,7 +35,7 @@ impl MemShelf {
         ensures { result ≡ record { files = no_files; calls = no_calls fail.items } }
     {
         MemShelf {
-            files: BTreeMap::new(alloc),
+            files: MemFiles::new(alloc),
             calls: CallCount::new(fail),
         }
     }
@@ -46,10 +44,7 @@ impl MemShelf {
     pub fn file(&self, name: &str) -> Option<&[u8]>
         ensures { option_copied result ≡ map.get self.now.files name.now }
     {
-        match self.files.get(name) {
-            Some(bytes) => Some(bytes.as_slice()),
-            None => None,
-        }
+        self.files.file(name)
     }
 
     /// Gives the file of this name these bytes, in place of what it had. No call is counted.
@@ -57,8 +52,7 @@ impl MemShelf {
         ensures ok { OnOk result (self.new ≡ with_file self.old (string_bytes name) bytes.items) }
         ensures err { OnErr result (self.new ≡ self.old) }
     {
-        let _ = self.files.insert(name, bytes)?;
-        Ok(())
+        self.files.set_file(name, bytes)
     }
 }
 
@@ -91,13 +85,7 @@ impl Shelf for MemShelf {
         if self.calls.fails() {
             return Err(FetchError::Failed);
         }
-        let Some(bytes) = self.file(name) else {
-            return Ok(None);
-        };
-        if bytes.len() > limit {
-            return Err(FetchError::TooLong);
-        }
-        Ok(Some(Vec::from_slice(alloc, bytes)?))
+        self.files.fetch(alloc, name, limit)
     }
 
     /// Where it fails, and where there is no memory, no file changes.
@@ -115,9 +103,6 @@ impl Shelf for MemShelf {
         if self.calls.fails() {
             return Err(KeepError::Failed);
         }
-        let name = String::from_str(alloc, name)?;
-        let bytes = Vec::from_slice(alloc, bytes)?;
-        self.set_file(name, bytes)?;
-        Ok(())
+        self.files.keep(alloc, name, bytes)
     }
 }

@@ -10,7 +10,7 @@ pub trait Sink {
     /// The bytes written so far; `None` where the sink does not tell them.
     ghost written: { Self → Option (List ℕ) };
 
-    /// How often it has failed. The count never falls, and stands still at 2^64 - 1.
+    /// How often it has failed. The count never falls, and stands still at 2^64 - 1. A sink of a type that counts 0 whatever happens cannot fail.
     ghost faults: { Self → ℕ };
 
     /// Appends a front of the piece, which is not empty unless the piece is, and says how long it is.

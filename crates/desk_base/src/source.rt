@@ -11,7 +11,7 @@ pub trait Source {
     /// The bytes still to come; `None` where the source does not tell them.
     ghost left: { Self → Option (List ℕ) };
 
-    /// How often it has failed. The count never falls, and stands still at 2^64 - 1.
+    /// How often it has failed. The count never falls, and stands still at 2^64 - 1. A source of a type that counts 0 whatever happens cannot fail.
     ghost faults: { Self → ℕ };
 
     /// Moves the next bytes to the front of the buffer, and says how many. 0 into a buffer that is not empty is the end of the input.

@@ -2,45 +2,9 @@
 //! the answer to the standard output.
 #![tactic(auto)]
 
-mod folder;
-mod program;
-mod standard;
-
-use folder::FolderShelf;
-use program::{WordsError, exit_of, perform};
-use standard::{StdSink, StdSource};
-use std::alloc::AllocError;
+use mate_ports::{FolderShelf, StdSink, StdSource, WordsError, exit_of, perform};
 use std::process::ExitCode;
 use std::{env, io};
-
-impl From<AllocError> for WordsError {
-    ghost use Rattle.std.specs.Prelude.{◌≡◌};
-    ghost use Rattle.mate_main.specs.declared.program.WordsError.TheVariants.{Memory};
-
-    ghost from_gives = { λ _ why. why ≡ Memory };
-
-    fn from(_error: AllocError) -> Self {
-        WordsError::Memory
-    }
-}
-
-impl From<io::Error> for WordsError {
-    ghost use Rattle.std.specs.Prelude.{◌≡◌, ◌↔◌};
-    ghost use Rattle.std.specs.IoError.{error_kind};
-    ghost use Rattle.std.specs.declared.io.ErrorKind.TheVariants.{OutOfMemory};
-    ghost use Rattle.mate_main.specs.declared.program.WordsError.TheVariants.{Memory};
-
-    // Memory is what is wanting exactly where the system says so.
-    ghost from_gives = { λ error why. (why ≡ Memory) ↔ (error_kind error ≡ OutOfMemory) };
-
-    fn from(error: io::Error) -> Self {
-        if error.kind() == io::ErrorKind::OutOfMemory {
-            WordsError::Memory
-        } else {
-            WordsError::Untold
-        }
-    }
-}
 
 /// The words behind the program's name.
 fn words_of(rt: &HostRuntime) -> Result<Vec<String>, WordsError> {

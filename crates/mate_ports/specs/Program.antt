@@ -1,21 +1,19 @@
 -- How the program ends where there are no words.
-use Rattle.std.specs.Prelude.{◌≡◌, ℕ, List, [], MatchResult, Option, Result, Some, String, Vec}
+use Rattle.std.specs.Prelude.{◌≡◌, ℕ, List, [], MatchResult, Option, Result, String, Vec}
 use Rattle.std.specs.declared.alloc.Global.{Global}
 use Rattle.desk_base.specs.Lent.{Lent, all_new, all_old}
 use Rattle.desk_base.specs.declared.files.Shelf.{Ghosts as ShelfModel}
 use Rattle.desk_base.specs.declared.sink.Sink.{Ghosts as SinkModel}
 use Rattle.desk_base.specs.declared.source.Source.{Ghosts as SourceModel}
 use Rattle.desk_words.specs.Order.{texts, usage_line}
-use Rattle.desk_base.specs.Memory.{Store}
-use Rattle.desk_report.specs.Outcome.{Seen, Writes, WriteFailed, seen_of}
+use Rattle.desk_report.specs.Outcome.{Seen, Writes, WriteFailed}
 use Rattle.desk_report.specs.Ports.{ports_seen}
 use Rattle.desk_words.specs.declared.order.UsageWhy.TheVariants as usage
 use Rattle.desk_report.specs.declared.status.Status.{Status}
 use Rattle.desk_report.specs.declared.status.Status.TheVariants as is
 use Rattle.mate_desk.specs.Run.{RunEnds}
-use Rattle.mate_main.specs.declared.program.Ran.{Ran}
-use Rattle.mate_main.specs.declared.program.WordsError.{WordsError}
-use Rattle.mate_main.specs.declared.program.WordsError.TheVariants.{Memory, Untold}
+use Rattle.mate_ports.specs.declared.program.WordsError.{WordsError}
+use Rattle.mate_ports.specs.declared.program.WordsError.TheVariants.{Memory, Untold}
 
 -- Where there is no memory for the words nothing is written. Where they are no text, they are refused as an unknown
 -- command is.
@@ -41,12 +39,3 @@ abbrev pub ProgramEndsOn : {S K H : Type 0} → SourceModel S → SinkModel K �
     → Result (Vec (String Global) Global) WordsError → Status → (ports : Lent S × Lent K × Lent H) → Type 0
 ProgramEndsOn s k h words status ports =
     ProgramEnds words status (ports_seen s k h (all_old ports)) (ports_seen s k h (all_new ports))
-
--- what is seen of bytes and a store in memory, of which all is told
-abbrev pub memory_seen : (left written : List ℕ) → Store → (reads writes : ℕ) → Seen
-memory_seen left written store reads writes =
-    seen_of (Some left) (Some written) (Some store.files) reads writes store.calls.faults
-
--- what is seen of them after a run
-abbrev pub ran_seen : Ran → Seen
-ran_seen ran = memory_seen ran.rest.now ran.output.items ran.shelf ran.read_faults ran.write_faults

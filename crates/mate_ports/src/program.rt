@@ -1,15 +1,18 @@
 //! What the program does with its words and its ports.
 
-ghost use Rattle.std.specs.Prelude.{◌≡◌};
+ghost use Rattle.std.specs.Prelude.{◌≡◌, IfOk};
 ghost use Rattle.std.specs.Process.{exit_status};
 ghost use Rattle.desk_report.specs.Codes.{code_of};
 ghost use Rattle.desk_report.specs.Ports.{OnSink};
-ghost use Rattle.mate_main.specs.Program.{ProgramEnds, ProgramEndsOn, RefusesWords, memory_seen, ran_seen};
+ghost use Rattle.mate_desk.specs.Faultless.{held};
+ghost use Rattle.mate_ports.specs.InMemory.{ProgramEndsExactly};
+ghost use Rattle.mate_ports.specs.Program.{ProgramEndsOn, RefusesWords};
 
-use crate::standard::{StdSink, StdSource};
-use desk_base::{MemShelf, Shelf, Sink, Source, put_all};
+use crate::standard::StdSink;
+use desk_base::{MemFiles, Shelf, Sink, Source, put_all};
 use mate_desk::{Status, UsageWhy, run};
-use std::alloc::Global;
+use std::alloc::{AllocError, Global};
+use std::io;
 use std::process::ExitCode;
 
 /// Why there are no words.
@@ -19,6 +22,35 @@ pub enum WordsError {
     Memory,
     /// One of them is not text, or the system does not tell them.
     Untold,
+}
+
+impl From<AllocError> for WordsError {
+    ghost use Rattle.std.specs.Prelude.{◌≡◌};
+    ghost use Rattle.mate_ports.specs.declared.program.WordsError.TheVariants.{Memory};
+
+    ghost from_gives = { λ _ why. why ≡ Memory };
+
+    fn from(_error: AllocError) -> Self {
+        WordsError::Memory
+    }
+}
+
+impl From<io::Error> for WordsError {
+    ghost use Rattle.std.specs.Prelude.{◌≡◌, ◌↔◌};
+    ghost use Rattle.std.specs.IoError.{error_kind};
+    ghost use Rattle.std.specs.declared.io.ErrorKind.TheVariants.{OutOfMemory};
+    ghost use Rattle.mate_ports.specs.declared.program.WordsError.TheVariants.{Memory};
+
+    // Memory is what is wanting exactly where the system says so.
+    ghost from_gives = { λ error why. (why ≡ Memory) ↔ (error_kind error ≡ OutOfMemory) };
+
+    fn from(error: io::Error) -> Self {
+        if error.kind() == io::ErrorKind::OutOfMemory {
+            WordsError::Memory
+        } else {
+            WordsError::Untold
+        }
+    }
 }
 
 /// The body of the program: does what the words say. Where there are none, nothing is read.
@@ -59,34 +91,33 @@ pub struct Ran<'a> {
     /// The output, behind what it had before.
     pub output: Vec<u8>,
     /// The files that it leaves.
-    pub shelf: MemShelf,
-    pub read_faults: u64,
-    pub write_faults: u64,
+    pub files: MemFiles,
 }
 
-/// The body of the program over a slice as its input, a vector as its output and a store in memory, of which all is told.
+/// The body of the program over a slice as its input, a vector as its output and files in memory. None of the three fails but the vector, for want of
+/// memory for the output, and then there is no answer.
 pub fn perform_in_memory<'a>(
     words: Result<Vec<String>, WordsError>,
     input: &'a [u8],
     output: Vec<u8>,
-    mut shelf: MemShelf,
+    mut files: MemFiles,
     alloc: Global,
-) -> Ran<'a>
-    ensures { ProgramEnds words result.status (memory_seen input.now output.items shelf 0 0) (ran_seen result) }
+) -> Result<Ran<'a>, AllocError>
+    ensures exact { IfOk result (ProgramEndsExactly words (held input.now output.items files)) }
 {
-    let mut source = StdSource::new(input);
+    let mut rest = input;
     let mut sink = StdSink::new(output);
-    let status = perform(words, &mut source, &mut sink, &mut shelf, alloc);
-    let (rest, read_faults) = source.into_parts();
+    let status = perform(words, &mut rest, &mut sink, &mut files, alloc);
     let (output, write_faults) = sink.into_parts();
-    Ran {
+    if write_faults > 0 {
+        return Err(AllocError);
+    }
+    Ok(Ran {
         status,
         rest,
         output,
-        shelf,
-        read_faults,
-        write_faults,
-    }
+        files,
+    })
 }
 
 /// The status that the process ends with.

@@ -1,6 +1,6 @@
 use Rattle.std.proofs.Common.{◌<◌, length, arith}
-use Rattle.mate_main.proofs.Fronts.{whole_front}
-use Rattle.mate_main.proofs.folder.read_whole.Goals as goal
+use Rattle.mate_ports.proofs.Fronts.{whole_front}
+use Rattle.mate_ports.proofs.folder.read_whole.Goals as goal
 
 pub returns-clause-all : goal.returns-clause-all
 returns-clause-all g c =

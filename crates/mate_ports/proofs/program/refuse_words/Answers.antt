@@ -1,6 +1,6 @@
 use Rattle.std.proofs.Common.{refl}
 use Rattle.desk_report.proofs.Writing.{fault_line}
-use Rattle.mate_main.proofs.program.refuse_words.Goals as goal
+use Rattle.mate_ports.proofs.program.refuse_words.Goals as goal
 
 pub returns-in-Untold : goal.returns-in-Untold
 returns-in-Untold g c =

@@ -1,0 +1,20 @@
+//! A slice as a source.
+
+ghost use Rattle.std.specs.Prelude.{Some};
+
+use crate::source::{Failed, Source};
+use std::io::Read;
+
+/// The bytes of the slice, which then begins behind those that were taken. It does not fail.
+impl Source for &[u8] {
+    ghost left = { λ s. Some s.now };
+
+    ghost faults = { λ _. 0 };
+
+    fn take(&mut self, buffer: &mut [u8]) -> Result<usize, Failed> {
+        match self.read(buffer) {
+            Ok(count) => Ok(count),
+            Err(_) => Err(Failed),
+        }
+    }
+}

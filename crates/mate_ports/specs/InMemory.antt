@@ -1,0 +1,37 @@
+-- How the program ends over bytes in memory.
+use Rattle.std.specs.Prelude.{◌≡◌, List, ℕ, ◌++◌, [], MatchResult, Result, String, Vec}
+use Rattle.std.specs.declared.alloc.Global.{Global}
+use Rattle.desk_words.specs.Order.{texts, usage_line}
+use Rattle.desk_words.specs.declared.order.UsageWhy.TheVariants.{Unknown}
+use Rattle.desk_report.specs.declared.status.Status.{Status}
+use Rattle.desk_report.specs.declared.status.Status.TheVariants as is
+use Rattle.mate_desk.specs.Faultless.{EndsExactly, Held, held}
+use Rattle.mate_ports.specs.declared.program.Ran.{Ran}
+use Rattle.mate_ports.specs.declared.program.WordsError.{WordsError}
+use Rattle.mate_ports.specs.declared.program.WordsError.TheVariants as words_error
+
+-- the status where there are no words, and what is written then
+abbrev pub status_without : WordsError → Status
+status_without words_error.Memory = is.Memory
+status_without words_error.Untold = is.Usage
+
+abbrev pub line_without : WordsError → List ℕ
+line_without words_error.Memory = []
+line_without words_error.Untold = usage_line Unknown
+
+-- A run without words writes why, if that is to be written, reads nothing, and leaves the files alone.
+pub record RefusesExactly (why : WordsError) (status : Status) (old new : Held) : Type 0 where
+  pub refused : status ≡ status_without why
+  pub input : new.input ≡ old.input
+  pub output : new.output ≡ old.output ++ line_without why
+  pub files : new.files ≡ old.files
+
+-- what the three hold after a run
+abbrev pub ran_held : Ran → Held
+ran_held ran = held ran.rest.now ran.output.items ran.files
+
+-- how the program ends, by its words or by why there are none
+abbrev pub ProgramEndsExactly : Result (Vec (String Global) Global) WordsError → Held → Ran → Type 0
+ProgramEndsExactly words old ran =
+    MatchResult words (λ given. EndsExactly (texts given.items) ran.status old (ran_held ran))
+    (λ why. RefusesExactly why ran.status old (ran_held ran))
