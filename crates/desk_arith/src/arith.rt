@@ -146,7 +146,7 @@ fn field_line(number: u32) -> LineBuffer
     line
 }
 
-/// The line that names a step that needs more states than the budget.
+/// The line that names a step that is past the budget.
 fn step_line(step: u32) -> LineBuffer
     ensures { result ≡ specs.step_line step }
 {

@@ -32,7 +32,7 @@ pub struct RayStep {
 /// Why rays are not described.
 #[derive(Clone, Copy)]
 pub enum DescribeError {
-    /// The step needs more states than the budget.
+    /// The step is past the budget.
     Over(RayStep),
     /// Memory ran out.
     Memory,
@@ -63,7 +63,7 @@ pub fn print_stop<K: Sink>(sink: &mut K, error: DescribeError) -> Status
     }
 }
 
-/// The line that names a step that needs more states than the budget.
+/// The line that names a step that is past the budget.
 fn ray_step_line(step: RayStep) -> LineBuffer
     ensures { result ≡ specs.ray_step_line step }
 {

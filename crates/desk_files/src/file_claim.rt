@@ -38,7 +38,7 @@ pub enum NoClaim {
     Extra(u64),
     /// The first rule that the claim does not keep.
     NotKept(RuleAt),
-    /// The first step of the plan that checks the claim that needs more states than the budget.
+    /// The first step past the budget of the plan that checks the claim.
     Over(StepName),
     /// There is no memory for the file or for its claim.
     Memory,

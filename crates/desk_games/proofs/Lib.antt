@@ -1,3 +1,4 @@
+mod Defended
 pub mod Playing
 pub mod Resuming
 pub mod Rows

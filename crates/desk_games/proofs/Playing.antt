@@ -12,15 +12,16 @@ use Rattle.desk_base.specs.Moves.{AppendsFront}
 use Rattle.game_rules.specs.Game.{Value}
 use Rattle.chess_text.specs.PositionText.{text_of_lines}
 use Rattle.chess_game.specs.declared.way.Frame.{Frame}
-use Rattle.game_report.specs.Laws.{seen, strategy_by}
-use Rattle.game_report.specs.Played.{IsDue, IsPlayed, Ports, is_short}
-use Rattle.game_report.specs.GameReport.{IsReport, Match, ending_line}
-use Rattle.game_report.specs.GameReport as game
+use Rattle.game_report.specs.WinnerRules.{Match, seen, strategy_by, winner_rules}
+use Rattle.line_game.specs.LineReport.{IsReport, LineReport, ending_line}
+use Rattle.line_game.specs.Played.{IsDue, IsPlayed, Ports, is_short}
+use Rattle.line_game.specs.Turns.{Rules}
+use Rattle.move_choice.specs.Squares.{all_squares}
 use Rattle.desk_text.specs.Taken.{TakesLines}
-use Rattle.game_report.specs.declared.play.Ending.{Ending}
-use Rattle.game_report.specs.declared.play.Ending.TheVariants.{Mated, Wide, Quit, NoLine, Many, CutAt, LongAt}
-use Rattle.game_report.specs.declared.play.GameError.{GameError}
-use Rattle.game_report.specs.declared.play.GameError.TheVariants.{Read, Write}
+use Rattle.line_game.specs.declared.ending.Ending.{Ending}
+use Rattle.line_game.specs.declared.ending.Ending.TheVariants.{Mated, Held, Stuck, Wide, Quit, NoLine, Many, CutAt, LongAt}
+use Rattle.line_game.specs.declared.play.GameError.{GameError}
+use Rattle.line_game.specs.declared.play.GameError.TheVariants.{Read, Write}
 use Rattle.game_session.specs.Game.{Game, start_of}
 use Rattle.winning_sets.specs.Claimed.{claim_of}
 use Rattle.winning_sets.specs.Solve.{IsOf, Solution}
@@ -52,31 +53,33 @@ later_risen : (before between after : ℕ) → before ≤ between → HasRisen b
 later_risen before between after le risen = omega (arith, le, risen)
 
 -- the game of a session that begins with a solved problem
-pub seen_first : (problem : Problem) (n : ℕ) (s : Solution) (f : Frame) (g : Game) → IsOf problem.position problem.winner n s → g ≡ start_of s f → seen g ≡ first_match n problem
-seen_first problem n s f g of is = ap seen is ∙ (λ i. record {
+pub seen_first : (problem : Problem) (n : ℕ) (s : Solution) (f : Frame) (g : Game) → IsOf problem.position problem.winner n s → f ≡ all_squares → g ≡ start_of s f → seen g ≡ first_match n problem
+seen_first problem n s f g of whole is = ap seen is ∙ (λ i. record {
   winner = of.winner_is i;
   start = of.position i;
   moves = of.moves_are i;
   strategy = strategy_by (of.origin i) s;
+  frame = whole i;
   position = of.position i;
   ply = 0;
 })
 
 -- and of one that begins with the sets of a claim
-pub seen_claimed : (s : Solution) (f : Frame) (g : Game) → s.origin ≡ origin.Claim → g ≡ start_of s f → seen g ≡ claimed_match (claim_of s)
-seen_claimed s f g by is = ap seen is ∙ (λ i. record {
+pub seen_claimed : (s : Solution) (f : Frame) (g : Game) → s.origin ≡ origin.Claim → f ≡ all_squares → g ≡ start_of s f → seen g ≡ claimed_match (claim_of s)
+seen_claimed s f g by whole is = ap seen is ∙ (λ i. record {
   winner = s.winner;
   start = s.position;
   moves = s.moves;
   strategy = strategy_by (by i) s;
+  frame = whole i;
   position = s.position;
   ply = 0;
 })
 
 -- so it is the game that was played
-pub same_played : (number : ℕ) (answer : Result Ending GameError) (g first after : Match) {old new : Ports} → g ≡ first
-    → IsPlayed answer number g after old new → IsPlayed answer number first after old new
-same_played number answer g first after {old} {new} is played = let P : Match → Type 0 = λ m. IsPlayed answer number m after old new in subst P is played
+pub same_played : {G : Type 0} (rules : Rules G) (number : ℕ) (answer : Result Ending GameError) (g first after : G) {old new : Ports} → g ≡ first
+    → IsPlayed rules answer number g after old new → IsPlayed rules answer number first after old new
+same_played {G} rules number answer g first after {old} {new} is played = let P : G → Type 0 = λ m. IsPlayed rules answer number m after old new in subst P is played
 
 -- what is reported of lines, and where memory may be wanting and the shelf may fail after some bytes
 module _ (reports : Lines → Report → Type 0) (may_lack : List ℕ → Type 0) (may_miss : List ℕ → Option (List ℕ) → Type 0) (files : Files) where
@@ -101,9 +104,9 @@ module _ (reports : Lines → Report → Type 0) (may_lack : List ℕ → Type 0
               (at_sink files old new refl refl status says lacks ends);
         }
 
-  module _ (number : ℕ) (g : Match) (says : (lines : Lines) (played : game.GameReport) → IsReport number lines g played → reports lines (as_played files played)) where
+  module _ {G : Type 0} (rules : Rules G) (number : ℕ) (g : G) (says : (lines : Lines) (played : LineReport G) → IsReport rules number lines g played → reports lines (as_played files played)) where
     -- each line that the game has read was due
-    replies_due : (held pending : List ℕ) → TakesLines (IsDue number g) held pending → TakesLines (IsDueBy reports) held pending
+    replies_due : (held pending : List ℕ) → TakesLines (IsDue rules number g) held pending → TakesLines (IsDueBy reports) held pending
     replies_due held pending t = record {
       lines = t.lines;
       are_lines = t.are_lines;
@@ -115,6 +118,8 @@ module _ (reports : Lines → Report → Type 0) (may_lack : List ℕ → Type 0
     done_as : (ending : Ending) (due : Report → Type 0) (lacks : Type 0) (misses : Option (List ℕ) → Type 0) (report : Report) (old new : Seen)
         → due report → DoesReport (status_of ending) report old new → RunEndsAs (status_of ending) due lacks misses old new
     done_as Mated due lacks misses report old new right does = (report, right, does)
+    done_as Held due lacks misses report old new right does = (report, right, does)
+    done_as Stuck due lacks misses report old new right does = (report, right, does)
     done_as Wide due lacks misses report old new right does = (report, right, does)
     done_as Quit due lacks misses report old new right does = (report, right, does)
     done_as NoLine due lacks misses report old new right does = (report, right, does)
@@ -124,6 +129,8 @@ module _ (reports : Lines → Report → Type 0) (may_lack : List ℕ → Type 0
 
     on_all : (ending : Ending) (taken rest : List ℕ) → reported_on (status_of ending) taken rest ≡ taken ++ rest
     on_all Mated taken rest = refl
+    on_all Held taken rest = refl
+    on_all Stuck taken rest = refl
     on_all Wide taken rest = refl
     on_all Quit taken rest = refl
     on_all NoLine taken rest = refl
@@ -131,7 +138,7 @@ module _ (reports : Lines → Report → Type 0) (may_lack : List ℕ → Type 0
     on_all (CutAt line) taken rest = refl
     on_all (LongAt line) taken rest = refl
 
-    module _ (held pending : List ℕ) (after : Match) (left_old left_new before between done : Option (List ℕ)) (reads later_reads writes later_writes last_writes : ℕ) where
+    module _ (held pending : List ℕ) (after : G) (left_old left_new before between done : Option (List ℕ)) (reads later_reads writes later_writes last_writes : ℕ) where
       abbrev old : Seen
       old = of_streams files left_old before reads writes
 
@@ -143,10 +150,10 @@ module _ (reports : Lines → Report → Type 0) (may_lack : List ℕ → Type 0
 
       abbrev Played : Result Ending GameError → Type 0
       Played answer =
-          IsPlayed answer number g after (record { pending = held; left = left_old; written = before }) (record { pending = pending; left = left_new; written = between })
+          IsPlayed rules answer number g after (record { pending = held; left = left_old; written = before }) (record { pending = pending; left = left_new; written = between })
 
       -- what is written after the game comes behind its text
-      writes_both : (report : game.GameReport) (line : List ℕ) → Appends before between report.text → writes ≤ later_writes
+      writes_both : (report : LineReport G) (line : List ℕ) → Appends before between report.text → writes ≤ later_writes
           → Writes [] line between done (HasRisen later_writes last_writes) → Writes report.text line before done (HasRisen writes last_writes)
       writes_both report line wrote never_falls wrote_line =
           then_line report.text before (HasRisen writes last_writes) wrote (later_risen writes later_writes last_writes never_falls) wrote_line
@@ -218,6 +225,6 @@ module _ (reports : Lines → Report → Type 0) (may_lack : List ℕ → Type 0
 
 -- the game that `play` reports
 pub reports_game : (n budget : ℕ) (problem : Problem) (files : Files) → FitsBudget problem budget n → Value problem.winner n problem.position
-    → (lines : Lines) (played : game.GameReport) → IsReport problem.lines lines (first_match n problem) played
+    → (lines : Lines) (played : LineReport Match) → IsReport winner_rules problem.lines lines (first_match n problem) played
     → PlayReports n budget problem lines files (as_played files played)
 reports_game n budget problem files fits value lines played right = inr (fits, inr (value, (played, right, refl)))

@@ -13,7 +13,9 @@ use Rattle.desk_base.specs.Lines.{IsLine, Lines, lines_of}
 use Rattle.game_rules.specs.Game.{Position, Value}
 use Rattle.game_rules.specs.declared.men.Side.{Side}
 use Rattle.game_report.proofs.Alike.{by_claim, report_alike, report_by}
-use Rattle.game_report.specs.GameReport.{ByClaim, IsReport, Match}
+use Rattle.game_report.specs.WinnerRules.{ByClaim, Match, winner_rules}
+use Rattle.line_game.specs.LineReport.{IsReport}
+use Rattle.move_choice.specs.Squares.{all_squares}
 use Rattle.chess_text.specs.PositionText.{text_of_lines}
 use Rattle.mate_plan.specs.Claim.{Claim}
 use Rattle.mate_plan.specs.Won.{Won}
@@ -52,16 +54,17 @@ module _ (budget : ℕ) (name : List ℕ) (files : Files) (s : Solution) (h : Ha
   same_game lines report (played, right, is') =
       let same = same_claims_are_checked_alike c (claim_of s) h.same in
       let first : Match = claimed_match (claim_of s) in
-      let other : IsReport 0 lines (by_claim c first) (report_by c played) = report_alike (claim_of s) c (λ ply q. ((same.positions ply q).1, (same.positions ply q).0)) 0 lines first played right in
+      let other : IsReport winner_rules 0 lines (by_claim c first) (report_by c played) = report_alike (claim_of s) c (λ ply q. ((same.positions ply q).1, (same.positions ply q).0)) 0 lines first played right in
       let start : by_claim c first ≡ claimed_match c = λ i. record {
         winner = sym h.same.winner i;
         start = sym h.same.position i;
         moves = sym h.same.moves i;
         strategy = ByClaim c;
+        frame = all_squares;
         position = sym h.same.position i;
         ply = 0;
       } in
-      let P : Match → Type 0 = λ g. IsReport 0 lines g (report_by c played) in
+      let P : Match → Type 0 = λ g. IsReport winner_rules 0 lines g (report_by c played) in
       (report_by c played, subst P start other, is')
 
   says_game : (lines : Lines) (report : Report) → GameReports lines files (claim_of s) report → ResumeReports budget lines name files report

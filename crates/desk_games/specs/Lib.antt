@@ -1,2 +1,3 @@
+pub mod Defend
 pub mod Play
 pub mod Resume

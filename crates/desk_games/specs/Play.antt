@@ -7,13 +7,14 @@ use Rattle.desk_base.specs.Reading.{Reading}
 use Rattle.desk_base.specs.declared.sink.Sink.{Ghosts as SinkModel}
 use Rattle.desk_base.specs.declared.source.Source.{Ghosts as SourceModel}
 use Rattle.game_rules.specs.Game.{Value}
-use Rattle.game_report.specs.Played.{is_short}
-use Rattle.game_report.specs.GameReport.{ByKept, IsReport, Match, ending_line}
-use Rattle.game_report.specs.GameReport as game
-use Rattle.game_report.specs.declared.play.Ending.{Ending}
-use Rattle.game_report.specs.declared.play.Ending.TheVariants.{Mated, Wide, Quit, NoLine, Many, CutAt, LongAt}
-use Rattle.game_report.specs.declared.play.GameError.{GameError}
-use Rattle.game_report.specs.declared.play.GameError.TheVariants.{Read, Write}
+use Rattle.game_report.specs.WinnerRules.{ByKept, Match, winner_rules}
+use Rattle.line_game.specs.LineReport.{IsReport, LineReport, ending_line}
+use Rattle.line_game.specs.Played.{is_short}
+use Rattle.line_game.specs.declared.ending.Ending.{Ending}
+use Rattle.line_game.specs.declared.ending.Ending.TheVariants.{Mated, Held, Stuck, Wide, Quit, NoLine, Many, CutAt, LongAt}
+use Rattle.line_game.specs.declared.play.GameError.{GameError}
+use Rattle.line_game.specs.declared.play.GameError.TheVariants.{Read, Write}
+use Rattle.move_choice.specs.Squares.{all_squares}
 use Rattle.desk_report.specs.ByLines.{EndsByLines}
 use Rattle.desk_report.specs.Outcome.{NeverMisses, Report, Seen, Writes, done_with}
 use Rattle.desk_report.specs.Ports.{streams_seen}
@@ -31,6 +32,7 @@ first_match n problem =
       start = problem.position;
       moves = n;
       strategy = ByKept;
+      frame = all_squares;
       position = problem.position;
       ply = 0;
     }
@@ -38,6 +40,8 @@ first_match n problem =
 -- the status of a run whose game ends so
 abbrev pub status_of : Ending → Status
 status_of Mated = is.Done
+status_of Held = is.Done
+status_of Stuck = is.Done
 status_of Wide = is.Wide
 status_of Quit = is.Ended
 status_of NoLine = is.Ended
@@ -46,7 +50,7 @@ status_of (CutAt number) = is.Text
 status_of (LongAt number) = is.Text
 
 -- a run that reports a game, and leaves these files
-abbrev pub as_played : Files → game.GameReport → Report
+abbrev pub as_played : {G : Type 0} → Files → LineReport G → Report
 as_played files played =
     record {
       status = status_of played.ending;
@@ -62,7 +66,7 @@ abbrev pub PlayedReports : ℕ → Problem → Lines → Files → Report → Ty
 PlayedReports n problem lines files report =
     ((Value problem.winner n problem.position → ⊥) × (report ≡ done_with files (no_mate_line n)))
     ⊎ (Value problem.winner n problem.position
-    × ((played : game.GameReport) × IsReport problem.lines lines (first_match n problem) played
+    × ((played : LineReport Match) × IsReport winner_rules problem.lines lines (first_match n problem) played
     × (report ≡ as_played files played)))
 
 -- the same, or the first step that exceeds the budget

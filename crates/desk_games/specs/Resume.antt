@@ -6,9 +6,10 @@ use Rattle.desk_base.specs.Lines.{Lines}
 use Rattle.desk_base.specs.declared.files.Shelf.{Ghosts as ShelfModel}
 use Rattle.desk_base.specs.declared.sink.Sink.{Ghosts as SinkModel}
 use Rattle.desk_base.specs.declared.source.Source.{Ghosts as SourceModel}
-use Rattle.game_report.specs.GameReport.{ByClaim, IsReport, Match}
-use Rattle.game_report.specs.GameReport as game
+use Rattle.game_report.specs.WinnerRules.{ByClaim, Match, winner_rules}
+use Rattle.line_game.specs.LineReport.{IsReport, LineReport}
 use Rattle.mate_plan.specs.Claim.{Claim}
+use Rattle.move_choice.specs.Squares.{all_squares}
 use Rattle.winning_sets.specs.Claimed.{claim_of}
 use Rattle.winning_sets.specs.Solve.{Solution}
 use Rattle.desk_files.specs.FileClaim.{MissesFetch, OfChecked, OnFiles}
@@ -27,6 +28,7 @@ claimed_match c =
       start = c.position;
       moves = c.moves;
       strategy = ByClaim c;
+      frame = all_squares;
       position = c.position;
       ply = 0;
     }
@@ -34,7 +36,7 @@ claimed_match c =
 -- the game with these lines that is played by a claim
 abbrev pub GameReports : Lines → Files → Claim → Report → Type 0
 GameReports lines files c report =
-    (played : game.GameReport) × IsReport 0 lines (claimed_match c) played × (report ≡ as_played files played)
+    (played : LineReport Match) × IsReport winner_rules 0 lines (claimed_match c) played × (report ≡ as_played files played)
 
 -- the game by the claim of the file of the name, or the first reason why there is none
 abbrev pub ResumeReports : (budget : ℕ) → Lines → (name : List ℕ) → Files → Report → Type 0

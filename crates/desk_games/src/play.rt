@@ -2,7 +2,7 @@
 
 ghost use Rattle.std.specs.Prelude.{◌≡◌, ◌≤◌, [], length};
 ghost use Rattle.desk_base.specs.Reading.{GoesOn};
-ghost use Rattle.game_report.specs.GameReport.{ending_line};
+ghost use Rattle.line_game.specs.LineReport.{ending_line};
 ghost use Rattle.desk_report.specs.Outcome.{Writes};
 ghost use Rattle.desk_report.specs.Ports.{OnSink};
 ghost use Rattle.desk_games.specs.Play.{Finishes, PlayEndsOn, status_of};
@@ -13,8 +13,9 @@ use desk_base::{LineReader, Sink, Source};
 use desk_report::{Status, print, refusal_line, refuse};
 use desk_text::{LineWhy, Task};
 use desk_verdict::{ProblemSolver, print_error, verdict_line};
-use game_report::{Ending, GameError, play_game};
+use game_report::Winner;
 use game_session::Session;
+use line_game::{Ending, GameError, play_game};
 use std::alloc::Global;
 
 /// Writes the game that the winner plays, whose replies are read behind the text, or that he does not mate within so many moves.
@@ -35,8 +36,9 @@ pub fn play<S: Source, K: Sink>(
     let mut solver = ProblemSolver::new(alloc, &task.problem, task.budget);
     match solver.mates_within(task.moves) {
         Ok(Some(solved)) => match Session::begin(alloc, solved, Frame::whole()) {
-            Ok(mut session) => {
-                let played = play_game(&mut session, reader, source, sink, task.problem.lines);
+            Ok(session) => {
+                let mut winner = Winner::new(session);
+                let played = play_game(&mut winner, reader, source, sink, task.problem.lines);
                 finish(played, sink)
             }
             Err(_) => {
@@ -67,14 +69,14 @@ pub fn finish<K: Sink>(played: Result<Ending, GameError>, sink: &mut K) -> Statu
     }
 }
 
-/// Writes the line that tells of an ending other than mate, as far as the sink takes it.
+/// Writes the line that tells of an ending apart from the text, as far as the sink takes it.
 fn close<K: Sink>(ending: Ending, sink: &mut K) -> Status
     ensures status { result ≡ status_of ending }
     ensures written { OnSink K.Sink (Writes [] (ending_line ending)) sink.old sink.new }
     ensures never_falls { K.faults sink.old ≤ K.faults sink.new }
 {
     match ending {
-        Ending::Mated => Status::Done,
+        Ending::Mated | Ending::Held | Ending::Stuck => Status::Done,
         Ending::Wide => {
             refuse(sink, b"wide\n");
             Status::Wide

@@ -11,8 +11,9 @@ use desk_base::{LineReader, Shelf, Sink, Source};
 use desk_files::{fetch_claim, refuse_file};
 use desk_report::{Status, refuse};
 use desk_text::FileTask;
-use game_report::play_game;
+use game_report::Winner;
 use game_session::Session;
+use line_game::play_game;
 use std::alloc::Global;
 use winning_sets::Solved;
 
@@ -44,9 +45,10 @@ fn play_on<S: Source, K: Sink>(
     ensures ends { GameEndsOn S.Source K.Sink solved result (source, sink) }
 {
     match Session::begin(alloc, solved, Frame::whole()) {
-        Ok(mut session) => {
+        Ok(session) => {
+            let mut winner = Winner::new(session);
             let mut reader = LineReader::new();
-            let played = play_game(&mut session, &mut reader, source, sink, 0);
+            let played = play_game(&mut winner, &mut reader, source, sink, 0);
             finish(played, sink)
         }
         Err(_) => {

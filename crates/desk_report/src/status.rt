@@ -20,7 +20,7 @@ pub enum Status {
     WriteFault,
     /// The shelf has failed.
     ShelfFault,
-    /// A step of the plan needs more states than the budget.
+    /// A step is past the budget.
     Budget,
     /// The winner is to move, and none of his moves to a square of 64 bits keeps the promised count.
     Wide,

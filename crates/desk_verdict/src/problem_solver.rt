@@ -27,7 +27,6 @@ impl ProblemSolver {
         ensures problem { result.problem ≡ problem.now }
         ensures budget { result.budget ≡ budget }
     {
-        let _ = problem.position.count(); // for its invariant
         ProblemSolver {
             problem: *problem,
             budget,

@@ -1,4 +1,4 @@
-//! The line of a step that needs more states than the budget.
+//! The line of a step that is past the budget.
 
 ghost use Rattle.std.specs.Prelude.{◌≡◌, ◌≤◌, length};
 ghost use Rattle.desk_report.specs.Ports.{EndsOnSink};
@@ -27,7 +27,7 @@ pub fn print_error<K: Sink>(sink: &mut K, error: SolveError) -> Status
     }
 }
 
-/// The line that names a step that needs more states than the budget.
+/// The line that names a step that is past the budget.
 pub fn budget_line(step: StepName) -> LineBuffer
     ensures { result ≡ specs.budget_line step }
 {

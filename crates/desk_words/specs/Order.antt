@@ -9,7 +9,7 @@ use Rattle.desk_words.specs.declared.order.TheConstants.{DEFAULT_STATES}
 use Rattle.desk_words.specs.declared.order.Asked.{Asked}
 use Rattle.desk_words.specs.declared.order.Asked.TheVariants as asked
 use Rattle.desk_words.specs.declared.order.Order.{Order}
-use Rattle.desk_words.specs.declared.order.Order.TheVariants.{Decide, Least, First, Describe, Play, Keep, Check, Resume, Migrate, Show, Drill, Arith}
+use Rattle.desk_words.specs.declared.order.Order.TheVariants.{Decide, Least, First, Describe, Play, Defend, Keep, Check, Resume, Migrate, Show, Drill, Arith}
 use Rattle.desk_words.specs.declared.order.TextOrder.{TextOrder}
 use Rattle.desk_words.specs.declared.order.TextOrder.TheVariants as text_orders
 use Rattle.desk_words.specs.declared.order.UsageWhy.{UsageWhy}
@@ -176,6 +176,7 @@ rows =
     ∷ row (codes "first") moves_and_budget (λ asked. First asked.0 asked.1)
     ∷ row (codes "describe") moves_and_budget (λ asked. Describe asked.0 asked.1)
     ∷ row (codes "play") moves_and_budget (λ asked. Play asked.0 asked.1)
+    ∷ row (codes "defend") moves_and_budget (λ asked. Defend asked.0 asked.1)
     ∷ row (codes "keep") moves_name_and_budget (λ asked. Keep asked.0 asked.1)
     ∷ row (codes "show") no_words (λ asked. Show)
     ∷ textless_rows
@@ -211,6 +212,7 @@ as_order (text_orders.Least limit budget) = Least limit budget
 as_order (text_orders.First moves budget) = First moves budget
 as_order (text_orders.Describe moves budget) = Describe moves budget
 as_order (text_orders.Play moves budget) = Play moves budget
+as_order (text_orders.Defend moves budget) = Defend moves budget
 as_order (text_orders.Keep moves budget name) = Keep moves budget
 as_order text_orders.Show = Show
 
@@ -251,6 +253,7 @@ IsWithinLimits (Least limit budget) = limit ≤ MOST_MOVES
 IsWithinLimits (First moves budget) = moves ≤ MOST_MOVES
 IsWithinLimits (Describe moves budget) = moves ≤ MOST_MOVES
 IsWithinLimits (Play moves budget) = moves ≤ MOST_MOVES
+IsWithinLimits (Defend moves budget) = moves ≤ MOST_MOVES
 IsWithinLimits (Keep moves budget) = moves ≤ MOST_MOVES
 IsWithinLimits (Drill seed count) = (seed ≤ most_seed) × (count ≤ most_positions)
 IsWithinLimits order = Unit {0}

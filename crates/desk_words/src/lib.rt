@@ -1,6 +1,7 @@
 //! The words of a command line: the order that they are, or the first reason why they are none (`specs/Order`).
 #![tactic(auto)]
 
+pub mod laws;
 mod order;
 
 pub use order::{Asked, DEFAULT_STATES, Order, TextOrder, UsageWhy, order_of};

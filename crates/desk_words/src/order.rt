@@ -7,7 +7,7 @@ ghost use Rattle.desk_words.specs.Order.{Asks, IsAsked, IsAskedWithin, IsName, I
 
 use limits::{Budget, MOST_MOVES, MOST_STATES};
 
-/// How many states a step may need where no word names a budget.
+/// The budget where no word names one.
 pub const DEFAULT_STATES: u32 = 50_000;
 
 /// The greatest number of positions that can be asked for.
@@ -28,18 +28,20 @@ const NEW_NAME: usize = 2;
 /// What is to be done.
 #[derive(Clone, Copy, PartialEq, Eq)]
 pub enum Order {
-    /// Say whether White mates within so many moves of his own. The budget bounds the states of the automata that decide it.
+    /// Say whether the winner that the text names mates within so many moves of his own. The budget bounds the states of the automata that decide it.
     Decide { moves: u8, budget: Budget },
-    /// Say within how few moves of his own White mates, if he does within so many. The budget is that of each number of moves.
+    /// Say within how few moves of his own the winner mates, if he does within so many. The budget is that of each number of moves.
     Least { limit: u8, budget: Budget },
-    /// Name, ray by ray, the first moves by which White mates within so many moves of his own. The budget is that of `Decide`.
+    /// Name, ray by ray, the first moves by which the winner mates within so many moves of his own. The budget is that of `Decide`.
     First { moves: u8, budget: Budget },
-    /// Describe, ray by ray, at which distances first moves lead to mate within so many moves of his own. The budget is that of `Decide`, of the
+    /// Describe, ray by ray, at which distances the winner's first moves lead to mate within so many moves of his own. The budget is that of `Decide`, of the
     /// formula of each ray, and of the formulas by which periods are tried.
     Describe { moves: u8, budget: Budget },
-    /// Play a game in which White mates within so many moves of his own, whatever is replied. The budget is that of `Decide`.
+    /// Play a game in which the winner mates within so many moves of his own, whatever is replied. The budget is that of `Decide`.
     Play { moves: u8, budget: Budget },
-    /// Keep a file of the sets by which White mates within so many moves of his own, if he does. The budget is that of `Decide`.
+    /// Play the loser in a game in which the winner does not mate within so many moves of his own, whatever he plays. The budget is that of `Decide`.
+    Defend { moves: u8, budget: Budget },
+    /// Keep a file of the sets by which the winner mates within so many moves of his own, if he does. The budget is that of `Decide`.
     Keep { moves: u8, budget: Budget },
     /// Check the file of a name, and say within how many moves it mates. The budget is that of the plan that checks its claim.
     Check { budget: Budget },
@@ -75,6 +77,10 @@ pub enum TextOrder<'a> {
         budget: Budget,
     },
     Play {
+        moves: u8,
+        budget: Budget,
+    },
+    Defend {
         moves: u8,
         budget: Budget,
     },
@@ -119,6 +125,7 @@ impl Order {
                 Asked::Text(TextOrder::Describe { moves, budget })
             }
             Order::Play { moves, budget } => Asked::Text(TextOrder::Play { moves, budget }),
+            Order::Defend { moves, budget } => Asked::Text(TextOrder::Defend { moves, budget }),
             Order::Keep { moves, budget } => {
                 let name = word_at(words, KEEP_NAME);
                 Asked::Text(TextOrder::Keep {
@@ -202,6 +209,7 @@ fn order_named(name: &str, words: &[String]) -> Result<Order, UsageWhy>
         b"first" => first_order(words),
         b"describe" => describe_order(words),
         b"play" => play_order(words),
+        b"defend" => defend_order(words),
         b"keep" => keep_order(words),
         b"show" => show_order(words),
         _ => textless_order_named(name, words),
@@ -266,6 +274,15 @@ fn play_order(words: &[String]) -> Result<Order, UsageWhy>
 {
     let (moves, budget) = read_moves_and_budget(words)?;
     Ok(Order::Play { moves, budget })
+}
+
+/// The order that the words behind `defend` are.
+fn defend_order(words: &[String]) -> Result<Order, UsageWhy>
+    ensures ordered { OrdersAs moves_and_budget (λ asked. Order.Defend asked.0 asked.1) (texts words.now) result }
+    ensures within { IfOk result IsWithinLimits }
+{
+    let (moves, budget) = read_moves_and_budget(words)?;
+    Ok(Order::Defend { moves, budget })
 }
 
 /// The order that the words behind `keep` are.

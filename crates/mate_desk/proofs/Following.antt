@@ -1,19 +1,28 @@
 -- What comes after each move of the winner in a game that is reported.
-use Rattle.std.proofs.Common.{◌≡◌, ℕ, zero, suc, ◌+◌, ◌*◌, ◌-◌, ◌/◌, ◌≤◌, Bool, true, false, List, [], ◌∷◌, Option, Some, None, slice_get, inl, inr, refl, sym, ◌∙◌, ap, subst, ◌==◌, arith}
+use Rattle.std.proofs.Common.{◌≡◌, ◌⊎◌, ℕ, zero, suc, ◌+◌, ◌*◌, ◌-◌, ◌/◌, ◌≤◌, List, [], ◌∷◌, ◌++◌, Option, Some, None, slice_get, inl, inr, refl, sym, ◌∙◌, ap, subst, arith, append-nil, codes}
 use Rattle.std.proofs.lemmas.Option.{same_Some}
 use Rattle.desk_base.specs.Files.{Files}
-use Rattle.desk_base.specs.Lines.{Lines, full, ended, cut, long}
+use Rattle.desk_base.specs.Lines.{Lines}
 use Rattle.game_rules.specs.Game.{Legal, Lost, Position, Value, Win, other}
 use Rattle.game_rules.specs.declared.men.Side.{Side}
 use Rattle.game_rules.specs.declared.men.Square.{Square}
 use Rattle.game_rules.specs.declared.men.Side.TheVariants.{White, Black}
 use Rattle.game_laws.proofs.MoveLemmas.{same_after}
+use Rattle.game_laws.proofs.SoundLemmas.{side_or_other}
+use Rattle.chess_game.specs.declared.moves.Move.{Move}
 use Rattle.move_choice.specs.Choice.{Pick, target}
 use Rattle.move_choice.specs.declared.choice.Choice.{Choice}
 use Rattle.chess_text.specs.declared.replies.Typed.{Typed}
 use Rattle.chess_text.specs.declared.replies.Typed.TheVariants as typed
 use Rattle.claim_plan.proofs.ClaimLemmas.{claimed_is_lost, won_is_value}
-use Rattle.game_report.specs.GameReport.{AtLine, AtLines, AtLoser, AtTyped, AtWinner, ByClaim, ByKept, HeldPick, IsReport, Match, GameReport, Strategy, Unless, most_lines}
+use Rattle.game_report.specs.WinnerRules.{ByClaim, ByKept, HeldPick, Match, Strategy, moved, winner_rules}
+use Rattle.game_report.proofs.Played.{not_at_rest, reply_his}
+use Rattle.line_game.specs.LineReport.{AtLines, IsReport, LineReport}
+use Rattle.line_game.specs.Turns.{AtMove, AtRest, Comes, OfLine, OfTyped, Turn, moves_first, stopped}
+use Rattle.line_game.specs.declared.ending.Ending.{Ending}
+use Rattle.line_game.specs.declared.ending.Ending.TheVariants.{Quit, Wide}
+use Rattle.line_game.proofs.TurnLemmas.{IsDueIn, comes_lasts, line_lasts}
+use Rattle.line_game.proofs.Walks.{first, walk}
 use Rattle.move_choice.specs.Squares.{all_squares}
 use Rattle.mate_plan.specs.Claim.{Claim, IsClaim, IsClaimed}
 use Rattle.mate_plan.specs.PlanOf.{last_ply}
@@ -62,75 +71,184 @@ reply_wins w m p q i z (turn, inr (some, each)) legal = each i z q legal
 
 module _ (w : Side) (start : Position) (n : ℕ) (by : Strategy) where
   abbrev at : Position → ℕ → Match
-  at p ply = record { winner = w; start = start; moves = n; strategy = by; position = p; ply = ply }
+  at p ply = record { winner = w; start = start; moves = n; strategy = by; frame = all_squares; position = p; ply = ply }
 
   -- the winner's moves lead into these positions, from which the loser is mated in time
   module _ (Held : ℕ → Position → Type 0) (picks : (p : Position) (ply : ℕ) (c : Choice) → HeldPick (at p ply) (Some c) → Pick (Held (suc ply)) all_squares p (Some c))
-      (first : ℕ) (lost_at : (j : ℕ) (q : Position) → q.turn ≡ other w → Held (first + 2 * j) q → Lost w (n - (j + 1)) q) where
-    -- where j moves of the winner were made before
-    abbrev Follow : ℕ → GameReport → Type 0
-    Follow j r = (k m : ℕ) (after : Match) → slice_get r.games k ≡ Some after → m ≡ j + k → IsHeldAfter w n start m after
+      (first_ply : ℕ) (lost_at : (j : ℕ) (q : Position) → q.turn ≡ other w → Held (first_ply + 2 * j) q → Lost w (n - (j + 1)) q) where
+    -- where j moves of the winner were made before, the games after his next ones
+    abbrev Follow : ℕ → List Match → Type 0
+    Follow j games = (k m : ℕ) (after : Match) → slice_get games k ≡ Some after → m ≡ j + k → IsHeldAfter w n start m after
 
-    none_follow : (j : ℕ) (r : GameReport) → r.games ≡ [] → Follow j r
-    none_follow j r none k m after is number = absurd (no_game k after (sym (ap (λ xs. slice_get xs k) none) ∙ is))
+    none_follow : (j : ℕ) → Follow j []
+    none_follow j k m after is number = absurd (no_game k after is)
 
-    same_follow : (j : ℕ) (r later : GameReport) → r.games ≡ later.games → Follow j later → Follow j r
-    same_follow j r later same follow k m after is number = follow k m after (sym (ap (λ xs. slice_get xs k) same) ∙ is) number
-
-    one_more : {j : ℕ} (r later : GameReport) {g : Match} → r.games ≡ g ∷ later.games → IsHeldAfter w n start j g → Follow (j + 1) later → Follow j r
-    one_more r later {g} same held follow zero m after is number =
+    one_more : (j : ℕ) (g : Match) (later : List Match) → IsHeldAfter w n start j g → Follow (j + 1) later → Follow j (g ∷ later)
+    one_more j g later held follow zero m after is number =
         let P : Match → Type 0 = λ x. IsHeldAfter w n start m x in
         let Q : ℕ → Type 0 = λ k. IsHeldAfter w n start k g in
-        let here : Some g ≡ Some after = sym (ap (λ xs. slice_get xs 0) same) ∙ is in
-        subst P (same_Some g after here) (subst Q (omega (arith, number)) held)
-    one_more r later same held follow (suc k) m after is number =
-        let there : slice_get later.games k ≡ Some after = sym (ap (λ xs. slice_get xs (suc k)) same) ∙ is in
-        follow k m after there (omega (arith, number))
+        subst P (same_Some g after is) (subst Q (omega (arith, number)) held)
+    one_more j g later held follow (suc k) m after is number = follow k m after is (omega (arith, number))
 
-    module _ (On : Match → GameReport → Type 0)
-        (go : (p : Position) (ply j : ℕ) (r : GameReport) → Reach start ply p → ply + 2 ≡ first + 2 * j → Lost w (n - j) p → On (at p ply) r → Follow j r) where
-      loser_follow : (left : Lines) (p : Position) (ply j : ℕ) (r : GameReport) → Reach start ply p → ply + 2 ≡ first + 2 * j → Lost w (n - j) p → AtLoser On left (at p ply) r → Follow j r
-      loser_follow left p ply j r reached count lost (inl (mate, is)) = none_follow j r (ap (λ x. x.games) is)
-      loser_follow left p ply j r reached count lost (inr (none, on)) = go p ply j r reached count lost on
+    -- so many moves of the winner were made; the loser is to move and lost, or the winner is and mates
+    abbrev LosersTurn : ℕ → Match → Type 0
+    LosersTurn j m = (m.position.turn ≡ other w) × (m.ply + 2 ≡ first_ply + 2 * j) × Lost w (n - j) m.position
 
-      winner_follow : (left : Lines) (p : Position) (ply j : ℕ) (r : GameReport) → Reach start ply p → ply + 1 ≡ first + 2 * j → Win w (n - j) p → AtWinner On left (at p ply) r → Follow j r
-      winner_follow left p ply j r reached count win (inl (none, is)) = none_follow j r (ap (λ x. x.games) is)
-      winner_follow left p ply j r reached count win (inr (c, q, later, picked, legal, goes, is)) =
-          let pick = picks p ply c picked in
+    abbrev WinnersTurn : ℕ → Match → Type 0
+    WinnersTurn j m = (m.position.turn ≡ w) × (m.ply + 1 ≡ first_ply + 2 * j) × Win w (n - j) m.position
+
+    record IsOn (m : Match) : Type 0 where
+      number : ℕ
+      here : m ≡ at m.position m.ply
+      reached : Reach start m.ply m.position
+      stands : LosersTurn number m ⊎ WinnersTurn number m
+
+    his_turn : (m : Match) (on : IsOn m) → m.position.turn ≡ m.winner → WinnersTurn on.number m
+    his_turn m on turn = elim (on.stands) [
+      | inl losers ↦ absurd (sides_differ w (sym (turn ∙ ap (λ (x : Match). x.winner) on.here) ∙ losers.0))
+      | inr winners ↦ winners
+    ]
+
+    losers_turn : (m : Match) (on : IsOn m) → m.position.turn ≡ other m.winner → LosersTurn on.number m
+    losers_turn m on turn = elim (on.stands) [
+      | inl losers ↦ losers
+      | inr winners ↦ absurd (sides_differ w (sym winners.0 ∙ (turn ∙ ap (λ (x : Match). other x.winner) on.here)))
+    ]
+
+    -- after the winner's move the loser is lost in time
+    module _ (m : Match) (c : Choice) (q : Position) (on : IsOn m) (turn : m.position.turn ≡ m.winner) (picked : HeldPick m (Some c)) (legal : Legal m.position c.mv.man (target c.mv) q) where
+      now : Reach start (suc m.ply) q
+      now = (m.position, on.reached, (c.mv.man, target c.mv, legal))
+
+      his : WinnersTurn on.number m
+      his = his_turn m on turn
+
+      losers : q.turn ≡ other w
+      losers = legal.step.after.turn ∙ ap other his.0
+
+      few_moves : on.number + 1 ≤ n
+      few_moves = let some = (win_some w (n - on.number) m.position his.2).1 in omega (arith, some)
+
+      lost_now : Lost w (n - (on.number + 1)) q
+      lost_now =
+          let pick = picks m.position m.ply c (subst (λ (x : Match). HeldPick x (Some c)) on.here picked) in
           let same : pick.position ≡ q = same_after pick.leads.legal.step.after legal.step.after in
-          let now : Reach start (suc ply) q = (p, reached, (c.mv.man, target c.mv, legal)) in
-          let his = win_some w (n - j) p win in
-          let few : j + 1 ≤ n = omega (arith, his.1) in
-          let turn : q.turn ≡ other w = legal.step.after.turn ∙ ap other his.0 in
-          let H : Position → Type 0 = λ x. Held (suc ply) x in
+          let count = his.1 in
+          let H : Position → Type 0 = λ x. Held (suc m.ply) x in
           let P : ℕ → Type 0 = λ k. Held k q in
-          let step : suc ply ≡ first + 2 * j = omega (arith, count) in
-          let lost : Lost w (n - (j + 1)) q = lost_at j q turn (subst P step (subst H same pick.leads.is_in)) in
-          one_more r later (ap (λ x. x.games) is) (record { reached = now; few = few; lost = lost }) (loser_follow left q (suc ply) (j + 1) later now (omega (arith, count)) lost goes)
+          lost_at on.number q losers (subst P (omega (arith, count)) (subst H same pick.leads.is_in))
 
-      typed_follow : (left : Lines) (p : Position) (ply j : ℕ) (r : GameReport) (reply : Option Typed) → Reach start ply p
-          → ply + 2 ≡ first + 2 * j → Lost w (n - j) p → AtTyped On left (at p ply) r reply → Follow j r
-      typed_follow left p ply j r None reached count lost (later, on, is) = same_follow j r later (ap (λ x. x.games) is) (go p ply j later reached count lost on)
-      typed_follow left p ply j r (Some typed.Quit) reached count lost is = none_follow j r (ap (λ x. x.games) is)
-      typed_follow left p ply j r (Some (typed.Move mv)) reached count lost (inl (later, none, on, is)) = same_follow j r later (ap (λ x. x.games) is) (go p ply j later reached count lost on)
-      typed_follow left p ply j r (Some (typed.Move mv)) reached count lost (inr (q, legal, goes)) =
-          winner_follow left q (suc ply) j r (p, reached, (mv.man, target mv, legal)) (omega (arith, count)) (reply_wins w (n - j) p q mv.man (target mv) lost legal) goes
+      held_after : IsHeldAfter w n start on.number (moved m q)
+      held_after = record { reached = now; few = few_moves; lost = lost_now }
 
-      line_follow : (line : List ℕ) (left : Lines) (p : Position) (ply j : ℕ) (r : GameReport) → Reach start ply p → ply + 2 ≡ first + 2 * j → Lost w (n - j) p → AtLine On line left (at p ply) r → Follow j r
-      line_follow line left p ply j r reached count lost (reply, is, goes) = typed_follow left p ply j r reply reached count lost goes
+      on_after : IsOn (moved m q)
+      on_after =
+          let count = his.1 in
+          record { number = on.number + 1; here = ap (λ (x : Match). moved x q) on.here; reached = now; stands = inl (losers, omega (arith, count), lost_now) }
 
-    unless_follow : (j : ℕ) (stop : Bool) (left : Lines) (r : GameReport) (Else : Type 0) → (Else → Follow j r) → Unless stop left r Else → Follow j r
-    unless_follow j true left r Else go is = none_follow j r (ap (λ x. x.games) is)
-    unless_follow j false left r Else go h = go h
+    -- and after a reply the winner mates
+    on_reply : (m : Match) (mv : Move) (q : Position) → IsOn m → m.position.turn ≡ other m.winner → Legal m.position mv.man (target mv) q → IsOn (moved m q)
+    on_reply m mv q on turn legal =
+        let his = losers_turn m on turn in
+        let count = his.1 in
+        record {
+          number = on.number;
+          here = ap (λ (x : Match). moved x q) on.here;
+          reached = (m.position, on.reached, (mv.man, target mv, legal));
+          stands = inr (reply_his m mv q turn legal ∙ ap (λ (x : Match). x.winner) on.here, omega (arith, count), reply_wins w (n - on.number) m.position q mv.man (target mv) his.2 legal);
+        }
 
-    lines_follow : (before read : ℕ) (lines : Lines) (p : Position) (ply j : ℕ) (r : GameReport) → Reach start ply p
-        → ply + 2 ≡ first + 2 * j → Lost w (n - j) p → AtLines before read lines (at p ply) r → Follow j r
-    lines_follow before read (full line rest) p ply j r reached count lost h =
-        unless_follow j (read == most_lines) (full line rest) r _
-        (line_follow (AtLines before (read + 1) rest) (λ q m i x y c l z. lines_follow before (read + 1) rest q m i x y c l z) line rest p ply j r reached count lost) h
-    lines_follow before read ended p ply j r reached count lost h = unless_follow j (read == most_lines) ended r _ (λ is. none_follow j r (ap (λ x. x.games) is)) h
-    lines_follow before read (cut front) p ply j r reached count lost h = unless_follow j (read == most_lines) (cut front) r _ (λ is. none_follow j r (ap (λ x. x.games) is)) h
-    lines_follow before read long p ply j r reached count lost h = unless_follow j (read == most_lines) long r _ (λ is. none_follow j r (ap (λ x. x.games) is)) h
+    -- behind a turn come these games, or none where it ends the game
+    record Later (t : Turn Match) (games : List Match) : Type 0 where
+      follow : (j : ℕ) → t.after.ply + 2 ≡ first_ply + 2 * j → Follow j games
+      ends : (ending : Ending) → t.over ≡ Some ending → games ≡ []
+
+    abbrev TurnFollows : ℕ → Turn Match → Type 0
+    TurnFollows j t = (games : List Match) → Later t games → Follow j (t.games ++ games)
+
+    still_follows : (m : Match) (text : List ℕ) (over : Option Ending) (j : ℕ) → m.ply + 2 ≡ first_ply + 2 * j → TurnFollows j (record { text = text; games = []; after = m; over = over })
+    still_follows m text over j count games later = later.follow j count
+
+    moved_follows : (m : Match) (c : Choice) (q : Position) (text : List ℕ) (over : Option Ending) (on : IsOn m) → m.position.turn ≡ m.winner → HeldPick m (Some c)
+        → Legal m.position c.mv.man (target c.mv) q
+        → TurnFollows on.number (moves_first winner_rules c.mv (moved m q) (record { text = text; games = []; after = moved m q; over = over }))
+    moved_follows m c q text over on turn picked legal games later =
+        let count = (his_turn m on turn).1 in
+        one_more on.number (moved m q) games (held_after m c q on turn picked legal) (later.follow (on.number + 1) (omega (arith, count)))
+
+    rest_follows : (m : Match) (c : Choice) (q : Position) (rest : Turn Match) (on : IsOn m) → m.position.turn ≡ m.winner → HeldPick m (Some c)
+        → Legal m.position c.mv.man (target c.mv) q → AtRest winner_rules (moved m q) rest → TurnFollows on.number (moves_first winner_rules c.mv (moved m q) rest)
+    rest_follows m c q rest on turn picked legal (inl (ending, stands, is)) =
+        subst (λ (r : Turn Match). TurnFollows on.number (moves_first winner_rules c.mv (moved m q) r)) (sym is)
+        (moved_follows m c q (stopped ending (moved m q)).text (Some ending) on turn picked legal)
+    rest_follows m c q rest on turn picked legal (inr (due, is)) =
+        subst (λ (r : Turn Match). TurnFollows on.number (moves_first winner_rules c.mv (moved m q) r)) (sym is) (moved_follows m c q [] None on turn picked legal)
+
+    move_follows : (m : Match) (t : Turn Match) (on : IsOn m) → m.position.turn ≡ m.winner → AtMove winner_rules m t → TurnFollows on.number t
+    move_follows m t on turn (inl (none, is)) =
+        subst (TurnFollows on.number) (sym is) (λ games later. subst (Follow on.number) (sym (later.ends Wide refl)) (none_follow on.number))
+    move_follows m t on turn (inr (c, q, rest, picked, legal, at_rest, is)) =
+        subst (TurnFollows on.number) (sym is) (rest_follows m c q rest on turn picked legal at_rest)
+
+    quit_follows : (m : Match) (j : ℕ) → TurnFollows j (stopped Quit m)
+    quit_follows m j games later = subst (Follow j) (sym (later.ends Quit refl)) (none_follow j)
+
+    typed_follows : (m : Match) (reply : Option Typed) (t : Turn Match) (due : IsDueIn winner_rules IsOn m) → OfTyped winner_rules m reply t → TurnFollows due.0.number t
+    unfolding on_reply
+    typed_follows m None t due is =
+        subst (TurnFollows due.0.number) (sym is) (still_follows m (codes "unreadable\n") None due.0.number (losers_turn m due.0 due.1.0).1)
+    typed_follows m (Some typed.Quit) t due is = subst (TurnFollows due.0.number) (sym is) (quit_follows m due.0.number)
+    typed_follows m (Some (typed.Move mv)) t due (inl (none, is)) =
+        subst (TurnFollows due.0.number) (sym is) (still_follows m (codes "illegal\n") None due.0.number (losers_turn m due.0 due.1.0).1)
+    typed_follows m (Some (typed.Move mv)) t due (inr (q, legal, inl rest)) = absurd (not_at_rest (moved m q) t (reply_his m mv q due.1.0 legal) rest)
+    typed_follows m (Some (typed.Move mv)) t due (inr (q, legal, inr (turn, goes))) = move_follows (moved m q) t (on_reply m mv q due.0 due.1.0 legal) turn goes
+
+    over_follows : (j : ℕ) (t : Turn Match) (ending : Ending) → TurnFollows j t → t.over ≡ Some ending → Follow j t.games
+    over_follows j t ending follows over =
+        subst (Follow j) (append-nil t.games) (follows [] (record { follow = λ i count. none_follow i; ends = λ e is. refl }))
+
+    -- where a line is due
+    abbrev LinesFollow : Match → LineReport Match → Type 0
+    LinesFollow m r = (j : ℕ) → m.ply + 2 ≡ first_ply + 2 * j → Follow j r.games
+
+    on_follows : (j : ℕ) (t : Turn Match) (later : LineReport Match) → TurnFollows j t → t.over ≡ None → LinesFollow t.after later → Follow j (t.games ++ later.games)
+    on_follows j t later follows still lines =
+        follows later.games (record { follow = lines; ends = λ e over. absurd (let no : None ≡ Some e = sym still ∙ over in cc) })
+
+    same_number : (m : Match) (due : IsDueIn winner_rules IsOn m) (j : ℕ) → m.ply + 2 ≡ first_ply + 2 * j → due.0.number ≡ j
+    same_number m due j count = let his = (losers_turn m due.0 due.1.0).1 in omega (arith, his, count)
+
+    on_lasts : (m : Match) (line : List ℕ) (t : Turn Match) → IsDueIn winner_rules IsOn m → OfLine winner_rules m line t → t.over ≡ None → IsDueIn winner_rules IsOn t.after
+    on_lasts m line t due of still =
+        line_lasts winner_rules IsOn (λ x c q on turn picked legal. on_after x c q on turn picked legal) (λ x mv q on stands legal. on_reply x mv q on stands.0 legal) m line t due of still
+
+    lines_follow : (before read : ℕ) (lines : Lines) (m : Match) (r : LineReport Match) → IsDueIn winner_rules IsOn m → AtLines winner_rules before read lines m r → LinesFollow m r
+    lines_follow before read lines m r due h =
+        walk winner_rules (IsDueIn winner_rules IsOn) LinesFollow on_lasts
+        (λ x ending left on is j count. none_follow j)
+        (λ x line t ending left on is over j count. over_follows j t ending (subst (λ i. TurnFollows i t) (same_number x on j count) (typed_follows x is.0 t on is.2)) over)
+        (λ x line t later on is still more j count. on_follows j t later (subst (λ i. TurnFollows i t) (same_number x on j count) (typed_follows x is.0 t on is.2)) still more)
+        before read lines m r due h
+
+    -- the whole report
+    module _ (on : IsOn (at start 0)) where
+      first_follows : (t : Turn Match) → Comes winner_rules (at start 0) t → TurnFollows on.number t
+      first_follows t (inl (inl (ending, (e, turn, mate), is))) =
+          subst (TurnFollows on.number) (sym is) (still_follows (at start 0) (stopped ending (at start 0)).text (Some ending) on.number (losers_turn (at start 0) on turn).1)
+      first_follows t (inl (inr ((turn, none), is))) =
+          subst (TurnFollows on.number) (sym is) (still_follows (at start 0) [] None on.number (losers_turn (at start 0) on turn).1)
+      first_follows t (inr (turn, goes)) = move_follows (at start 0) t on turn goes
+
+      first_lasts : (t : Turn Match) → Comes winner_rules (at start 0) t → t.over ≡ None → IsDueIn winner_rules IsOn t.after
+      first_lasts t comes still =
+          comes_lasts winner_rules IsOn (λ x c q o turn picked legal. on_after x c q o turn picked legal) (λ x mv q o stands legal. on_reply x mv q o stands.0 legal) (at start 0) t on comes still
+
+      report_follows : (before : ℕ) (lines : Lines) (r : LineReport Match) → IsReport winner_rules before lines (at start 0) r → Follow on.number r.games
+      report_follows before lines r h =
+          first winner_rules LinesFollow (λ x. Follow on.number x.games) (at start 0)
+          (λ t ending left comes over. over_follows on.number t ending (first_follows t comes) over)
+          (λ t later comes still more. on_follows on.number t later (first_follows t comes) still more) before lines
+          (λ t later comes still at_lines. lines_follow before 0 lines t.after later (first_lasts t comes still) at_lines) r h
 
 half_first : (m : ℕ) → (1 + 2 * m + 1) / 2 ≡ m + 1
 half_first m = omega arith
@@ -156,21 +274,25 @@ module _ (w : Side) (start : Position) (n : ℕ) (by : Strategy) (Held : ℕ →
       ap (λ s. moves_left (last_ply w s n) (2 + 2 * j)) turn ∙ (moves_counted w n (2 + 2 * j)).1 ∙ ap (λ x. n - x) (half_second j) in
       let P : ℕ → Type 0 = λ m. Lost w m q in subst P left (lost_in (2 + 2 * j) q his held)
 
-  report_after : Value w n start → (before : ℕ) (lines : Lines) (r : GameReport) → IsReport before lines (at w start n by start 0) r → (k : ℕ) (after : Match)
-      → slice_get r.games k ≡ Some after → IsHeldAfter w n start k after
-  report_after value before lines r (inl (turn, goes)) k after is =
+  on_start : Value w n start → (turn : (start.turn ≡ w) ⊎ (start.turn ≡ other w)) → (before : ℕ) (lines : Lines) (r : LineReport Match)
+      → IsReport winner_rules before lines (at w start n by start 0) r → (k : ℕ) (after : Match) → slice_get r.games k ≡ Some after → IsHeldAfter w n start k after
+  on_start value (inl turn) before lines r h k after is =
       let P : ℕ → Type 0 = λ m. Win w m start in
-      winner_follow w start n by Held picks 1 (lost_first turn) (AtLines before 0 lines)
-      (λ q ply j x y c l z. lines_follow w start n by Held picks 1 (lost_first turn) before 0 lines q ply j x y c l z) lines start 0 0 r refl (omega arith)
-      (subst P (all_left n) (value_win w n start turn value)) goes k k after is (omega arith)
-  report_after value before lines r (inr (turn, goes)) k after is =
+      let win = subst P (all_left n) (value_win w n start turn value) in
+      report_follows w start n by Held picks 1 (lost_first turn)
+      (record { number = 0; here = refl; reached = refl; stands = inr (turn, omega arith, win) }) before lines r h k k after is (omega arith)
+  on_start value (inr turn) before lines r h k after is =
       let P : ℕ → Type 0 = λ m. Lost w m start in
-      loser_follow w start n by Held picks 2 (lost_second turn) (AtLines before 0 lines)
-      (λ q ply j x y c l z. lines_follow w start n by Held picks 2 (lost_second turn) before 0 lines q ply j x y c l z) lines start 0 0 r refl (omega arith)
-      (subst P (all_left n) (value_lost w n start turn value)) goes k k after is (omega arith)
+      let lost = subst P (all_left n) (value_lost w n start turn value) in
+      report_follows w start n by Held picks 2 (lost_second turn)
+      (record { number = 0; here = refl; reached = refl; stands = inl (turn, omega arith, lost) }) before lines r h k k after is (omega arith)
+
+  report_after : Value w n start → (before : ℕ) (lines : Lines) (r : LineReport Match) → IsReport winner_rules before lines (at w start n by start 0) r → (k : ℕ) (after : Match)
+      → slice_get r.games k ≡ Some after → IsHeldAfter w n start k after
+  report_after value before lines r h k after is = on_start value (side_or_other start.turn w) before lines r h k after is
 
 -- after the winner's move the loser is mated within the moves that the winner has left
-report_keeps : (n : ℕ) (problem : Problem) → Value problem.winner n problem.position → (before : ℕ) (lines : Lines) (r : GameReport) → IsReport before lines (first_match n problem) r
+report_keeps : (n : ℕ) (problem : Problem) → Value problem.winner n problem.position → (before : ℕ) (lines : Lines) (r : LineReport Match) → IsReport winner_rules before lines (first_match n problem) r
     → (k : ℕ) (after : Match) → slice_get r.games k ≡ Some after → IsKeptGame n problem k after
 report_keeps n problem value before lines r report k after is =
     let w = problem.winner in
@@ -180,7 +302,7 @@ report_keeps n problem value before lines r report k after is =
     record { reached = h.reached; few = h.few; lost = h.lost }
 
 -- and so it is in a game by a claim
-pub claim_keeps : {c : Claim} → IsClaim c → Won c → (before : ℕ) (lines : Lines) (r : GameReport) → IsReport before lines (claimed_match c) r
+pub claim_keeps : {c : Claim} → IsClaim c → Won c → (before : ℕ) (lines : Lines) (r : LineReport Match) → IsReport winner_rules before lines (claimed_match c) r
     → (k : ℕ) (after : Match) → slice_get r.games k ≡ Some after → IsLostGame c k after
 claim_keeps {c} is_claim won before lines r report k after is =
     let h = report_after c.winner c.position c.moves (ByClaim c) (IsClaimed c) (λ p ply d pick. pick)

@@ -11,13 +11,13 @@ use Rattle.desk_base.specs.Lines.{Lines, lines_of}
 use Rattle.game_rules.specs.Game.{Sound, Value}
 use Rattle.mate_plan.specs.Claim.{Claim}
 use Rattle.set_plan.specs.Outcome as plan
-use Rattle.strategy_file.proofs.KeptFiles.{kept_file_is_claim}
+use Rattle.file_writing.proofs.KeptFiles.{kept_file_is_claim}
 use Rattle.strategy_file.proofs.OnceLemmas.{one_outcome}
 use Rattle.strategy_file.specs.Claims.{claim_with}
-use Rattle.strategy_file.specs.KeptFile.{IsReadAsWon}
+use Rattle.file_writing.specs.KeptFile.{IsReadAsWon}
 use Rattle.strategy_file.specs.Layout.{Refusal}
 use Rattle.strategy_file.specs.StrategyFile.{Charts, File}
-use Rattle.strategy_file.specs.Written.{most_bytes}
+use Rattle.file_writing.specs.Written.{most_bytes}
 use Rattle.strategy_file.specs.declared.version.Version.TheVariants.{Shared}
 use Rattle.winning_sets.specs.Solve.{IsSolveError}
 use Rattle.winning_sets.specs.declared.names.SolveError.TheVariants as solve_error

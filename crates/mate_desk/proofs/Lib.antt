@@ -1,4 +1,6 @@
+pub mod Defended
 pub mod Exact
+pub mod Faultless
 pub mod FirstFault
 pub mod Following
 pub mod Headline

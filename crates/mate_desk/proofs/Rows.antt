@@ -12,7 +12,7 @@ use Rattle.chess_text.specs.declared.reader.Stage.TheVariants.{Header}
 use Rattle.desk_arith.proofs.Once.{arith_row}
 use Rattle.desk_describe.proofs.Rows.{describe_row}
 use Rattle.desk_files.proofs.Rows.{check_row, keep_row, migrate_row}
-use Rattle.desk_games.proofs.Rows.{play_row, resume_row}
+use Rattle.desk_games.proofs.Rows.{defend_row, play_row, resume_row}
 use Rattle.desk_report.specs.FaultLines.{unsound_line}
 use Rattle.desk_report.specs.Outcome.{Report, refusal_as}
 use Rattle.desk_report.specs.declared.status.Status.TheVariants as is
@@ -26,7 +26,7 @@ use Rattle.desk_text.specs.declared.text.LineWhy.{LineWhy}
 use Rattle.desk_text.proofs.OneText.{once_text}
 use Rattle.desk_words.specs.Order.{as_order}
 use Rattle.desk_words.specs.declared.order.Order.{Order}
-use Rattle.desk_words.specs.declared.order.Order.TheVariants.{Decide, Least, First, Describe, Play, Keep, Check, Resume, Migrate, Show, Drill, Arith}
+use Rattle.desk_words.specs.declared.order.Order.TheVariants.{Decide, Least, First, Describe, Play, Defend, Keep, Check, Resume, Migrate, Show, Drill, Arith}
 use Rattle.desk_words.specs.declared.order.TextOrder.{TextOrder}
 use Rattle.desk_words.specs.declared.order.TextOrder.TheVariants as text_orders
 use Rattle.desk_words.specs.declared.order.UsageWhy.{UsageWhy}
@@ -157,6 +157,7 @@ in_order (Least limit budget) = text_row (λ problem rest files. least_row limit
 in_order (First n budget) = text_row (λ problem rest files. first_row n budget problem files)
 in_order (Describe n budget) = text_row (λ problem rest files. describe_row n budget problem files)
 in_order (Play n budget) = text_row (λ problem rest files. play_row n budget problem rest files)
+in_order (Defend n budget) = text_row (λ problem rest files. defend_row n budget problem rest files)
 in_order (Keep n budget) = text_to_keep_row (λ problem name files. keep_row n budget problem name files)
 in_order (Check budget) = file_row (λ lines name files. check_row budget name files)
 in_order (Resume budget) = file_row (λ lines name files. resume_row budget lines name files)
@@ -179,6 +180,7 @@ is_text (text_orders.Least limit budget) = tt
 is_text (text_orders.First n budget) = tt
 is_text (text_orders.Describe n budget) = tt
 is_text (text_orders.Play n budget) = tt
+is_text (text_orders.Defend n budget) = tt
 is_text (text_orders.Keep n budget name) = tt
 is_text text_orders.Show = tt
 

@@ -21,13 +21,15 @@ use Rattle.desk_report.specs.declared.status.Status.TheVariants as is
 use Rattle.desk_solve.specs.Decide.{IsExact}
 use Rattle.desk_words.specs.declared.order.Order.{Order}
 use Rattle.desk_words.specs.declared.order.Order.TheVariants as orders
+use Rattle.desk_games.specs.Defend.{DefendReports}
 use Rattle.desk_games.specs.Play.{PlayReports}
-use Rattle.mate_desk.specs.Command.{OfRead, OfSound}
-use Rattle.mate_desk.specs.Laws.{Causes, DecideEnds, IsTold, IsWritten, PlaysTaken, PlayWrites, WritesGame, WritesTaken}
-use Rattle.mate_desk.specs.Report.{Reports}
+use Rattle.mate_desk.specs.Command.{OfRead, OfSound, OfText}
+use Rattle.mate_desk.specs.Laws.{Causes, DecideEnds, DefendsGame, DefendWrites, GameWrites, IsTold, IsWritten, PlaysGame, PlaysTaken, PlayWrites, WritesGame, WritesTaken}
+use Rattle.mate_desk.specs.Report.{Reports, ReportsOrder, UsesNoShelf}
 use Rattle.mate_desk.specs.Run.{RunEnds}
-use Rattle.mate_desk.proofs.Exact.{decides_exactly, of_sound, of_words}
-use Rattle.mate_desk.proofs.Following.{play_keeps, says_game}
+use Rattle.mate_desk.proofs.Defended.{says_defence}
+use Rattle.mate_desk.proofs.Exact.{decides_exactly, of_sound, of_text, of_words}
+use Rattle.mate_desk.proofs.Following.{says_game}
 use Rattle.mate_desk.proofs.Headline.{given_bytes, told_bytes}
 use Rattle.mate_desk.proofs.StatusLaws.{memory_last, no_shelf_fault, ordered_not_usage}
 
@@ -84,31 +86,35 @@ module _ (out : List ℕ) (old new : Seen) (before : old.written ≡ Some out) (
         },
       )
 
-module _ (words : List (List ℕ)) (n budget : ℕ) (p : Position) (winner : Side) (old new : Seen) (out : List ℕ) (told : IsTold words (orders.Play n budget) p winner old) (before : old.written ≡ Some out) where
-  abbrev order : Order
-  order = orders.Play n budget
-
+-- an order that plays a game: what it reports of a text is what `Says` says of the problem and the lines, and so `Plays`
+module _ (words : List (List ℕ)) (order : Order) (Says Plays : Problem → Lines → Files → Report → Type 0)
+    (reads : (bytes : List ℕ) (files : Files) (report : Report) → ReportsOrder order words bytes files report → OfText (λ problem lines. Says problem lines files) files bytes report)
+    (plays : (problem : Problem) (lines : Lines) (files : Files) (report : Report) → Says problem lines files report → Plays problem lines files report)
+    (no_shelf : UsesNoShelf order) (p : Position) (winner : Side) (old new : Seen) (out : List ℕ) (told : IsTold words order p winner old) (before : old.written ≡ Some out) where
   abbrev first : Problem
   first = text_problem p winner
 
   game : (status : Status) (run : RunEnds words status old new) (report : Report)
-      → Reports words (run.given.taken ++ run.given.rest) run.given.files report → Wrote out old new before report.text report.fault → WritesGame n budget p winner told.behind old new out
+      → Reports words (run.given.taken ++ run.given.rest) run.given.files report → Wrote out old new before report.text report.fault → WritesGame Plays p winner told.behind old new out
   game status run report reports wrote = record {
     all = wrote.0;
     told = wrote.1;
     files = run.given.files;
     report = report;
     plays =
-        play_keeps words (run.given.taken ++ run.given.rest) run.given.files n budget first (lines_of told.behind) report told.ordered
-        (is_read words order p winner status old new told run) told.sound reports;
+        let bytes = run.given.taken ++ run.given.rest in
+        let files = run.given.files in
+        plays first (lines_of told.behind) files report
+        (of_text (λ problem lines. Says problem lines files) files bytes first (lines_of told.behind) report (is_read words order p winner status old new told run) told.sound
+        (reads bytes files report (of_words words bytes files order report told.ordered reports)));
     writes = wrote.2;
   }
 
   done : (status : Status) (run : RunEnds words status old new) (report : Report) → Reports words (run.given.taken ++ run.given.rest) run.given.files report
-      → DoesReport status report old new → WritesGame n budget p winner told.behind old new out
+      → DoesReport status report old new → WritesGame Plays p winner told.behind old new out
   done status run report reports does = game status run report reports (both_written out old new before report.text report.fault does.written)
 
-  writes_by : (status : Status) → status ≢ is.ReadFault → status ≢ is.Memory → RunEnds words status old new → WritesGame n budget p winner told.behind old new out
+  writes_by : (status : Status) → status ≢ is.ReadFault → status ≢ is.Memory → RunEnds words status old new → WritesGame Plays p winner told.behind old new out
   writes_by is.Done no_fault memory run = done is.Done run run.ends.0 run.ends.1 run.ends.2
   writes_by is.Usage no_fault memory run = done is.Usage run run.ends.0 run.ends.1 run.ends.2
   writes_by is.Text no_fault memory run = done is.Text run run.ends.0 run.ends.1 run.ends.2
@@ -123,21 +129,21 @@ module _ (words : List (List ℕ)) (n budget : ℕ) (p : Position) (winner : Sid
       game is.WriteFault run report run.ends.1 (some_written out old new before report.text report.fault run.ends.2.written run.ends.2.failed)
   writes_by is.ReadFault no_fault memory run = absurd (no_fault refl)
   writes_by is.Memory no_fault memory run = absurd (memory refl)
-  writes_by is.ShelfFault no_fault memory run = absurd (no_shelf_fault words order is.ShelfFault old new told.ordered tt run refl)
+  writes_by is.ShelfFault no_fault memory run = absurd (no_shelf_fault words order is.ShelfFault old new told.ordered no_shelf run refl)
 
   -- what was taken of a source that failed is a text cut short, or the text of the position and some lines
   module _ (taken rest : List ℕ) (files : Files) (report : Report) (input : TextAt (taken ++ rest) (whole first (lines_of told.behind))) where
-    abbrev Says : Problem → Lines → Report → Type 0
-    Says problem lines = PlayReports n budget problem lines files
+    abbrev SaysHere : Problem → Lines → Report → Type 0
+    SaysHere problem lines = Says problem lines files
 
-    as_first : (problem : Problem) (lines : Lines) → problem ≡ first → TextAt taken (whole problem lines) → OfSound (Says problem lines) files problem.position report
-        → PlaysTaken n budget first taken files report
+    as_first : (problem : Problem) (lines : Lines) → problem ≡ first → TextAt taken (whole problem lines) → OfSound (SaysHere problem lines) files problem.position report
+        → PlaysTaken Plays first taken files report
     as_first told_problem lines same at right =
         let At : Problem → Type 0 = λ q. TextAt taken (whole q lines) in
-        let Right : Problem → Type 0 = λ q. OfSound (Says q lines) files q.position report in
-        inr (lines, subst At same at, says_game n budget first lines files report (of_sound (Says first lines) files first report told.sound (subst Right same right)))
+        let Right : Problem → Type 0 = λ q. OfSound (SaysHere q lines) files q.position report in
+        inr (lines, subst At same at, plays first lines files report (of_sound (SaysHere first lines) files first report told.sound (subst Right same right)))
 
-    taken_plays : (text : Text) → TextAt taken text → OfRead Says files text report → PlaysTaken n budget first taken files report
+    taken_plays : (text : Text) → TextAt taken text → OfRead SaysHere files text report → PlaysTaken Plays first taken files report
     taken_plays (refused number why) at is' = inl (number, why, at, ap (λ r. r.text) is')
     taken_plays (whole problem lines) at right =
         let more = text_more problem lines taken at in
@@ -146,11 +152,11 @@ module _ (words : List (List ℕ)) (n budget : ℕ) (p : Position) (winner : Sid
         let same : problem ≡ first = cc in
         as_first problem lines same at right
 
-  writes_taken : RunEnds words is.ReadFault old new → WritesTaken n budget p winner (position_text p winner ++ told.behind) old new out
+  writes_taken : RunEnds words is.ReadFault old new → WritesTaken Plays p winner (position_text p winner ++ told.behind) old new out
   writes_taken run =
       let taken = run.given.taken in
       let report = run.ends.0 in
-      let read = of_words words taken run.given.files order report told.ordered run.ends.1 in
+      let read = reads taken run.given.files report (of_words words taken run.given.files order report told.ordered run.ends.1) in
       let wrote = both_written out old new before report.text (codes "read fault\n") run.ends.2.written in
       record {
         taken = taken;
@@ -164,11 +170,25 @@ module _ (words : List (List ℕ)) (n budget : ℕ) (p : Position) (winner : Sid
         writes = wrote.2;
       }
 
+-- so it is with the orders of which this holds whatever their numbers are
+module _ (order : (n budget : ℕ) → Order) (Says Plays : (n budget : ℕ) → Problem → Lines → Files → Report → Type 0)
+    (reads : (n budget : ℕ) (words : List (List ℕ)) (bytes : List ℕ) (files : Files) (report : Report) → ReportsOrder (order n budget) words bytes files report
+    → OfText (λ problem lines. Says n budget problem lines files) files bytes report)
+    (plays : (n budget : ℕ) (problem : Problem) (lines : Lines) (files : Files) (report : Report) → Says n budget problem lines files report → Plays n budget problem lines files report)
+    (no_shelf : (n budget : ℕ) → UsesNoShelf (order n budget)) where
+  game_writes : GameWrites order Plays
+  game_writes = record {
+    game = λ words n budget p winner status old new out told before no_fault memory run.
+        writes_by words (order n budget) (Says n budget) (Plays n budget) (reads n budget words) (plays n budget) (no_shelf n budget) p winner old new out told before status no_fault memory run;
+    taken = λ words n budget p winner old new out told before run.
+        writes_taken words (order n budget) (Says n budget) (Plays n budget) (reads n budget words) (plays n budget) (no_shelf n budget) p winner old new out told before run;
+  }
+
 pub play_writes : PlayWrites
-play_writes = record {
-  game = λ words n budget p winner status old new out told before no_fault memory run. writes_by words n budget p winner old new out told before status no_fault memory run;
-  taken = λ words n budget p winner old new out told before run. writes_taken words n budget p winner old new out told before run;
-}
+play_writes = game_writes (λ n budget. orders.Play n budget) PlayReports PlaysGame (λ n budget words bytes files report right. right) says_game (λ n budget. tt)
+
+pub defend_writes : DefendWrites
+defend_writes = game_writes (λ n budget. orders.Defend n budget) DefendReports DefendsGame (λ n budget words bytes files report right. right) says_defence (λ n budget. tt)
 
 -- a run of `decide` that reports is done, or over budget
 module _ (words : List (List ℕ)) (n budget : ℕ) (p : Position) (winner : Side) (old new : Seen) (told : IsTold words (orders.Decide n budget) p winner old) where

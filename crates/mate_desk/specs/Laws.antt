@@ -8,14 +8,17 @@ use Rattle.desk_base.specs.Lines.{Lines, full, lines_of}
 use Rattle.game_rules.specs.Game.{Position, Least, Lost, Sound, Value}
 use Rattle.game_rules.specs.declared.men.Side.{Side}
 use Rattle.chess_text.specs.PositionText.{IsWritable, position_text}
-use Rattle.game_report.specs.GameReport.{IsReport, Match}
-use Rattle.game_report.specs.GameReport as game
+use Rattle.game_report.specs.WinnerRules.{Match, winner_rules}
+use Rattle.line_game.specs.LineReport.{IsReport, LineReport}
 use Rattle.lin_formula.specs.Tree.{Tree}
 use Rattle.formula_auto.specs.declared.errors.CompileError.TheVariants.{Over}
 use Rattle.arith_desk.specs.Reading.{IsFormulaLine}
 use Rattle.arith_desk.specs.Truth.{IsOver}
 use Rattle.desk_arith.specs.Answer.{Answers}
 use Rattle.desk_arith.specs.Arith.{step_line}
+use Rattle.defender.specs.Defending.{DefenceMatch}
+use Rattle.defence_report.specs.Laws.{IsSavedReport}
+use Rattle.defence_report.specs.LoserRules.{loser_rules}
 use Rattle.mate_plan.specs.Claim.{Claim}
 use Rattle.winning_sets.specs.Reach.{Reach}
 use Rattle.winning_sets.specs.declared.names.StepName.{StepName}
@@ -31,6 +34,7 @@ use Rattle.desk_solve.specs.Least.{least_line}
 use Rattle.desk_words.specs.Order.{Ordered, name_in}
 use Rattle.desk_report.specs.Outcome.{FirstOver, Report, Seen, WriteFailed, done_with}
 use Rattle.desk_verdict.specs.StepLines.{budget_line, over_budget}
+use Rattle.desk_games.specs.Defend.{first_defence}
 use Rattle.desk_games.specs.Play.{as_played, first_match}
 use Rattle.mate_desk.specs.Report.{IsOfText, MayLackMemory, Reports, TakesMemory, UsesNoShelf}
 use Rattle.desk_games.specs.Resume.{claimed_match}
@@ -156,7 +160,7 @@ PlaysGame n budget problem lines files =
     (λ report.
     ((Value problem.winner n problem.position → ⊥) × (report ≡ done_with files (no_mate_line n)))
     ⊎ (Value problem.winner n problem.position
-    × ((played : game.GameReport) × IsReport problem.lines lines (first_match n problem) played
+    × ((played : LineReport Match) × IsReport winner_rules problem.lines lines (first_match n problem) played
     × (report ≡ as_played files played)
     × ((number : ℕ) (after : Match) → slice_get played.games number ≡ Some after → IsKeptGame n problem number after))))
     files
@@ -172,6 +176,33 @@ PlayKeeps =
     → Reports words bytes files report
     → PlaysGame n budget problem rest files report
 
+-- What `defend` reports of a sound position: the first step that exceeds the budget, or that the winner mates within n
+-- moves of his own, or, where he does not, the game with the lines behind the text. After each move of the loser in it,
+-- and in the end, the winner has made at most n moves and does not mate within those that he has left, and the loser is
+-- not mated.
+abbrev pub DefendsGame : ℕ → ℕ → Problem → Lines → Files → Report → Type 0
+DefendsGame n budget problem lines files =
+    FirstOver budget_line (ExceedsAt problem budget n)
+    (λ report.
+    (Value problem.winner n problem.position × (report ≡ done_with files (mate_line n)))
+    ⊎ ((Value problem.winner n problem.position → ⊥)
+    × ((played : LineReport DefenceMatch)
+    × IsReport loser_rules problem.lines lines (first_defence n problem) played
+    × (report ≡ as_played files played)
+    × IsSavedReport (first_defence n problem) played)))
+    files
+
+-- each report of `defend` on the text of a sound position
+abbrev pub Defends : Type 0
+Defends =
+    (words : List (List ℕ)) (bytes : List ℕ) (files : Files) (n budget : ℕ) (problem : Problem) (rest : Lines)
+    (report : Report)
+    → Ordered words (Ok (orders.Defend n budget))
+    → TextAt bytes (whole problem rest)
+    → Sound problem.position
+    → Reports words bytes files report
+    → DefendsGame n budget problem rest files report
+
 -- After the winner's move of this number, counted from 0, of a game that began with the claim: legal moves have led to
 -- the position, the move is one of the claim's, and the loser is mated within those that the winner has left.
 pub record IsLostGame (c : Claim) (number : ℕ) (after : Match) : Type 0 where
@@ -184,7 +215,7 @@ pub record IsLostGame (c : Claim) (number : ℕ) (after : Match) : Type 0 where
 abbrev pub ResumesGame : Lines → Files → Claim → Report → Type 0
 ResumesGame lines files c report =
     Value c.winner c.moves c.position
-    × ((played : game.GameReport) × IsReport 0 lines (claimed_match c) played × (report ≡ as_played files played)
+    × ((played : LineReport Match) × IsReport winner_rules 0 lines (claimed_match c) played × (report ≡ as_played files played)
     × ((number : ℕ) (after : Match) → slice_get played.games number ≡ Some after → IsLostGame c number after))
 
 -- each report of `resume`, whoever made the file
@@ -291,25 +322,27 @@ pub record IsWritten (text fault out all : List ℕ) (failed : Type 0) : Type 0 
   pub front : all ++ missing ≡ out ++ (text ++ fault)
   pub whole : (missing ≡ []) ⊎ failed
 
--- What a run of `play` wrote: of the game of the text with the lines behind it, in which each move of the winner is
--- legal and keeps the count, or that he does not mate, or the first step that exceeds the budget.
-pub record WritesGame (n budget : ℕ) (p : Position) (winner : Side) (behind : List ℕ) (old new : Seen) (out : List ℕ) : Type 0 where
+-- What a run that plays a game wrote of a position and a winner, where these bytes come behind their text: of the game
+-- with the lines of them, of which `Plays` says what is reported.
+pub record WritesGame (Plays : Problem → Lines → Files → Report → Type 0) (p : Position) (winner : Side)
+    (behind : List ℕ) (old new : Seen) (out : List ℕ) : Type 0 where
   pub all : List ℕ
   pub told : new.written ≡ Some all
   pub files : Files
   pub report : Report
-  pub plays : PlaysGame n budget (text_problem p winner) (lines_of behind) files report
+  pub plays : Plays (text_problem p winner) (lines_of behind) files report
   pub writes : IsWritten report.text report.fault out all (WriteFailed old new)
 
--- What a run of `play` had to play whose source failed: the bytes that it took are a text cut short, and nothing is
--- written of it; or they are the text of the position and some lines, and the game is that with those.
-abbrev pub PlaysTaken : (n budget : ℕ) → Problem → (taken : List ℕ) → Files → Report → Type 0
-PlaysTaken n budget problem taken files report =
+-- What such a run had to play whose source failed: the bytes that it took are a text cut short, and nothing is written of
+-- it; or they are the text of the position and some lines, and the game is that with those.
+abbrev pub PlaysTaken : (Plays : Problem → Lines → Files → Report → Type 0) → Problem → (taken : List ℕ) → Files → Report → Type 0
+PlaysTaken Plays problem taken files report =
     ((number : ℕ) × (why : LineWhy) × TextAt taken (refused number why) × (report.text ≡ []))
-    ⊎ ((lines : Lines) × TextAt taken (whole problem lines) × PlaysGame n budget problem lines files report)
+    ⊎ ((lines : Lines) × TextAt taken (whole problem lines) × Plays problem lines files report)
 
--- What such a run wrote of an input: the text of that, and that the source has failed.
-pub record WritesTaken (n budget : ℕ) (p : Position) (winner : Side) (input : List ℕ) (old new : Seen) (out : List ℕ) : Type 0 where
+-- What it wrote of an input: the text of that, and that the source has failed.
+pub record WritesTaken (Plays : Problem → Lines → Files → Report → Type 0) (p : Position) (winner : Side)
+    (input : List ℕ) (old new : Seen) (out : List ℕ) : Type 0 where
   pub taken : List ℕ
   pub rest : List ℕ
   pub input_is : input ≡ taken ++ rest
@@ -317,21 +350,32 @@ pub record WritesTaken (n budget : ℕ) (p : Position) (winner : Side) (input : 
   pub told : new.written ≡ Some all
   pub files : Files
   pub report : Report
-  pub plays : PlaysTaken n budget (text_problem p winner) taken files report
+  pub plays : PlaysTaken Plays (text_problem p winner) taken files report
   pub writes : IsWritten report.text (codes "read fault\n") out all (WriteFailed old new)
 
--- So it is with each run of `play` that has memory.
-pub record PlayWrites : Type 0 where
+-- So it is with each run of an order that plays a game, and that has memory.
+pub record GameWrites (order : (n budget : ℕ) → Order)
+    (Plays : (n budget : ℕ) → Problem → Lines → Files → Report → Type 0) : Type 0 where
   pub game : (words : List (List ℕ)) (n budget : ℕ) (p : Position) (winner : Side) (status : Status) (old new : Seen) (out : List ℕ)
-      → (told : IsTold words (orders.Play n budget) p winner old)
+      → (told : IsTold words (order n budget) p winner old)
       → old.written ≡ Some out → status ≢ is.ReadFault → status ≢ is.Memory
       → RunEnds words status old new
-      → WritesGame n budget p winner told.behind old new out
+      → WritesGame (Plays n budget) p winner told.behind old new out
   pub taken : (words : List (List ℕ)) (n budget : ℕ) (p : Position) (winner : Side) (old new : Seen) (out : List ℕ)
-      → (told : IsTold words (orders.Play n budget) p winner old)
+      → (told : IsTold words (order n budget) p winner old)
       → old.written ≡ Some out
       → RunEnds words is.ReadFault old new
-      → WritesTaken n budget p winner (position_text p winner ++ told.behind) old new out
+      → WritesTaken (Plays n budget) p winner (position_text p winner ++ told.behind) old new out
+
+-- A run of `play` writes the game of the text with the lines behind it, in which each move of the winner is legal and
+-- keeps the count, or that he does not mate, or the first step that exceeds the budget.
+abbrev pub PlayWrites : Type 0
+PlayWrites = GameWrites (λ n budget. orders.Play n budget) PlaysGame
+
+-- A run of `defend` writes the game of the text with the lines behind it, in which the loser is not mated, or that the
+-- winner mates, or the first step that exceeds the budget.
+abbrev pub DefendWrites : Type 0
+DefendWrites = GameWrites (λ n budget. orders.Defend n budget) DefendsGame
 
 -- why a run of `decide` ended so
 abbrev pub Causes : (n budget : ℕ) → Problem → Status → Seen → Seen → Type 0

@@ -1,4 +1,5 @@
 pub mod Command
+pub mod Faultless
 pub mod Laws
 pub mod Report
 pub mod Run
@@ -25,6 +26,7 @@ pub use Rattle.desk_files.specs.FileLines
 pub use Rattle.desk_files.specs.Keep
 pub use Rattle.desk_files.specs.Keeping
 pub use Rattle.desk_files.specs.Migrate
+pub use Rattle.desk_games.specs.Defend
 pub use Rattle.desk_games.specs.Play
 pub use Rattle.desk_games.specs.Resume
 pub use Rattle.desk_base.specs.Faults

@@ -12,6 +12,7 @@ use Rattle.desk_solve.specs.Least.{LeastReports}
 use Rattle.desk_files.specs.Migrate.{MigrateReports, MissesMigrate}
 use Rattle.desk_words.specs.Order.{Ordered, usage_line}
 use Rattle.desk_report.specs.Outcome.{Report, refusal_as}
+use Rattle.desk_games.specs.Defend.{DefendReports}
 use Rattle.desk_games.specs.Play.{PlayReports}
 use Rattle.desk_games.specs.Resume.{ResumeReports}
 use Rattle.mate_desk.specs.Command.{Command, of_file, of_files, of_lines, of_text, of_text_to_keep, of_words}
@@ -35,6 +36,7 @@ command_of (orders.Describe n budget) =
     of_text (λ problem rest. DescribeReports n budget problem) (λ problem. ¬ HasNoFirstMove n problem)
 command_of (orders.Play n budget) =
     of_text (λ problem rest. PlayReports n budget problem rest) (λ problem. ¬ HasNothingToPlay n problem)
+command_of (orders.Defend n budget) = of_text (λ problem rest. DefendReports n budget problem rest) (λ problem. Unit {0})
 command_of (orders.Keep n budget) =
     of_text_to_keep (λ problem name. KeepReports n budget problem name) (λ problem. ¬ HasNothingToPlay n problem)
     (HasFileToKeep n budget)

@@ -13,6 +13,7 @@ use desk_describe::describe::describe;
 use desk_files::check::check;
 use desk_files::keep::keep;
 use desk_files::migrate::migrate;
+use desk_games::defend::defend;
 use desk_games::play::play;
 use desk_games::resume::resume;
 use desk_report::{Status, refusal_line, refuse, unsound_line};
@@ -104,6 +105,10 @@ fn answer<S: Source, K: Sink, H: Shelf>(
         TextOrder::Play { moves, budget } => {
             let task = problem.task(moves, budget);
             play(alloc, &task, &mut reader, source, sink)
+        }
+        TextOrder::Defend { moves, budget } => {
+            let task = problem.task(moves, budget);
+            defend(alloc, &task, &mut reader, source, sink)
         }
         TextOrder::Keep {
             moves,

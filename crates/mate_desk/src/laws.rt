@@ -1,7 +1,8 @@
 //! Laws of a run, each the contract of a function that does nothing. They are of the relation that the contract of `run` names.
 
 ghost use Rattle.desk_text.specs.TextLaws.{TextIsRead};
-ghost use Rattle.mate_desk.specs.Laws.{AnswersExactly, CheckedAfterKeep, DecideEnds, DecidesExactly, DecideWrites, FaultsAreCounted, LeastWrites, MemoryLast, MigrateCarries, NoShelfFault, OneReport, PlayKeeps, PlayWrites, ResumeKeeps, UsageExactly};
+ghost use Rattle.mate_desk.specs.Faultless.{ExactWhereNoneFails};
+ghost use Rattle.mate_desk.specs.Laws.{AnswersExactly, CheckedAfterKeep, DecideEnds, DecidesExactly, DecideWrites, Defends, DefendWrites, FaultsAreCounted, LeastWrites, MemoryLast, MigrateCarries, NoShelfFault, OneReport, PlayKeeps, PlayWrites, ResumeKeeps, UsageExactly};
 
 /// A run of `decide` that is done, on the text of a sound position and whatever comes behind it, writes `mate in n` exactly where the side
 /// that the text names as winner mates within n moves of its own, whatever is replied on the whole board, and `no mate in n` exactly where it does not.
@@ -59,6 +60,13 @@ pub fn play_keeps()
     ensures { PlayKeeps }
 {}
 
+/// Of the text of a sound position whose winner does not mate within n moves of his own, `defend` reports a game with the lines behind the text, in which
+/// each move of the loser is legal; whatever is typed, after each of them and in the end the winner has made at most n moves and does not mate within
+/// those that he has left, and the loser is not mated. Else it reports that he mates, or names the first step that exceeds the budget.
+pub fn defends()
+    ensures { Defends }
+{}
+
 /// Of a file whose claim keeps all rules, whoever made it, `resume` reports a game with the lines, and each of the winner's moves in it is legal and
 /// keeps the count: after his k-th move, whatever was replied, the loser is mated within n - k.
 pub fn resume_keeps()
@@ -90,8 +98,20 @@ pub fn play_writes()
     ensures { PlayWrites }
 {}
 
+/// A run of `defend` on the text of a sound position that has memory writes what is reported of the game with the lines behind the text: the whole of it,
+/// unless the sink has failed. Where its source failed, they are the lines that it took, and behind the game stands that the source has failed.
+pub fn defend_writes()
+    ensures { DefendWrites }
+{}
+
 /// A run of `decide` on the text of a sound position is done, or a step exceeds the budget, or a fault was counted, or memory was wanting, and it
 /// does not end otherwise.
 pub fn decide_ends()
     ensures { DecideEnds }
+{}
+
+/// A run over ports that tell all, and of which none has failed, has no status of a fault, and nothing of it is cut: it did what is reported of the whole
+/// input, or memory was wanting for what is ordered. No port has failed that counts 0 whatever happens, as a slice and files in memory do.
+pub fn exact_where_none_fails()
+    ensures { ExactWhereNoneFails }
 {}

@@ -1,7 +1,7 @@
 use Rattle.std.proofs.Common.{◌≡◌, ℕ, List, inl, inr, refl, ap, ◌∙◌}
 use Rattle.std.specs.Prelude.{Err}
 use Rattle.desk_base.specs.Lines.{Lines}
-use Rattle.game_report.specs.Laws.{seen}
+use Rattle.game_report.specs.WinnerRules.{winner_rules}
 use Rattle.desk_report.specs.Outcome.{NeverMisses, Report, done_with}
 use Rattle.desk_games.specs.Play.{LacksAtFirst, PlayReports, first_match}
 use Rattle.desk_verdict.specs.Verdict.{FitsBudget, HasNothingToPlay}
@@ -25,12 +25,12 @@ returns-in-Ok g c = record {
       let Says : Lines → Report → Type 0 = λ lines. PlayReports task.moves task.budget problem lines files in
       let fits : FitsBudget problem task.budget task.moves = rw (c.new-solver.ensures.problem, c.new-solver.ensures.budget) at c.in-Ok-Some.ensures.fits in
       let value = (rw (c.in-Ok-Some.field-0-is, c.new-solver.ensures.problem) at c.in-Ok-Some.ensures.won).0 refl in
-      let first = seen_first problem task.moves c.in-Ok-Some.solved c.whole.result c.in-Ok.session (rw (c.in-Ok-Some.field-0-is, c.new-solver.ensures.problem) at c.in-Ok-Some.ensures.found) c.in-Ok.ensures.ok in
+      let first = seen_first problem task.moves c.in-Ok-Some.solved c.whole.result c.in-Ok.session (rw (c.in-Ok-Some.field-0-is, c.new-solver.ensures.problem) at c.in-Ok-Some.ensures.found) c.whole.ensures c.in-Ok.ensures.ok in
       let game = c.play_game-played in
-      game_ends Says (LacksAtFirst task.moves problem) (λ (bytes : List ℕ). NeverMisses) files problem.lines (first_match task.moves problem)
+      game_ends Says (LacksAtFirst task.moves problem) (λ (bytes : List ℕ). NeverMisses) files winner_rules problem.lines (first_match task.moves problem)
       (reports_game task.moves task.budget problem files fits value)
-      _ _ (seen game.new.session) _ _ _ _ _ _ _ _ _ _ game.result c.finish.result
-      (same_played problem.lines game.result (seen c.in-Ok.session) (first_match task.moves problem) (seen game.new.session) first game.ensures.plays)
+      _ _ game.new.player _ _ _ _ _ _ _ _ _ _ game.result c.finish.result
+      (same_played winner_rules problem.lines game.result c.new-winner.result (first_match task.moves problem) game.new.player (c.new-winner.ensures ∙ first) game.ensures.plays)
       game.ensures.read_failed game.ensures.write_failed game.ensures.writes_never_fall c.finish.ensures.never_falls c.finish.ensures.ends;
 }
 

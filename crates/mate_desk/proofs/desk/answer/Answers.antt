@@ -1,13 +1,15 @@
 use Rattle.std.proofs.Common.{Ok, refl, subst, rules}
 use Rattle.desk_describe.specs.Describe.{DescribeReports}
+use Rattle.desk_games.specs.Defend.{DefendReports}
 use Rattle.desk_games.specs.Play.{LacksAtFirst, PlayReports}
+use Rattle.desk_games.specs.Resume.{LacksBefore}
 use Rattle.desk_files.proofs.Shelves.{files_of}
 use Rattle.desk_solve.specs.Decide.{DecideReports}
 use Rattle.desk_solve.specs.First.{FirstReports, HasNoFirstMove}
 use Rattle.desk_solve.specs.Least.{LeastReports}
 use Rattle.desk_verdict.specs.Verdict.{HasNothingToPlay}
 use Rattle.desk_words.specs.Order.{IsOrderOf, Ordered, as_order}
-use Rattle.desk_words.specs.declared.order.Order.TheVariants.{Decide, Least, First, Describe, Play, Show}
+use Rattle.desk_words.specs.declared.order.Order.TheVariants.{Decide, Least, First, Describe, Play, Defend, Show}
 use Rattle.desk_words.specs.declared.order.TextOrder.{TextOrder}
 use Rattle.mate_desk.specs.Show.{ShowReports}
 use Rattle.mate_desk.proofs.Reporting.{fault_ends, keep_ends, refused_ends, text_ends, unsound_ends}
@@ -73,6 +75,17 @@ returns-in-Play-clause-ends g c = λ words o.
     (source.faults c.read_problem.new.source) c.in-Ok.ensures.never_falls
     c.in-Ok.problem c.in-Ok.ensures.reads (c.in_default.ensures.ok.0 refl) c.play.result (LacksAtFirst c.in-Play.moves c.in-Ok.problem)
     (λ bytes lack. (lack.some, lack.none)) (rw c.task-task.ensures at (c.play.ensures.ends (files_of (g.H.Shelf.files c.args.shelf.now))))
+
+pub returns-in-Defend-clause-ends : goal.returns-in-Defend-clause-ends
+returns-in-Defend-clause-ends g c = λ words o.
+    let IsOrdered : TextOrder → Type 0 = λ x. Ordered words (Ok (as_order x)) in
+    let source = g.S.Source in
+    replies_end words _ _ refl (Defend c.in-Defend.moves c.in-Defend.budget) (subst IsOrdered c.in-Defend.is o.ordered)
+    (λ problem rest. DefendReports c.in-Defend.moves c.in-Defend.budget problem rest) (λ problem. Unit {0})
+    (λ bytes files report right. right) (λ taken some. some) _ _ (source.left c.read_problem.new.source)
+    (source.faults c.read_problem.new.source) c.in-Ok.ensures.never_falls
+    c.in-Ok.problem c.in-Ok.ensures.reads (c.in_default.ensures.ok.0 refl) c.defend.result LacksBefore
+    (λ bytes lack. (tt, lack)) (rw c.task-task-in-Defend.ensures at (c.defend.ensures.ends (files_of (g.H.Shelf.files c.args.shelf.now))))
 
 pub returns-in-Keep-clause-ends : goal.returns-in-Keep-clause-ends
 returns-in-Keep-clause-ends g c = λ words o.
