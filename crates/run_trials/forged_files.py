@@ -4,7 +4,7 @@
 Writes strategy files that the program did not write, in a folder of its own, and compares what `check` says of each with what chess says.
 First come strategies that are written otherwise: with states in another order, and with more states than the words need, drawn from the
 seed. They have to be accepted. Then come claims that are no strategy, each with the first rule that it does not keep, by docs/FORMATS.md.
-The automata are made here, from the format alone. The code is 0 where all is as it should be, and else 1.
+Each is written in both versions. The automata are made here, from the format alone. The code is 0 where all is as it should be, and else 1.
 """
 import random
 import struct
@@ -87,8 +87,36 @@ def no_words(tracks):
     return Table([0] * letters, [[0] * letters], [False])
 
 
+class Nodes:
+    """Nodes of a set of version 2, each once. A part is the number of a state, or of a node behind all states."""
+
+    def __init__(self, states, tracks, nodes=()):
+        self.states, self.tracks, self.nodes = states, tracks, list(nodes)
+        self.places = {node: states + at for at, node in enumerate(self.nodes)}
+
+    def row(self, part):
+        """The state for each letter."""
+        def leads(letter, part):
+            while part >= self.states:
+                track, low, high = self.nodes[part - self.states]
+                part = high if letter >> track & 1 else low
+            return part
+        return [leads(letter, part) for letter in range(2**self.tracks)]
+
+    def part(self, row, track=0):
+        """The part of a row, whose letters have the bits from this track on."""
+        if len(row) == 1:
+            return row[0]
+        low, high = self.part(row[0::2], track + 1), self.part(row[1::2], track + 1)
+        node = (track, low, high)
+        if low != high and node not in self.places:
+            self.places[node] = self.states + len(self.nodes)
+            self.nodes.append(node)
+        return low if low == high else self.places[node]
+
+
 class File:
-    """A strategy file: what stands before its sets, and its sets by ply and mask."""
+    """A strategy file of version 2: what stands before its sets, and its sets by ply and mask."""
 
     def __init__(self, data):
         self.head_length = 8
@@ -97,24 +125,25 @@ class File:
         self.head, at = bytearray(data[: self.head_length]), self.head_length
         self.sets = {}
         while at < len(data):
-            ply, mask, count = struct.unpack_from(">BBI", data, at)
-            letters = 4 ** bin(mask).count("1")
-            read = lambda place: list(struct.unpack_from(f">{letters}I", data, place))
-            first, at = read(at + 6), at + 6 + 4 * letters
-            rows, accept = [], []
-            for _ in range(count):
-                accept.append(bool(data[at]))
-                rows.append(read(at + 1))
-                at += 1 + 4 * letters
-            self.sets[ply, mask] = Table(first, rows, accept)
+            ply, mask, states, count = struct.unpack_from(">BBII", data, at)
+            at += 10
+            nodes = Nodes(states, 2 * bin(mask).count("1"), struct.iter_unpack(">BII", data[at : at + 9 * count]))
+            at += 9 * count
+            first, at = nodes.row(*struct.unpack_from(">I", data, at)), at + 4
+            its = list(struct.iter_unpack(">BI", data[at : at + 5 * states]))
+            self.sets[ply, mask], at = Table(first, [nodes.row(part) for _, part in its], [bool(flag) for flag, _ in its]), at + 5 * states
 
-    def written(self):
+    def written(self, version=2):
         out = bytearray(self.head)
+        out[4] = version
         for (ply, mask), table in sorted(self.sets.items()):
+            nodes = Nodes(len(table.rows), 2 * bin(mask).count("1"))
+            put = (lambda row: struct.pack(">I", nodes.part(row))) if version == 2 else (lambda row: struct.pack(f">{len(row)}I", *row))
+            rows = put(table.first) + b"".join(bytes([accepts]) + put(row) for row, accepts in zip(table.rows, table.accept))
             out += struct.pack(">BBI", ply, mask, len(table.rows))
-            out += struct.pack(f">{len(table.first)}I", *table.first)
-            for row, accepts in zip(table.rows, table.accept):
-                out += bytes([accepts]) + struct.pack(f">{len(row)}I", *row)
+            if version == 2:
+                out += struct.pack(">I", len(nodes.nodes)) + b"".join(struct.pack(">BII", *node) for node in nodes.nodes)
+            out += rows
         return bytes(out)
 
 
@@ -132,9 +161,9 @@ class Program:
         with open(f"{self.folder}/kept", "rb") as it:
             return File(it.read())
 
-    def says(self, file):
+    def says(self, file, version):
         with open(f"{self.folder}/forged", "wb") as it:
-            it.write(file.written())
+            it.write(file.written(version))
         return self.run("check forged 200000")
 
 
@@ -202,10 +231,11 @@ def main(words):
                 file.sets = {at: table.renamed(draw, copies) for at, table in file.sets.items()}
                 cases.append((f"{copies} states more, in another order", file, f"mate in {moves}", 0))
         cases += [(what, file, f"file not kept at {rule}", 11) for what, file, rule in forged(program)]
-        for what, file, wanted, code in cases:
-            said = program.says(file)
-            count, wrong = count + 1, wrong + (said != (wanted, code))
-            print(f"{'as it should be' if said == (wanted, code) else f'WANTED {wanted!r}'}: {said[0]}  ({what})", flush=True)
+        for version in (1, 2):
+            for what, file, wanted, code in cases:
+                said = program.says(file, version)
+                count, wrong = count + 1, wrong + (said != (wanted, code))
+                print(f"{'as it should be' if said == (wanted, code) else f'WANTED {wanted!r}'}: {said[0]}  (version {version}: {what})", flush=True)
     print(f"{count} files, {wrong} wrong")
     return 1 if wrong else 0
 

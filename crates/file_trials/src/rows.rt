@@ -1,4 +1,4 @@
-//! The rows, each a call of `strategy_file`.
+//! The rows, each a call of `strategy_file` or `file_writing`.
 
 ghost use Rattle.std.specs.Prelude.{◌≡◌, IfOk};
 ghost use Rattle.winning_sets.specs.declared.origin.Origin.TheVariants.{Plan};
@@ -8,11 +8,10 @@ ghost use Rattle.strategy_file.specs.Fitting.{HasFileOf};
 use crate::outcome::write_outcome;
 use crate::spelling::spelled;
 use auto_core::Auto;
+use file_writing::{WriteFileError, write_claim, write_file, write_file_1};
 use limits::Budget;
 use std::alloc::Global;
-use strategy_file::{
-    Claim, FileError, Version, WriteFileError, read_file, write_claim, write_file, write_file_1,
-};
+use strategy_file::{Claim, FileError, Version, read_file};
 use trial_rows::{Fields, Named, RowError, write_truth, written};
 use winning_sets::{SolveError, Solved, solve};
 

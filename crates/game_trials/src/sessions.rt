@@ -20,7 +20,6 @@ fn solved(
     let winner = side(fields)?;
     let moves = fields.number::<u8>()?;
     let budget = fields.budget()?;
-    let _ = position.count(); // for its invariant
     if moves > 20 {
         return Err(RowError::Condition);
     }

@@ -162,7 +162,6 @@ fn solver_of(
     let position = sound_named(positions, fields)?;
     let winner = side(fields)?;
     let budget = fields.budget()?;
-    let _ = position.count(); // for its invariant
     Ok(Solver::new(alloc, &position, winner, budget))
 }
 

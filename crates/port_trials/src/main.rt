@@ -1,0 +1,50 @@
+//! The program `port_trials`: reads a script of rows from the standard input, and writes what comes of each. The rows call the ports of the program
+//! `mate` on files of the folder where it runs, and perform its runs over such files and over bytes in memory. `docs/CALLS.md` says how rows are
+//! written.
+#![tactic(auto)]
+
+mod calls;
+mod runs;
+
+use calls::{fetch_row, keep_row, read_row, refused_row, write_row};
+use desk_base::MemFiles;
+use runs::{memory_row, run_row};
+use std::alloc::Global;
+use std::process::ExitCode;
+use trial_rows::{Fields, RowError, Rows, answer_script};
+
+/// Where the files are that rows name: those of the working folder, and those in memory, which stay from row to row.
+#[derive(Drop)]
+struct Places<'a> {
+    system: &'a HostRuntime,
+    memory: MemFiles,
+}
+
+impl<'a> Rows for Places<'a> {
+    fn answer(
+        &mut self,
+        alloc: Global,
+        kind: &str,
+        fields: &mut Fields,
+        out: &mut String,
+    ) -> Result<(), RowError> {
+        match kind {
+            "keep" => keep_row(alloc, self.system, fields, out),
+            "fetch" => fetch_row(alloc, self.system, fields, out),
+            "read" => read_row(self.system, fields, out),
+            "write" => write_row(self.system, fields, out),
+            "refused" => refused_row(self.system, fields, out),
+            "run" => run_row(alloc, self.system, fields, out),
+            "memory" => memory_row(alloc, self.system, &mut self.memory, fields, out),
+            _ => Err(RowError::Kind),
+        }
+    }
+}
+
+fn main(rt: HostRuntime) -> ExitCode {
+    let mut places = Places {
+        system: &rt,
+        memory: MemFiles::new(rt.alloc()),
+    };
+    answer_script(&rt, &mut places)
+}

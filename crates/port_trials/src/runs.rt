@@ -1,0 +1,81 @@
+//! Rows that perform a run of the program.
+
+use crate::calls::write_bytes;
+use desk_base::MemFiles;
+use mate_desk::Status;
+use mate_ports::{FolderShelf, StdSink, StdSource, perform, perform_in_memory};
+use std::alloc::Global;
+use std::fs::Files;
+use std::io::Read;
+use std::{fs, mem};
+use trial_rows::{Fields, RowError};
+
+/// The file of the working folder to which a run writes.
+const OUTPUT: &str = "output";
+
+/// The words of a run.
+fn words_of(alloc: Global, text: &str) -> Result<Vec<String>, RowError> {
+    let mut words = Vec::new(alloc);
+    for word in text.split(' ') {
+        words.push(String::from_str(alloc, word)?)?;
+    }
+    Ok(words)
+}
+
+/// The bytes of a file of the working folder.
+fn bytes_of<R: Files>(alloc: Global, system: &R, name: &str) -> Result<Vec<u8>, RowError> {
+    let Ok(mut file) = fs::open(system, name) else {
+        return Err(RowError::Name);
+    };
+    let mut bytes = Vec::new(alloc);
+    match file.read_to_end(&mut bytes) {
+        Ok(_) => Ok(bytes),
+        Err(_) => Err(RowError::Name),
+    }
+}
+
+/// Writes how a run ended, and what it wrote.
+fn write_run(out: &mut String, status: Status, output: &[u8]) -> Result<(), RowError> {
+    write!(out, "{} ", status.code())?;
+    write_bytes(out, output)
+}
+
+/// `run INPUT WORDS`: the status of a run on a file of the working folder and all files that it has, and what it wrote to a file.
+pub fn run_row<R: Files>(
+    alloc: Global,
+    system: &R,
+    fields: &mut Fields,
+    out: &mut String,
+) -> Result<(), RowError> {
+    let Ok(input) = fs::open(system, fields.word()?) else {
+        return Err(RowError::Name);
+    };
+    let Ok(output) = fs::create(system, OUTPUT) else {
+        return Err(RowError::Name);
+    };
+    let words = words_of(alloc, fields.rest())?;
+    let mut source = StdSource::new(input);
+    let mut sink = StdSink::new(output);
+    let mut shelf = FolderShelf::new(system);
+    let status = perform(Ok(words), &mut source, &mut sink, &mut shelf, alloc);
+    let wrote = bytes_of(alloc, system, OUTPUT)?;
+    write_run(out, status, wrote.as_slice())
+}
+
+/// `memory INPUT WORDS`: the same over the bytes of the file, a vector and the files in memory, and how many bytes of the input were not taken.
+pub fn memory_row<R: Files>(
+    alloc: Global,
+    system: &R,
+    files: &mut MemFiles,
+    fields: &mut Fields,
+    out: &mut String,
+) -> Result<(), RowError> {
+    let input = bytes_of(alloc, system, fields.word()?)?;
+    let words = words_of(alloc, fields.rest())?;
+    let before = mem::replace(files, MemFiles::new(alloc));
+    let ran = perform_in_memory(Ok(words), input.as_slice(), Vec::new(alloc), before, alloc)?;
+    *files = ran.files;
+    write_run(out, ran.status, ran.output.as_slice())?;
+    write!(out, " {}", ran.rest.len())?;
+    Ok(())
+}
