@@ -87,6 +87,11 @@ def play(men, turn, n, replies, budget=None, seconds=None):
     return run(["play", n, budget], men, turn, seconds, replies)
 
 
+def defend(men, turn, n, moves, budget=None, seconds=None):
+    """Returns the lines of the game that the loser plays against these moves of the winner."""
+    return run(["defend", n, budget], men, turn, seconds, moves)
+
+
 def keep(men, turn, n, name, budget=None, seconds=None):
     """Returns what decide does. Where he can, his strategy is then the file of this name in the working folder, whatever stood there."""
     return run(["keep", n, name, budget], men, turn, seconds) == [f"mate in {n}"]

@@ -22,9 +22,11 @@ MOVES, BUDGET, NAME, SEED, COUNT = "N", "BUDGET", "NAME", "SEED", "COUNT"
 NAMES = [NAME, "OLD", "NEW"]
 # The words of each command; the budget may be left out.
 SHAPES = {
-    "decide": [MOVES, BUDGET], "least": ["L", BUDGET], "first": [MOVES, BUDGET], "describe": [MOVES, BUDGET], "play": [MOVES, BUDGET],
+    "decide": [MOVES, BUDGET], "least": ["L", BUDGET], "first": [MOVES, BUDGET], "describe": [MOVES, BUDGET], "play": [MOVES, BUDGET], "defend": [MOVES, BUDGET],
     "keep": [MOVES, NAME, BUDGET], "check": [NAME, BUDGET], "resume": [NAME, BUDGET], "migrate": ["OLD", "NEW"], "drill": [SEED, COUNT], "arith": [BUDGET], "show": [],
 }
+# The commands that play a game.
+GAMES = ("play", "resume", "defend")
 # The commands that are the script's own.
 OF_SCRIPT = ["help", "version", "cost", "unproved"]
 LIMITS = {MOVES: (0, 20), "L": (0, 20), BUDGET: (1, 200000), SEED: (0, 2**64 - 1), COUNT: (0, 100)}
@@ -543,7 +545,7 @@ def replies_of(told, position, rest):
     """Returns what became of the replies of a game, as far as the lines of its report and this script's own board agree."""
     game, lines = Replies(), list(told)
     for number, reply in enumerate(rest.split(b"\n")[:-1], 1):
-        while lines and lines[0].startswith("white "):
+        while lines and lines[0].startswith(("white ", "black ")):
             man, x, y = map(int, lines.pop(0).split()[1:])
             position = position.after(man, (x, y))
         if not lines or lines[0] not in ("illegal", "unreadable"):
@@ -613,10 +615,11 @@ def of_unreadable(told, text, fields, position):
 def of_game(code, lines, words, text, folder):
     """Returns the sentences on the replies of a game, and on its end."""
     position, rest = start_of(words, text, folder)
-    game = replies_of([it for it in lines if it != "mate"], position, rest) if position else Replies()
+    game = replies_of([it for it in lines if it not in ("mate", "held", "stuck")], position, rest) if position else Replies()
     made = [of_reply(*it) for it in game.refused[-MOST_REPLIES:]]
     if code == 12:
-        made.append(said("ended / quit" if game.last == "quit" else "ended / resume" if words[0] == "resume" else "ended", mended=" ".join(words)))
+        by = f" / {words[0]}" if words[0] in ("resume", "defend") else ""
+        made.append(said(f"ended{by}" if game.last != "quit" else "ended / defend quit" if words[0] == "defend" else "ended / quit", mended=" ".join(words)))
     return made
 
 
@@ -668,7 +671,7 @@ def sentences(code, told, words, text, folder="."):
     lines = told.splitlines()
     fields = lines[-1].split(" ") if lines else []
     words = words[1:] if words[:1] == ["cost"] else words
-    is_game = bool(words) and words[0] in ("play", "resume")
+    is_game = bool(words) and words[0] in GAMES
     try:
         made = of_game(code, lines, words, text, folder) if is_game and code in (0, 9, 12, 13) else []
         made += [it for it in [of_end(code, fields, words, text, folder)] if it]
@@ -694,7 +697,7 @@ def of_end(code, fields, words, text, folder):
     if code == 8:
         return of_budget(fields[3:], words)
     if code == 9:
-        return said("wide / resume" if words[0] == "resume" else "wide")
+        return said(f"wide / {words[0]}" if words[0] in ("resume", "defend") else "wide")
     if code == 10:
         return said("memory" if fields[-1:] == ["memory"] else "memory / words")
     if code == 11:

@@ -2,7 +2,7 @@
 """usage: gallery/make.py [--mate PROGRAM] [--stored] [--quick] [--kept] [--only WORD]
 
 Asks ./mate, or another build of it, what positions.py lists, compares each answer with what is claimed there, and writes docs/GALLERY.md with
-its pictures docs/gallery/*.svg. Every answer is put into gallery/answers.json, with the program that gave it; with --stored those that stand
+its pictures docs/gallery/*.svg; maps are made by ./map, and solutions by ./solve. Every answer is put into gallery/answers.json, with the program that gave it; with --stored those that stand
 there are taken, and only the others are asked for. --quick looks for the budget among the numbers 256, 512, 1024 and so on alone. With --kept
 nothing is asked for, and what has no kept answer is left out of the page, which says so. --only asks for the entries and families whose names
 have the word, and writes no page. The code is 0 where all claims hold, else 1.
@@ -15,31 +15,32 @@ import resource
 import subprocess
 import sys
 import tempfile
+import threading
 
 HERE = os.path.dirname(os.path.realpath(__file__))
 TOP = os.path.dirname(HERE)
 sys.path.insert(0, HERE)
 sys.dont_write_bytecode = True
-from positions import ENTRIES, FAMILIES, SEARCH, TRIED  # noqa: E402
+from positions import DEFENCES, ENTRIES, FAMILIES, MAPS, SEARCH, SOLUTIONS, TRIED  # noqa: E402
 
 ANSWERS = f"{HERE}/answers.json"
 MOST_BUDGET = 200000
 OVER = 8
-# Where a verdict takes more seconds than this, the least budget is not looked for by halves.
-SECONDS_FOR_HALVES = 1.0
+# Where a verdict takes more seconds than the first, the least budget is not looked for by halves, and where it takes more than the second, not at all.
+SECONDS_FOR_HALVES, SECONDS_FOR_BUDGET = 1.0, 2.0
 OWN = "./mate"
 
 
-def module_of(path):
-    """Returns the script ./board as a module, which draws the pictures."""
-    loader = importlib.machinery.SourceFileLoader("board", path)
-    made = importlib.util.module_from_spec(importlib.util.spec_from_loader("board", loader))
-    sys.modules["board"] = made
+def module_of(name):
+    """Returns a script of the top folder as a module."""
+    loader = importlib.machinery.SourceFileLoader(name, f"{TOP}/{name}")
+    made = importlib.util.module_from_spec(importlib.util.spec_from_loader(name, loader))
+    sys.modules[name] = made
     loader.exec_module(made)
     return made
 
 
-board = module_of(f"{TOP}/board")
+board, maps, solve = (module_of(it) for it in ("board", "map", "solve"))
 
 
 def text_of(men, turn):
@@ -47,6 +48,10 @@ def text_of(men, turn):
     sides = zip("WB", men.split("/"))
     lines = [f"{side} {man.strip()}" for side, part in sides for man in part.split(",")]
     return "\n".join(["infinite chess 1", f"turn {turn}", *lines, "end", ""])
+
+
+def position_of(men, turn):
+    return board.chess.read_text(text_of(men, turn).encode())[0]
 
 
 class Missing(Exception):
@@ -70,6 +75,20 @@ class Engine:
             raise Missing
         if key not in self.answers:
             self.answers[key] = self.run(words, text, most_seconds)
+            self.fresh += 1
+            self.store()
+        return self.answers[key]
+
+    def made(self, words, text, make):
+        """Returns what a script makes of answers of the program, which it asks by its path."""
+        key = words + "\n" + text
+        if key not in self.answers and not self.asks:
+            raise Missing
+        if key not in self.answers:
+            before = resource.getrusage(resource.RUSAGE_CHILDREN).ru_utime
+            wrote = make(maps.mate.program() if self.name == OWN else self.program)
+            seconds = resource.getrusage(resource.RUSAGE_CHILDREN).ru_utime - before
+            self.answers[key] = {"wrote": wrote, "code": 0, "seconds": round(seconds, 2), "states": [], "by": self.name}
             self.fresh += 1
             self.store()
         return self.answers[key]
@@ -102,11 +121,11 @@ def states_in(path):
         at += 3 + 16 * data[at + 2]
     sets = []
     while at < len(data):
-        ply, mask = data[at], data[at + 1]
-        states = int.from_bytes(data[at + 2 : at + 6], "big")
-        letters = 4 ** bin(mask).count("1")
-        sets.append([ply, mask, states])
-        at += 6 + 4 * letters + states * (1 + 4 * letters)
+        number = lambda place: int.from_bytes(data[place : place + 4], "big")
+        states = number(at + 2)
+        sets.append([data[at], data[at + 1], states])
+        letters = 4 ** bin(data[at + 1]).count("1")
+        at += 6 + 4 * letters + states * (1 + 4 * letters) if data[4] == 1 else 14 + 9 * number(at + 6) + 5 * states
     return sets
 
 
@@ -145,11 +164,14 @@ def answers_of(engine, entry):
     verdict = engine.ask(f"{verdict_words(entry)} {MOST_BUDGET}", text)
     expect(entry.name, entry.claim + "\n", verdict["wrote"])
     mates = entry.claim.startswith(("least", "mate"))
-    rays, states, game = [], None, []
-    if mates and entry.turn == "W":
+    rays, distances, states, game = [], [], None, []
+    if mates and entry.is_winner_first():
         rays = engine.ask(f"first {entry.moves} {MOST_BUDGET}", text)["wrote"].splitlines()[:-1]
         if entry.rays is not None:
             expect(f"{entry.name}, first moves", entry.rays, rays)
+    if entry.distances:
+        distances = engine.ask(f"describe {entry.moves} {MOST_BUDGET}", text)["wrote"].splitlines()[:-1]
+        expect(f"{entry.name}, distances", entry.distances, distances)
     if mates:
         states = engine.ask(f"keep {entry.moves} kept {MOST_BUDGET}", text)["states"]
     if entry.played:
@@ -157,8 +179,8 @@ def answers_of(engine, entry):
         game = engine.ask(f"play {entry.moves} {MOST_BUDGET}", text + replies)["wrote"].splitlines()
         expect(f"{entry.name}, played", entry.played, game)
     is_quick = engine.is_quick or verdict["seconds"] > SECONDS_FOR_HALVES
-    budget = least_budget(engine, f"decide {entry.moves}", text, is_quick)
-    return {"text": text, "verdict": verdict, "rays": rays, "states": states, "game": game, "budget": budget}
+    budget = None if verdict["seconds"] > SECONDS_FOR_BUDGET else least_budget(engine, f"decide {entry.moves}", text, is_quick)
+    return {"text": text, "verdict": verdict, "rays": rays, "distances": distances, "states": states, "game": game, "budget": budget}
 
 
 def picture(engine, entry, text):
@@ -188,20 +210,69 @@ def budget_told(small, enough):
 def entry_lines(engine, number, entry):
     told = answers_of(engine, entry)
     path = picture(engine, entry, told["text"])
-    turn = "White" if entry.turn == "W" else "Black"
+    turn = board.chess.SIDES[entry.turn[0]]
     rows = [("Verdict", f"`{entry.claim}` (`{verdict_words(entry)}`)")]
-    if told["rays"]:
+    if told["distances"]:
+        rows.append(("Winning first moves (`describe`)", "<br>".join(f"`{it}`" for it in told["distances"])))
+    elif told["rays"]:
         rows.append(("Winning first moves", "<br>".join(f"`{it}`" for it in told["rays"])))
     if told["states"] is not None:
         rows.append(("Strategy", described(told["states"])))
-    rows.append(("Budget", budget_told(*told["budget"])))
+    if told["budget"]:
+        rows.append(("Budget", budget_told(*told["budget"])))
     rows.append(("Time", f"{told['verdict']['seconds']:.2f} s"))
     if told["game"]:
         replies = f", replies {', '.join(f'`{it}`' for it in entry.replies)}" * bool(entry.replies)
         rows.append(("Played", " ".join(f"`{it}`" for it in told["game"]) + replies))
-    alt = f"{entry.men.replace(' / ', '. Black: ')}. {turn} to move."
+    alt = f"{entry.men.replace(' / ', '. Black: ')}. {turn} to move{', Black is to mate' * entry.turn.endswith('for B')}."
     table = [f"| {name} | {value} |" for name, value in rows]
     return [f"### {number}. {entry.title}", "", f"![White: {alt}]({path})", "", entry.caption, "", "| | |", "|---|---|", *table, ""]
+
+
+def map_lines(engine, drawn):
+    """Returns the section of a map, of which each square is as it is claimed to be."""
+    words = [str(drawn.man), str(drawn.moves), f"{drawn.files[0]}:{drawn.files[1]}", f"{drawn.ranks[0]}:{drawn.ranks[1]}", *drawn.budget]
+    asked = maps.asked_of(words, position_of(drawn.men, drawn.turn))
+    make = lambda program: maps.as_csv(asked, maps.answers(program, asked, threading.Event()))
+    told = engine.made(" ".join(["map", *words]), text_of(drawn.men, drawn.turn), make)
+    found = {}
+    for row in told["wrote"].splitlines()[1:]:
+        x, y, answer = row.split(",")
+        square = int(x), int(y)
+        if square not in asked.others():
+            expect(f"{drawn.name}, {x} {y}", str(drawn.claim(*square)), answer)
+            found[square] = int(answer) if answer.isdigit() else answer
+    path = f"gallery/{drawn.name}.svg"
+    with open(f"{TOP}/docs/{path}", "w", encoding="utf-8") as it:
+        it.write(maps.as_svg(asked, found))
+    alt = f"{maps.caption(asked)}. White: {drawn.men.replace(' / ', '. Black: ')}."
+    return [f"### {drawn.title}", "", f"![{alt}]({path})", "", drawn.caption, "", f"`./map {' '.join(words)}`, {told['seconds']:.0f} s of processors", ""]
+
+
+def solution_lines(engine, solved):
+    """Returns the section of a solution, which is as it is claimed to be."""
+    text = text_of(solved.men, solved.turn)
+
+    def make(program):
+        asked = solve.Asked(solved.moves, [str(MOST_BUDGET)], has_tries=solved.has_tries)
+        solution = solve.Solution(solve.Engine(program, asked.budget), asked)
+        return "".join(f"{it}\n" for it in solve.lines_of(solution, position_of(solved.men, solved.turn)))
+
+    words = f"solve {'--tries ' * solved.has_tries}{solved.moves} {MOST_BUDGET}"
+    told = engine.made(words, text, make)["wrote"]
+    expect(solved.title, solved.claim, told)
+    return [f"### {solved.title}", "", solved.caption, "", f"White: {solved.men.replace(' / ', '. Black: ')}. `./{words}`", "", "```", *told.splitlines(), "```", ""]
+
+
+def defence_lines(engine, defended):
+    """Returns the section of a defence, which goes as it is claimed to."""
+    moves = "".join(f"{it}\n" for it in defended.tried)
+    words = f"defend {defended.moves} {MOST_BUDGET}"
+    told = engine.ask(words, text_of(defended.men, defended.turn) + moves)["wrote"].splitlines()
+    expect(defended.title, defended.claim, told)
+    played = f", moves {', '.join(f'`{it}`' for it in defended.tried)}" * bool(defended.tried)
+    position = f"White: {defended.men.replace(' / ', '. Black: ')}. {board.chess.SIDES[defended.turn[0]]} to move{', Black is to mate' * defended.turn.endswith('for B')}."
+    return [f"### {defended.title}", "", defended.caption, "", f"{position} `{words}`{played}: {' '.join(f'`{it}`' for it in told)}", ""]
 
 
 def family_lines(engine, family):
@@ -261,11 +332,22 @@ def collected(engine, only):
     for family in FAMILIES:
         if only in family.title:
             collect(families, wrong, left_out, family.title, lambda: family_lines(engine, family))
+    drawn, solved = [], []
+    for it in MAPS:
+        if only in it.name:
+            collect(drawn, wrong, left_out, it.name, lambda: map_lines(engine, it))
+    for it in SOLUTIONS:
+        if only in it.title:
+            collect(solved, wrong, left_out, it.title, lambda: solution_lines(engine, it))
+    defended = []
+    for it in DEFENCES:
+        if only in it.title:
+            collect(defended, wrong, left_out, it.title, lambda: defence_lines(engine, it))
     tried, search = [], []
     if not only:
         collect(tried, wrong, left_out, "what passes every budget", lambda: tried_lines(engine))
         collect(search, wrong, left_out, "the longest least number", lambda: search_lines(engine))
-    return {"Positions": entries, "Families": families, "What the engine cannot decide": tried, "The longest least number": search}, wrong, left_out
+    return {"Positions": entries, "Maps": drawn, "Solutions": solved, "Defences": defended, "Families": families, "What the engine cannot decide": tried, "The longest least number": search}, wrong, left_out
 
 
 def collect(lines, wrong, left_out, name, made):
@@ -314,7 +396,7 @@ def main(words):
         with open(f"{TOP}/docs/GALLERY.md", "w", encoding="utf-8") as it:
             it.write(page_of(engine, sections, left_out))
     seconds = sum(it["seconds"] for it in engine.answers.values())
-    print(f"{len(ENTRIES)} positions, {len(FAMILIES)} families, {len(wrong)} wrong; {engine.fresh} asked for, {seconds:.0f} s of the program in all")
+    print(f"{len(ENTRIES)} positions, {len(MAPS)} maps, {len(SOLUTIONS)} solutions, {len(DEFENCES)} defences, {len(FAMILIES)} families, {len(wrong)} wrong; {engine.fresh} asked for, {seconds:.0f} s of the program in all")
     return 1 if wrong else 0
 
 

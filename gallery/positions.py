@@ -2,7 +2,12 @@
 
 A position is White's men, a stroke and Black's men. A claim is what the engine has to answer, found by chess; make.py fails where it differs.
 """
-from dataclasses import dataclass, field
+import os
+import sys
+from dataclasses import dataclass, field, replace
+
+sys.path.insert(0, os.path.join(os.path.dirname(os.path.realpath(__file__)), "..", "explain"))
+import position as chess  # noqa: E402
 
 # The greatest and the least number that a text can name.
 MOST, LEAST = 2**63 - 1, -(2**63)
@@ -10,7 +15,8 @@ MOST, LEAST = 2**63 - 1, -(2**63)
 
 @dataclass
 class Entry:
-    """A position with its title, what is asked and the answer that is claimed, and a caption. `rays` are the claimed lines of `first`."""
+    """A position with its title, what is asked and the answer that is claimed, and a caption. `turn` is what stands behind that word in the text.
+    `rays` are the claimed lines of `first`, `distances` those of `describe`."""
 
     name: str
     title: str
@@ -22,6 +28,15 @@ class Entry:
     rays: list = None
     replies: list = field(default_factory=list)
     played: list = field(default_factory=list)
+    distances: list = None
+
+    def is_winner_first(self):
+        return self.turn in ("W", "B for B")
+
+
+def rests(test, every):
+    """Returns the rests modulo `every` for which the test holds, as `describe` writes them."""
+    return ",".join(str(it) for it in range(every) if test(it))
 
 
 def ladder(**changes):
@@ -107,6 +122,94 @@ ENTRIES = [
     Entry("beside", "A rook that is taken", ladder(rook="R 1 7"), 1, "none up to 1", "At 1 0 nobody guards the rook, and the king takes it."),
     Entry("two-files", "As near as can be", ladder(rook="R 2 7"), 1, "least 1", "At 2 0 the king does not reach it."),
     Entry("behind-the-king", "From the left", ladder(rook="R -5 7"), 1, "least 1", "Either side will do: rank 0 is a line without ends."),
+    # Chancellor, archbishop, amazon and nightrider.
+    Entry("amazon", "King and amazon", "K 0 -2, Z 9 2 / K 0 0", 1, "least 1",
+          "At 0 2 the amazon has 0 1 and 0 -1 on her file, 1 1 and -1 1 on her diagonals, and 1 0 and -1 0 by leaps; the king has the corners below. "
+          "At 1 2 she checks by a leap and has file 1, 0 1 and -1 0 on a diagonal, and -1 1 by a leap; at -1 2 the same on the other side. So she goes 8, 9 or 10 squares.",
+          rays=["man 2 step -1 0 least 8 more"], distances=["man 2 step -1 0 runs 8-10 from 11 every 1 rests none"]),
+    Entry("queen-for-amazon", "A queen in her place", "K 0 -2, Q 9 2 / K 0 0", 1, "none up to 1",
+          "The queen at 0 2 leaves 1 0 and -1 0, which the amazon has by leaps."),
+    Entry("amazon-in-two", "King and amazon in two", "K 3 0, Z -2 4 / K 0 0", 2, "least 2",
+          "The amazon checks at -2 0 along the rank. She has 1 0 and -1 0 there, -1 1 and -1 -1 by diagonals, 0 1 and 0 -1 by leaps: the king goes to 1 1 or 1 -1. "
+          "Then she mates by a leap, or from 2 0, where her king guards her; the moves stand below, under *Solutions*.",
+          rays=["man 2 step 0 -1 least 4 only"]),
+    Entry("chancellor", "A chancellor as a rook", "K 0 -2, R 10 1, C 5 7 / K 0 0", 1, "least 1",
+          "The chancellor stands in for the rook of the ladder: from 5 0 the rank is his.", rays=["man 3 step 0 -1 least 7 only"], played=["white 3 5 0", "mate"]),
+    Entry("chancellor-leaps", "A chancellor's leaps", "K 2 0, R -1 -2, C 5 -2 / K 0 0", 1, "least 1",
+          "The chancellor goes to 0 -2 and checks along the file, where he has 0 1 and 0 -1. The rook has file -1, the king file 1.",
+          rays=["man 3 step -1 0 least 5 only"], played=["white 3 0 -2", "mate"]),
+    Entry("double-check", "A chancellor's double check", "K -2 -1, N 2 0, B 6 6, C 3 3 / K 0 0, R 20 2", 1, "least 1",
+          "The chancellor leaps to 1 2, and the bishop behind him checks too. Black's rook could take the chancellor along rank 2, and could stand before the bishop at 2 2, "
+          "but not both. 1 1, 1 0 and 1 -1 are on the chancellor's file, -1 1 is his by a leap, 0 1 and 0 -1 are the knight's, -1 0 and -1 -1 the king's.",
+          rays=["man 4 step -2 -1 least 1 only"], played=["white 4 1 2", "mate"]),
+    Entry("single-check", "The same without the bishop", "K -2 -1, N 2 0, B 7 6, C 3 3 / K 0 0, R 20 2", 1, "none up to 1",
+          "The bishop stands one file aside. The chancellor's check from 1 2 is answered: the rook takes him."),
+    Entry("chancellors-in-two", "Chancellor and archbishop in two", "K -2 1, C 5 4, A -2 -3 / K 0 0", 2, "least 2",
+          "A quiet key: the chancellor goes to 1 4 and takes file 1 from the king, to whom 0 1 is left. There the archbishop mates from -1 -1 by a leap.",
+          rays=["man 2 step -1 0 least 4 only"], replies=["4 0 1"], played=["white 2 1 4", "white 3 -1 -1", "mate"]),
+    Entry("archbishops", "Two archbishops", "K -2 0, A 2 4, A 2 3 / K 0 0", 1, "least 1",
+          "The archbishop checks from -1 1, where the king guards him; he has 1 -1 behind the black king, and 1 0 and 0 -1 by leaps. The other has 0 1 on a diagonal, and 1 1 by a leap; "
+          "the white king has the three squares of file -1.", rays=["man 2 step -1 -1 least 3 only"], played=["white 2 -1 1", "mate"]),
+    Entry("archbishop-rook", "Archbishop and rook", "K 0 -2, R 1 -4, A 4 -1 / K 0 0", 1, "least 1",
+          "The archbishop checks from 1 2 by a leap. He has 0 1 and -1 0 on a diagonal, and -1 1 by another leap. The rook has file 1 up to him, the king 0 -1 and -1 -1.",
+          rays=["man 3 step -1 1 least 3 only"], played=["white 3 1 2", "mate"]),
+    Entry("nightrider-far", "A nightrider mates from afar", "K 0 -2, R 9 1, N 0 2, H 1995 -990 / K 0 0", 1, "least 1",
+          "Rook, knight and king have all eight squares beside the black king, so any check from afar mates. Two ways of leaps that are not parallel cross, on a square of the board or between squares: "
+          "the ten crossings of a way of the nightrider with a line of check that are squares lie 3 to 1660 leaps from him, two on each of four of his ways.",
+          rays=["man 4 step 1 2 least 1325 only", "man 4 step -1 2 least 795 more", "man 4 step -2 1 least 996 more", "man 4 step -2 -1 least 600 more",
+                "man 4 step -1 -2 least 3 more", "man 4 step 1 -2 least 5 only"]),
+    Entry("nightrider-one-way", "One way to the king", "K -2 -2, Q -2 1, R 1 -2, H -14 1 / K 0 0", 1, "least 1",
+          "The queen has rank 1, and -1 0 and 0 -1 on a diagonal, the rook file 1, the king -1 -1. The nightrider gets to one check that mates: in four leaps to -6 -3, three leaps from the king.",
+          rays=["man 4 step 2 -1 least 4 only"], played=["white 4 -6 -3", "mate"]),
+    Entry("nightrider-blocked", "Blocked at a leap", "K -2 -2, Q -2 1, R 1 -2, H -14 1, P -8 -2 / K 0 0", 1, "none up to 1",
+          "A pawn stands where his third leap would land, and he does not pass it."),
+    Entry("nightrider-unblocked", "Not blocked beside", "K -2 -2, Q -2 1, R 1 -2, H -14 1, P -8 -1 / K 0 0", 1, "least 1",
+          "One rank higher no leap lands, and what he flies over does not stop him.", rays=["man 4 step 2 -1 least 4 only"]),
+    Entry("nightrider-pinned", "A nightrider pins a nightrider", "K 0 -2, R 10 1, R 5 7, H 3 6 / K 0 0, H 2 4", 1, "least 1",
+          "Black's nightrider could step between at 4 0, in two leaps over 3 2. But it stands on a line of leaps between its king and White's nightrider.",
+          rays=["man 3 step 0 -1 least 7 only"]),
+    Entry("nightrider-free", "The pin taken away", "K 0 -2, R 10 1, R 5 7, H 3 5 / K 0 0, H 2 4", 1, "none up to 1",
+          "With White's nightrider one rank lower Black's goes to 4 0."),
+    Entry("nightrider-thirds", "A nightrider's winning distances", "K -2 -1, R 1 -2, A -2 0, H 0 1 / K 0 0, P 2 0", 2, "least 2",
+          "Black's king has no square: the rook has file 1, the archbishop -1 1, 0 1 and 0 -1, the king -1 0 and -1 -1. His pawn has one move, to 2 -1, and then any far check by the nightrider mates. He has to come in a second "
+          "move onto a line of check: that of the leap 2 1, 1 2, -1 2, -2 1 or -1 -2; on the others stand king, rook and pawn. The ways of two leaps cross at each third, fourth or fifth square of a ray. "
+          "Down to the left there are the crossings of -1 2 and -2 1 alone, each third; from the first square he goes on to -2 1, and from the second he takes the pawn. "
+          "Down to the right each third and each fifth wins, but for 1 -1, where the pawn takes him. On the other rays there are three kinds of crossings, and 60 steps are alike.",
+          distances=[
+              f"man 4 step 2 1 runs none from 1 every 60 rests {rests(lambda t: t % 3 == 1 or t % 4 == 3 or t % 5 == 2, 60)}",
+              f"man 4 step 1 2 runs none from 1 every 60 rests {rests(lambda t: t % 3 == 2 or t % 4 == 2 or t % 5 == 1, 60)}",
+              f"man 4 step -1 2 runs none from 1 every 60 rests {rests(lambda t: t % 3 == 2 or t % 4 == 2 or t % 5 == 1, 60)}",
+              f"man 4 step -2 1 runs none from 1 every 60 rests {rests(lambda t: t % 3 == 1 or t % 4 == 3 or t % 5 == 2, 60)}",
+              "man 4 step -1 -2 runs 1-2 from 3 every 3 rests 1",
+              f"man 4 step 1 -2 runs none from 2 every 15 rests {rests(lambda t: t % 3 == 1 or t % 5 == 4, 15)}",
+          ]),
+    Entry("bishop-runs", "Runs before the rest", "K 0 -2, R 10 0, B 5 0, R 1 20, R -1 20, N -2 2 / K 0 0", 1, "least 1",
+          "Seven men. The bishop uncovers the rook of rank 0. The other rooks have 1 1 and -1 1 from above, the knight 0 1, the king rank -1. Up to the left the bishop comes into a rook's way after 4 squares, at 1 4, and after 6, at -1 6. "
+          "The rook of file -1 mates besides, from -1 0, where the knight guards him.",
+          distances=["man 3 step 1 1 runs none from 1 every 1 rests 0", "man 3 step -1 1 runs 1-3,5-5 from 7 every 1 rests 0",
+                     "man 3 step -1 -1 runs none from 1 every 1 rests 0", "man 3 step 1 -1 runs none from 1 every 1 rests 0", "man 5 step 0 -1 runs 20-20 from 21 every 1 rests none"]),
+    # Black as the winner.
+    Entry("black-ladder", "Black mates", "K 0 0 / K 0 2, R 10 -1, R 5 -7", 1, "least 1",
+          "The ladder with colours and ranks exchanged, and Black to mate.", turn="B for B", rays=["man 4 step 0 1 least 7 only"], played=["black 4 5 0", "mate"]),
+    Entry("black-pawn", "A black pawn mates", "K 0 0 / K 0 2, R 10 -1, N 0 -2, P 1 2", 1, "least 1",
+          "Black's pawns go down: from 1 1, guarded by the king, it checks at 0 0. The knight has 1 0 and -1 0.", turn="B for B",
+          rays=["man 5 step 0 -1 least 1 only"], played=["black 5 1 1", "mate"]),
+    Entry("white-has-to-move", "White has to move", "K 1 0 / K 0 2, R 10 -1, R 2 -7", 1, "least 1",
+          "White is to move and has one move, to 0 0; then the rook mates at 2 0.", turn="W for B", replies=["1 0 0"], played=["black 4 2 0", "mate"]),
+    Entry("black-amazon", "A black amazon, from afar", "K 0 0 / K 0 2, Z 1000 -2", 1, "least 1",
+          "She may stop at three squares of rank -2: at 1 -2, 0 -2 and -1 -2.", turn="B for B",
+          distances=["man 3 step -1 0 runs 999-1001 from 1002 every 1 rests none"]),
+    Entry("not-the-winner", "Who is to mate", "K 0 0 / K 0 2, R 10 -1, R 5 -7", 1, "none up to 1",
+          "Black could mate, but the text asks for White: he has a bare king.", turn="B"),
+    # Many men.
+    Entry("eight-men", "Four defenders too few", "K 0 -2, R 10 1, R 5 7 / K 0 0, R -3 3, B 100 3, N 7 2, P 20 20", 1, "least 1",
+          "Eight men. The black rook and the bishop reach rank 0 on the wrong side of the king or of the white rook, the knight reaches 6 0, which is too far, and the pawn only goes down.",
+          rays=["man 3 step 0 -1 least 7 only"], played=["white 3 5 0", "mate"]),
+    Entry("eight-men-saved", "One of them a file nearer", "K 0 -2, R 10 1, R 5 7 / K 0 0, R -3 3, B 100 3, N 6 2, P 20 20", 1, "none up to 1",
+          "With the knight on 6 2 the rook is taken at 5 0."),
+    Entry("seven-men-far", "Seven men at the edge of the numbers", f"K 0 {MOST - 3}, R 10 {MOST - 1}, R 10 {MOST}, B 5 {MOST - 1}, P 6 {MOST - 2}, P 4 {MOST - 2} / K 0 {MOST - 1}", 1, "least 1",
+          "The pawns close the bishop's ways down. Upward he goes two squares or more, to ranks that no number of 64 bits names: there is a mate, and no text could tell the move.",
+          rays=["man 4 step 1 1 least wide more", "man 4 step -1 1 least wide more"]),
 ]
 
 
@@ -203,3 +306,175 @@ SEARCH = Search(
     "The budget of a command which names none is 50000. These positions of king and two rooks were searched with it: White's king at 0 -2 or 0 -3, his rooks "
     "at 10 1 and 7 7, Black's king at F 0 for F from 0 to 3.",
     [f"K 0 {rank}, R 10 1, R 7 7 / K {file} 0" for rank in (-2, -3) for file in range(4)], 4, 50000, 90)
+
+
+@dataclass
+class Drawn:
+    """A map: a position, the man who is put on each square, within how many moves, the rectangle, and what is claimed of each square where no other man stands."""
+
+    name: str
+    title: str
+    men: str
+    man: int
+    moves: int
+    files: tuple
+    ranks: tuple
+    caption: str
+    claim: object
+    turn: str = "W"
+    budget: list = field(default_factory=list)
+
+
+def placed(men, number, square):
+    """Returns the position of these men, White to move, with a man on another square."""
+    sides = [(side, man.split()) for side, part in zip("WB", men.split("/")) for man in part.split(",")]
+    position = chess.Position("W", tuple(chess.Man(side, kind, (int(x), int(y))) for side, (kind, x, y) in sides))
+    return replace(position, men=tuple(replace(it, square=square) if at == number else it for at, it in enumerate(position.men, 1)))
+
+
+def checks(position, number):
+    return chess.bears(position, number, position.men[chess.king(position, "B") - 1].square)
+
+
+def reaches(position, number, square):
+    """Returns whether a man may go to a free square."""
+    return chess.bears(position, number, square) and position.on(square) is None
+
+
+def rook_of_ladder(x, y):
+    if y == 0 or (x == 0 and y > -2):
+        return "unsound"
+    return 1 if abs(x) > 1 else "none"
+
+
+CAGE = "K 0 -2, R 9 1, N 0 2, H 5 5 / K 0 0"
+# So many leaps lead from each square of the map past all lines of check that a way of his crosses.
+MOST_LEAPS = 60
+
+
+def nightrider_of_cage(x, y):
+    position = placed(CAGE, 4, (x, y))
+    if checks(position, 4):
+        return "unsound"
+    ways = [[(x + dx * count, y + dy * count) for count in range(1, MOST_LEAPS)] for dx, dy in chess.LEAPS]
+    is_check = any(reaches(position, 4, it) and checks(placed(CAGE, 4, it), 4) for way in ways for it in way)
+    return 1 if is_check or chess.bears(position, 4, (0, 1)) else "none"
+
+
+AMAZON = "K 0 -2, Z 9 2 / K 0 0"
+
+
+def amazon_with_king(x, y):
+    position = placed(AMAZON, 2, (x, y))
+    if checks(position, 2):
+        return "unsound"
+    mates = [(file, rank) for file in (-1, 0, 1) for rank in (2, -1)]
+    return 1 if any(reaches(position, 2, it) for it in mates) else "none"
+
+
+def far_bishop(x, y):
+    return "none" if 1 <= x - y <= 5 else 1
+
+
+def knight_that_defends(x, y):
+    leaps = [(x + dx, y + dy) for dx, dy in chess.LEAPS]
+    saves = any((file, 0) in leaps for file in range(1, 6)) or (0, -2) in leaps
+    stands_between = (y == 0 and 1 <= x <= 4) or (x == 5 and 1 <= y <= 6) or (y == 1 and 0 <= x <= 9)
+    return "none" if saves or stands_between else 1
+
+
+MAPS = [
+    Drawn("map-rook", "Where the rook of the ladder mates from", ladder(), 3, 1, (-8, 8), (-8, 8),
+          "From each file that is not beside the king's the rook goes to rank 0 and mates. On the files 1 and -1 he would come beside the king there, who takes him; on rank 0 and above White's king on file 0 he gives check already, which no sound position has; "
+          "below White's king he has no way to rank 0.", rook_of_ladder),
+    Drawn("map-nightrider", "Where a nightrider mates from", CAGE, 4, 1, (-8, 8), (-8, 8),
+          "Rook, knight and king have the eight squares beside the black king, so any check by the nightrider mates. He gets to one from nearly everywhere: a square is left empty where he gives check already, which lie on eight lines of leaps, and has a point where no way of his "
+          "crosses such a line on a square. From six more he cannot check, but guards 0 1, so that the rook mates there.", nightrider_of_cage),
+    Drawn("map-amazon", "Where an amazon mates from", AMAZON, 2, 1, (-8, 8), (-8, 8),
+          "With her king at 0 -2 she mates on six squares: -1 2, 0 2 and 1 2, and -1 -1, 0 -1 and 1 -1, where the king guards her. There is a mate where she gets to one of them, by lines or by a leap, and does not give check yet.", amazon_with_king),
+    Drawn("map-bishop", "Where a bishop saves", ladder() + ", B 20 20", 5, 1, (12, 28), (8, 24),
+          "Far from the ladder a black bishop saves his king from a band of diagonals: those that meet rank 0 on one of the files 1 to 5, where he stands between or takes the rook.", far_bishop),
+    Drawn("map-knight", "Where a knight saves", ladder() + ", N 20 20", 5, 1, (-4, 12), (-6, 10),
+          "A black knight saves his king where a leap leads him between king and rook, or onto the rook at 5 0; where he stands in the way of a rook, on file 5, on rank 0 or on rank 1; and where he gives check. On 5 0 he is taken, with mate.", knight_that_defends),
+]
+
+
+@dataclass
+class Solved:
+    """A solution: a position, the number of moves, and the lines that are claimed."""
+
+    title: str
+    men: str
+    moves: int
+    caption: str
+    claim: str
+    turn: str = "W"
+    has_tries: bool = False
+
+
+SOLUTIONS = [
+    Solved("The ladder in two, with its tries", ladder(rook="R 7 7", black="K 1 0"), 2,
+           "The key takes file 2 from the king and threatens nothing; he has to step back opposite White's king. A try fails to one reply: on 2 1 the guard is taken, and after the two others the king has file 2.",
+           """White to move: mate in 2
+
+1. R3 2 7!  zugzwang
+   1... k4 0 0   2. R3 2 0#
+
+1. R2 2 1?   1... k4x2 1!
+1. R3 7 0?   1... k4 2 -1!
+1. R3 7 -1?   1... k4 2 0!
+""", has_tries=True),
+    Solved("King and amazon in two", "K 3 0, Z -2 4 / K 0 0", 2,
+           "Behind the key there are two replies, and each has two mates: by a leap from beyond the black king, or beside him on 2 0, where White's king guards her.",
+           """White to move: mate in 2
+
+1. Z2 -2 0!  check
+   1... k3 1 1   2. Z2 2 0#, Z2 -1 2#
+   1... k3 1 -1   2. Z2 2 0#, Z2 -1 -2#
+"""),
+    Solved("Chancellor and archbishop in two", "K -2 1, C 5 4, A -2 -3 / K 0 0", 2,
+           "A quiet key, one reply, and a mate by a leap.",
+           """White to move: mate in 2
+
+1. C2 1 4!  zugzwang
+   1... k4 0 1   2. A3 -1 -1#
+"""),
+    Solved("Three rooks", "K 50 50, R 5 1, R 5 7, R -9 -1 / K 0 0", 2,
+           "One rook stands in the other's way. Either gets out of it, as far as it likes, but not to where the king would take the one that guards or the one that mates; the lines of `describe` tell the squares.",
+           """White to move: mate in 2
+
+1. R2 6 1!  threat R3 5 0#  (man 2 step 1 0 runs none from 1 every 1 rests 0)
+   1... k5 1 0, k5 -1 0   2. R3 5 0#
+1. R2 4 1!  threat R3 5 0#  (man 2 step -1 0 runs 1-2 from 8 every 1 rests 0)
+   1... k5 1 0, k5 -1 0   2. R3 5 0#
+1. R3 6 7!  threat R3 6 0#  (man 3 step 1 0 runs none from 1 every 1 rests 0)
+   1... k5 1 0, k5 -1 0   2. R3 6 0#
+1. R3 4 7!  threat R3 4 0#  (man 3 step -1 0 runs 1-2,4-4,6-6 from 8 every 1 rests 0)
+   1... k5 1 0, k5 -1 0   2. R3 4 0#
+"""),
+]
+
+
+@dataclass
+class Defended:
+    """A defence: a position in which the winner does not mate within so many moves, the moves that he tries, and the lines that are claimed."""
+
+    title: str
+    men: str
+    moves: int
+    caption: str
+    tried: list
+    claim: list
+    turn: str = "W"
+
+
+DEFENCES = [
+    Defended("Held for two moves", "K 0 -2, R 10 1, R 7 7 / K 2 0", 2,
+             "White needs three moves. After the rook's move to 3 7 Black's king has 1 0 and 2 -1; by his rays 1 0 comes first, and after the check on 3 0 he could still go to 2 -1.",
+             ["3 3 7", "3 3 0"], ["black 4 1 0", "held"]),
+    Defended("Held against a check", "K 0 -2, R 10 1, R 7 7 / K 2 0", 2,
+             "The same, with a check at once. The king goes to 2 -1, which White's king does not reach.", ["3 7 0", "3 7 -1"], ["black 4 2 -1", "held"]),
+    Defended("White holds", "K 2 0 / K 0 2, R 10 -1, R 7 -7", 2,
+             "Colours and ranks exchanged. The first of the two squares by the king's rays is now 2 1, the one ahead.", ["4 3 -7", "4 7 -7"], ["white 1 2 1", "held"], turn="B for B"),
+    Defended("Stuck", "K 100 100, Q 1 2, Q -1 -2 / K 0 0", 3, "Stalemate: Black has no move, and White does not mate.", [], ["stuck"], turn="B"),
+]

@@ -7,8 +7,8 @@ Runs the program `mate` at the limits of a machine, and prints each run with its
   slow     the input comes byte by byte, or in pieces between which the process is stopped; a slow reader of the output
   closed   the output is closed before or after its first byte, or full; the input is closed, or a folder
   store    the files of the folder cannot be opened, written, synced or renamed
-  signals  `keep` is ended by SIGTERM and SIGKILL at many moments, and before each call that it makes for its file: the old file or the new
-           one is then there whole, and beside it at most NAME.new
+  signals  `keep` and `migrate` are ended by SIGTERM and SIGKILL at many moments, and before each call that they make for a file: the old file or
+           the new one is then there whole, and beside it at most NAME.new
 
 PROGRAM is ../crates/mate_main/out/mate_main if left out. The code is 0 where each run ended as it has to, and else 1.
 """
@@ -29,6 +29,9 @@ LADDER = HEAD + b"turn W\nW K 0 -2\nW R 10 1\nW R 5 7\nB K 0 0\nend\n"
 MATED = HEAD + b"turn B\nW K 0 -2\nW R 10 0\nW R 10 1\nB K 0 0\nend\n"
 BLACK_FIRST = HEAD + b"turn B\nW K 0 -2\nW R 10 1\nW R 2 7\nB K 1 0\nend\n"
 GAME = BLACK_FIRST + b"4 2 0\n4 0 0\n"
+# The rook mates on 5 0 alone, seven squares down.
+DESCRIBED = b"man 3 step 0 -1 runs 7-7 from 8 every 1 rests none\nend\n"
+DEFENCE = HEAD + b"turn W\nW K 0 0\nB K 10 0\nend\n1 5 5\n1 1 0\n"
 PLAYED = b"illegal\nwhite 3 2 0\nmate\n"
 FIVE_MEN = HEAD + b"turn W\nW K 50 50\nW Q 5 1\nW R 5 7\nB R -9 -1\nB K 0 0\nend\n"
 MEGABYTE = 1 << 20
@@ -75,7 +78,7 @@ def piped(trials, words, **more):
 
 def slow(trials):
     shown = LADDER + b"check no\nlive 4\n"
-    for words, text, wanted in [("show", LADDER, shown), ("decide 1", LADDER, b"mate in 1\n"), ("play 1", GAME, PLAYED)]:
+    for words, text, wanted in [("show", LADDER, shown), ("decide 1", LADDER, b"mate in 1\n"), ("describe 1", LADDER, DESCRIBED), ("play 1", GAME, PLAYED), ("defend 1", DEFENCE, b"illegal\nheld\n")]:
         process = piped(trials, words)
         for at in range(len(text)):
             process.stdin.write(text[at:at + 1])
@@ -127,8 +130,9 @@ def without_reader(trials, words, text):
 
 def closed(trials):
     for words, text, wanted in [
-        ("show", LADDER, 6), ("decide 1", LADDER, 6), ("least 1", LADDER, 6), ("first 1", LADDER, 6), ("play 1", LADDER, 6), ("keep 1 a", LADDER, 6),
-        ("drill 7 0", b"", 6), ("decide 21", b"", 2), ("show", b"", 3), ("decide 1 1", LADDER, 8), ("check a", b"", 11), ("play 1", BLACK_FIRST, 12),
+        ("show", LADDER, 6), ("decide 1", LADDER, 6), ("least 1", LADDER, 6), ("first 1", LADDER, 6), ("describe 1", LADDER, 6), ("play 1", LADDER, 6), ("defend 1", LADDER, 6), ("defend 1", DEFENCE, 6), ("keep 1 a", LADDER, 6),
+        ("drill 7 0", b"", 6), ("decide 21", b"", 2), ("show", b"", 3), ("decide 1 1", LADDER, 8), ("check a", b"", 11), ("migrate a b", b"", 11),
+        ("describe 1 1", LADDER, 8), ("play 1", BLACK_FIRST, 12),
     ]:
         trials.want(f"{words}, nobody reads the output", without_reader(trials, words, text), wanted)
         with open("/dev/full", "wb") as full:
@@ -147,7 +151,11 @@ def closed(trials):
     except BrokenPipeError:
         pass
     trials.want("play 1, closed behind the first byte", (first, process.wait()), (b"i", 6))
-    for words in ("show", "decide 1", "keep 1 a", "play 1"):
+    room, _ = with_old(trials)
+    with open("/dev/full", "wb") as full:
+        ended = subprocess.run([trials.program, "migrate", "b", "a"], stdout=full, cwd=room)
+    trials.want("migrate b a, the output is full", (ended.returncode, (room / "a").read_bytes() == (room / "b").read_bytes()), (6, True))
+    for words in ("show", "decide 1", "describe 1", "keep 1 a", "play 1", "defend 1"):
         ended = subprocess.run([trials.program, *words.split()], stdout=subprocess.PIPE, cwd=trials.room(), preexec_fn=lambda: os.close(0))
         trials.want(f"{words}, the input is closed", (ended.stdout, ended.returncode), (b"read fault\n", 5))
         folder = os.open("/", os.O_RDONLY)
@@ -156,10 +164,15 @@ def closed(trials):
         trials.want(f"{words}, the input is a folder", (ended.stdout, ended.returncode), (b"read fault\n", 5))
 
 
+# What makes the new file a: from the position, or from the file b.
+MAKERS = [("keep 1 a", LADDER), ("migrate b a", b"")]
+
+
 def with_old(trials):
-    """A folder that has an old file, and its bytes."""
+    """A folder that has an old file a, and its bytes, and a file b."""
     room = trials.room()
     trials.run("keep 0 a", MATED, room)
+    trials.run("keep 1 b", LADDER, room)
     return room, (room / "a").read_bytes()
 
 
@@ -171,16 +184,17 @@ def store(trials):
         ("a.new cannot be synced", lambda room: (room / "a.new").symlink_to("/dev/null")),
         ("a.new leads nowhere", lambda room: (room / "a.new").symlink_to("no/where")),
     ]:
-        room, old = with_old(trials)
-        prepare(room)
-        trials.want(f"keep 1 a, {what}", (trials.run("keep 1 a", LADDER, room)[:2], (room / "a").read_bytes() == old), (shelf, True))
-    for words, text in [("keep 1 a", LADDER), ("check a", b""), ("resume a", b"")]:
+        for words, text in MAKERS:
+            room, old = with_old(trials)
+            prepare(room)
+            trials.want(f"{words}, {what}", (trials.run(words, text, room)[:2], (room / "a").read_bytes() == old), (shelf, True))
+    for words, text in [("keep 1 a", LADDER), ("check a", b""), ("resume a", b""), ("migrate a a", b""), ("migrate a b", b"")]:
         room = trials.room()
         (room / "a").mkdir()
         (room / "a" / "b").write_bytes(b"")
         end = trials.run(words, text, room)[:2]
         trials.want(f"{words}, a is a folder", (end, sorted(it.name for it in room.iterdir())), (shelf, ["a"]))
-    for words in ("check a", "resume a"):
+    for words in ("check a", "resume a", "migrate a b"):
         room = trials.room()
         (room / "a").symlink_to("a")
         trials.want(f"{words}, a is a link to itself", trials.run(words, b"", room)[:2], shelf)
@@ -196,46 +210,48 @@ def store(trials):
 def at_file_limit(trials):
     """A file may have 512 bytes, and what is to be kept has 545. The system ends a process that goes on, if it does not ignore the signal for it."""
     limit = lambda: resource.setrlimit(resource.RLIMIT_FSIZE, (512, 512))
-    room, old = with_old(trials)
-    end = trials.run("keep 1 a", LADDER, room, preexec_fn=limit, restore_signals=False)[:2]
-    names = sorted(it.name for it in room.iterdir())
-    trials.want("keep 1 a, files of 512 bytes at most, SIGXFSZ ignored", (end, (room / "a").read_bytes() == old, names), ((b"shelf fault\n", 7), True, ["a"]))
-    room, old = with_old(trials)
-    code = trials.run("keep 1 a", LADDER, room, preexec_fn=limit)[1]
-    trials.want("keep 1 a, the same, SIGXFSZ not ignored", (code, (room / "a").read_bytes() == old), (-signal.SIGXFSZ, True))
+    for words, text in MAKERS:
+        room, old = with_old(trials)
+        end = trials.run(words, text, room, preexec_fn=limit, restore_signals=False)[:2]
+        names = sorted(it.name for it in room.iterdir())
+        trials.want(f"{words}, files of 512 bytes at most, SIGXFSZ ignored", (end, (room / "a").read_bytes() == old, names), ((b"shelf fault\n", 7), True, ["a", "b"]))
+        room, old = with_old(trials)
+        code = trials.run(words, text, room, preexec_fn=limit)[1]
+        trials.want(f"{words}, the same, SIGXFSZ not ignored", (code, (room / "a").read_bytes() == old), (-signal.SIGXFSZ, True))
 
 
 class Kept:
-    """The old file and the new one, and whether a folder has one of them whole, beside at most a.new."""
+    """The old file and the new one, and whether a folder has one of them whole, beside b and at most a.new."""
 
     def __init__(self, trials):
         room, self.old = with_old(trials)
-        trials.run("keep 1 a", LADDER, room)
-        self.new = (room / "a").read_bytes()
+        self.new = (room / "b").read_bytes()
 
     def has(self, room):
         names = {it.name for it in room.iterdir()}
-        if not {"a"} <= names <= {"a", "a.new"}:
+        if not {"a", "b"} <= names <= {"a", "a.new", "b"} or (room / "b").read_bytes() != self.new:
             return None
         return {self.old: "the old file", self.new: "the new file"}.get((room / "a").read_bytes())
 
 
 def signals(trials):
     kept = Kept(trials)
-    at_moments(trials, kept, random.Random(1))
-    before_calls(trials, kept)
+    for words, text in MAKERS:
+        at_moments(trials, kept, random.Random(1), words, text)
+        before_calls(trials, kept, words, text)
 
 
-def at_moments(trials, kept, draw):
+def at_moments(trials, kept, draw, words, text):
+    room, _ = with_old(trials)
     begun = time.time()
-    trials.run("keep 1 a", LADDER)
+    trials.run(words, text, room)
     whole = time.time() - begun
     for number in (signal.SIGTERM, signal.SIGKILL):
         counts = {}
         for turn in range(200):
             room, _ = with_old(trials)
-            process = subprocess.Popen([trials.program, "keep", "1", "a"], cwd=room, stdin=subprocess.PIPE, stdout=subprocess.PIPE)
-            process.stdin.write(LADDER)
+            process = subprocess.Popen([trials.program, *words.split()], cwd=room, stdin=subprocess.PIPE, stdout=subprocess.PIPE)
+            process.stdin.write(text)
             process.stdin.close()
             # Half of the moments are near the end, where the file is written.
             time.sleep(whole * (draw.uniform(0, 1.1) if turn % 2 else draw.uniform(0.8, 1.05)))
@@ -246,24 +262,24 @@ def at_moments(trials, kept, draw):
             end = f"{kept.has(room)}{beside}, {'done' if code == 0 else 'ended'}"
             counts[end] = counts.get(end, 0) + 1
             if kept.has(room) is None or code not in (0, -number):
-                trials.tell(f"keep 1 a, {number.name}", f"{code}, {end}", False)
-        trials.tell(f"keep 1 a, {number.name} at 200 moments", ", ".join(f"{end}: {count}" for end, count in sorted(counts.items())), True)
+                trials.tell(f"{words}, {number.name}", f"{code}, {end}", False)
+        trials.tell(f"{words}, {number.name} at 200 moments", ", ".join(f"{end}: {count}" for end, count in sorted(counts.items())), True)
 
 
-def before_calls(trials, kept):
+def before_calls(trials, kept, words, text):
     library = trials.folder / "limits.so"
     subprocess.run(["cc", "-O2", "-shared", "-fPIC", "-o", library, HERE / "limits.c", "-ldl"], check=True)
     for number in (signal.SIGTERM, signal.SIGKILL):
         for half in (0, 1):
-            for at in range(1, 7):
+            for at in range(1, 10):
                 room, _ = with_old(trials)
                 more = {"LD_PRELOAD": str(library), "KILL_AT": str(at), "KILL_SIGNAL": str(int(number)), "KILL_HALF": str(half)}
-                _, code, _ = trials.run("keep 1 a", LADDER, room, env={**os.environ, **more})
+                _, code, _ = trials.run(words, text, room, env={**os.environ, **more})
                 beside = f" and a.new of {(room / 'a.new').stat().st_size} bytes" if (room / "a.new").exists() else ""
-                what = f"keep 1 a, {number.name} before file call {at}{', half written' if half else ''}"
+                what = f"{words}, {number.name} before file call {at}{', half written' if half else ''}"
                 trials.tell(what, f"code {code}, {kept.has(room)}{beside}", kept.has(room) is not None and code in (0, -number))
                 # What is left does not stand in the way of the next run.
-                trials.want("  and kept again", (trials.run("keep 1 a", LADDER, room)[:2], sorted(it.name for it in room.iterdir())), ((b"mate in 1\n", 0), ["a"]))
+                trials.want("  and kept again", (trials.run("keep 1 a", LADDER, room)[:2], sorted(it.name for it in room.iterdir())), ((b"mate in 1\n", 0), ["a", "b"]))
 
 
 PARTS = {"memory": memory, "slow": slow, "closed": closed, "store": store, "signals": signals}

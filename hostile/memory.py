@@ -22,6 +22,7 @@ LADDER = (HERE.parent / "examples/ladder-in-one.txt").read_bytes()
 BLACK_FIRST = b"infinite chess 1\nturn B\nW K 0 -2\nW R 10 1\nW R 2 7\nB K 1 0\nend\n"
 MATED = b"infinite chess 1\nturn B\nW K 0 -2\nW R 10 0\nW R 10 1\nB K 0 0\nend\n"
 GAME = BLACK_FIRST + b"4 2 0\n4 0 0\n"
+RUNNING = b"infinite chess 1\nturn W\nW K 0 0\nB K 10 0\nend\n1 1 0\n1 2 0\n"
 KEPT = ("keep 1 a", LADDER)
 # The name of each command, its words, its input, and what is run before it in the same folder.
 COMMANDS = {
@@ -36,6 +37,8 @@ COMMANDS = {
     "first": ("first 1", LADDER, []),
     "describe": ("describe 1", LADDER, []),
     "play": ("play 1", GAME, []),
+    "defend-held": ("defend 0", LADDER, []),
+    "defend": ("defend 2", RUNNING, []),
     "keep": ("keep 1 a", LADDER, []),
     "keep-again": ("keep 1 a", LADDER, [("keep 1 a", BLACK_FIRST)]),
     "check": ("check a", b"", [KEPT]),
@@ -118,7 +121,7 @@ def main():
     parser.add_argument("--all-from", action="store_true")
     parser.add_argument("program", nargs="?", default=BUILT)
     parser.add_argument("commands", nargs="*", choices=[*COMMANDS, []])
-    given = parser.parse_args()
+    given = parser.parse_intermixed_args()
     with tempfile.TemporaryDirectory() as folder:
         library = compiled(pathlib.Path(folder))
         program = pathlib.Path(given.program).resolve()

@@ -2,15 +2,18 @@
 """usage: random_runs.py [PROGRAM] [--seed S] [--count N]
 
 Runs the program `mate` N times, with words, texts, formulas, replies and files drawn from the seed: changes of good ones, and new ones put together of
-the pieces that the formats know. Each run has to end in 30 seconds with a code of docs/FORMATS.md, without a byte on standard error, and with the
-output that belongs to the code: where a reader of this folder's own (reader.py) says what has to come, with just that. Each run that ends
-otherwise is printed. Then the codes are counted. PROGRAM is ../crates/mate_main/out/mate_main if left out; the code is 0 where nothing was found.
+the pieces that the formats know. Each run has to end within 30 seconds of the processor with a code of docs/FORMATS.md, without a byte on standard error, with the
+output that belongs to the command and the code, and with the files that it has to leave: where a reader of this folder's own (reader.py) says what
+has to come, with just that. Each run that ends otherwise is printed. Then the codes are counted, and the commands; so it is behind SIGTERM, too. PROGRAM is
+../crates/mate_main/out/mate_main if left out; the code is 0 where nothing was found.
 """
 import argparse
 import collections
 import pathlib
 import random
 import re
+import resource
+import signal
 import subprocess
 import sys
 import tempfile
@@ -20,13 +23,19 @@ import reader
 from reader import Lines, Refused
 
 HERE = pathlib.Path(__file__).resolve().parent
+sys.path.insert(0, str(HERE.parent / "crates/run_trials"))
+from forged_files import File  # noqa: E402
+
 BUILT = HERE.parent / "crates/mate_main/out/mate_main"
 SECONDS, LINES = 30, 10000
 HEAD = b"infinite chess 1\n"
 LADDER = HEAD + b"turn W\nW K 0 -2\nW R 10 1\nW R 5 7\nB K 0 0\nend\n"
 MATED = HEAD + b"turn B\nW K 0 -2\nW R 10 0\nW R 10 1\nB K 0 0\nend\n"
 BLACK_FIRST = HEAD + b"turn B\nW K 0 -2\nW R 10 1\nW R 2 7\nB K 1 0\nend\n"
-GOOD = [LADDER, MATED, BLACK_FIRST, HEAD + b"turn W\nW K 0 0\nB K 10 0\nend\n", HEAD + b"turn B for B\nW K 5 5\nB P 1 2\nB K -3 -3\nW Q gone\nW N 7 7\nB C 2 9\nW H 40 -7\nend\n"]
+# The same for the other side, and the mate in 1 with men of other kinds.
+WHITE_FIRST = HEAD + b"turn W for B\nB K 0 2\nB R 10 -1\nB R 2 -7\nW K 1 0\nend\n"
+OTHER_KINDS = HEAD + b"turn B for B\nB K 0 2\nB C 10 -1\nB Z 5 -7\nW K 0 0\nW P gone\nend\n"
+GOOD = [LADDER, MATED, BLACK_FIRST, WHITE_FIRST, OTHER_KINDS, HEAD + b"turn W\nW K 0 0\nB K 10 0\nend\n", HEAD + b"turn B for B\nW K 5 5\nB P 1 2\nB K -3 -3\nW Q gone\nW N 7 7\nB C 2 9\nW H 40 -7\nend\n"]
 EDGES = [2**63 - 1, -2**63, 2**63, -2**63 - 1, 2**64, 10**19, 10**18, 2**31, 10**40, 0, -1, 20, 21, 100, 101, 200000, 200001]
 # What may come with each code where the reader does not say it. With the codes 3, 9, 12 and 13 the lines of a game may come before.
 NAMED = rb"over budget at (moves [0-9]+ ply [0-9]+ men [0-9]+ part [a-z]+ at|arith|describe man [1-8] ray [0-9]+ (line|period)) [0-9]+\n"
@@ -34,10 +43,16 @@ DISTANCES = rb"(runs (none|[0-9]+-[0-9]+(,[0-9]+-[0-9]+)*) from [0-9]+ every [0-
 GAME = rb"(((?:white|black) [1-8] \S+ \S+|illegal|unreadable)\n)*"
 WHYS = rb"(magic|version|moves|turn|count|side|kind|place|unsound|ply|men|states|entry|flag|nodes|track|ref)"
 RULES = rb"(sign|same|guard|first|left|stale)"
+# What each command may write where it is done, N being the number of its first word.
+RAYS = rb"(man [1-8] step -?[012] -?[012] %s\n)*end\n"
+DONE = {
+    b"decide": rb"(no )?mate in N\n", b"keep": rb"(no )?mate in N\n", b"least": rb"least [0-9]+\n|none up to N\n",
+    b"first": RAYS % rb"least (wide|[0-9]+) (only|more)", b"describe": RAYS % DISTANCES,
+    b"play": rb"no mate in N\n|" + GAME + rb"mate\n", b"defend": rb"mate in N\n|" + GAME + rb"(held|stuck)\n", b"resume": GAME + rb"mate\n",
+    b"check": rb"mate in [0-9]+\n", b"migrate": rb"migrated\n", b"show": rb"(?s).*\ncheck (yes|no)\nlive [2-8]\n",
+    b"drill": rb"[0-9]+ of [0-9]+ mate in 1\n", b"arith": rb"true( witness (wide|0|-?[1-9][0-9]*))?\n|false\n",
+}
 ANSWERS = {
-    0: rb"mate in [0-9]+\n|no mate in [0-9]+\n|least [0-9]+\n|none up to [0-9]+\n|(man [1-8] step -?[012] -?[012] least (wide|[0-9]+) (only|more)\n)*end\n|"
-    rb"(man [1-8] step -?[012] -?[012] " + DISTANCES + rb"\n)*end\n|"
-    rb"[0-9]+ of [0-9]+ mate in 1\n|true( witness (wide|0|-?[1-9][0-9]*))?\n|false\n|" + GAME + rb"mate\n",
     3: GAME + rb"text line [0-9]+ (cut|long)\n",
     8: NAMED,
     9: GAME + rb"wide\n",
@@ -92,7 +107,7 @@ def changed(draw, data):
 
 
 def drawn_words(draw):
-    words = [draw.choice([*reader.SHAPES, b"", b"Decide", b"decide ", b"mate", b"--help", b"\xff"] if draw.random() < 0.2 else [*reader.SHAPES])]
+    words = [draw.choice([*reader.SHAPES, b"", b"Decide", b"decide ", b"mate", b"help", b"version", b"--help", b"cost", b"\xff"] if draw.random() < 0.2 else [*reader.SHAPES])]
     for limits in reader.SHAPES.get(words[0], [reader.MOVES]):
         if limits is None and draw.random() < 0.8:
             words.append(bytes(draw.choice(b"abz09_") for _ in range(draw.choice([0, 1, 2, 5, 31, 32, 33]))))
@@ -152,7 +167,7 @@ def text_case(draw):
     """A text, with a command that takes one."""
     moves = draw.choice([0, 0, 0, 1, 1, 2])
     budget = draw.choice([1, 2, 5, 20, 100, 500]) if moves < 2 else draw.choice([1, 20, 60])
-    command = draw.choice(["show", "show", "decide", "least", "first", "describe", "play", "keep"])
+    command = draw.choice(["show", "show", "decide", "least", "first", "describe", "play", "defend", "keep"])
     words = [command] if command == "show" else [command, str(moves)] + ["a"] * (command == "keep") + [str(budget)]
     words = [word.encode() for word in words]
     text = drawn_text(draw)
@@ -167,7 +182,8 @@ def text_case(draw):
     if command in ("first", "describe") and (turn != winner or moves == 0):
         return Case(words, text, wanted=(b"end\n", 0))
     if turn == winner and moves == 0:
-        return Case(words, text, wanted=(b"none up to 0\n" if command == "least" else b"no mate in 0\n", 0))
+        answers = {"least": b"none up to 0\n", "defend": b"held\n"}
+        return Case(words, text, wanted=(answers.get(command, b"no mate in 0\n"), 0))
     return Case(words, text)
 
 
@@ -224,8 +240,9 @@ def drawn_reply(draw):
     return draw.choice([b"", b" ", b"Quit", b"quit ", b"a" * draw.choice([199, 200]), b"4 0 0 ", b" 4 0 0", b"4\t0 0", b"4 0 0\r", b"mate", b"end"])
 
 
-def game(lines):
-    """What is written, and the code, of a game from BLACK_FIRST: Black's one legal move is his king's to 0 0, and then he is mated on 2 0."""
+def game(lines, winner=b"white"):
+    """What is written, and the code, of a game from BLACK_FIRST, or from WHITE_FIRST with Black as the winner: the loser's one legal move is his king's to
+    0 0, and then he is mated on 2 0."""
     written, count = b"", 0
     try:
         while count < LINES:
@@ -235,23 +252,62 @@ def game(lines):
             if line is None or move == "quit":
                 return written + b"ended\n", 12
             if move == (4, 0, 0):
-                return written + b"white 3 2 0\nmate\n", 0
+                return written + winner + b" 3 2 0\nmate\n", 0
             written += b"illegal\n" if move else b"unreadable\n"
     except Refused as why:
         return written + f"{why.line}\n".encode(), why.code
     return written + b"too many lines\n", 13
 
 
-def replies_case(draw, kept):
-    """A game with some dozens of replies."""
-    replies = b"".join(drawn_reply(draw) + b"\n" for _ in range(draw.choice([0, 1, 5, 40, 40])))
-    replies += draw.choice([b"", b"", b"4 0 0\n", b"4 0 0", b"quit\n", b"quit", b"a" * 201, b"x\n" * 200, b"x\n" * 10000])
-    if draw.random() < 0.5:
-        return Case([b"resume", b"a"], replies, kept[1], game(Lines(replies)))
-    text = BLACK_FIRST + replies
+# Two kings: the loser steps aside along his first ray, and the winner, who makes few moves, never comes near.
+DEFENDED = {b"black": HEAD + b"turn W\nW K 0 0\nB K 10 0\nend\n", b"white": HEAD + b"turn B for B\nB K 0 0\nW K 10 0\nend\n"}
+
+
+def defence(lines, moves, loser):
+    """What is written, and the code, where the loser's king defends from DEFENDED, and the winner's moves are typed."""
+    written, count, king, file = b"", 0, (0, 0), 10
+    try:
+        while count < LINES:
+            line = lines.next()
+            count += 1
+            move = None if line is None else reader.read_reply(line)
+            if line is None or move == "quit":
+                return written + b"ended\n", 12
+            if move and move[0] == 1 and max(abs(move[1] - king[0]), abs(move[2] - king[1])) == 1:
+                king, moves, file = move[1:], moves - 1, file + 1
+                if moves == 0:
+                    return written + b"held\n", 0
+                written += b"%s 2 %d 0\n" % (loser, file)
+            else:
+                written += b"illegal\n" if move else b"unreadable\n"
+    except Refused as why:
+        return written + f"{why.line}\n".encode(), why.code
+    return written + b"too many lines\n", 13
+
+
+def defence_case(draw):
+    loser, moves = draw.choice(list(DEFENDED)), draw.choice([1, 2, 3])
+    steps = [b"1 %d %d\n" % (draw.randrange(-1, 3), draw.randrange(-1, 2)) for _ in range(draw.choice([0, 2, 5, 20]))]
+    replies = b"".join(draw.choice([drawn_reply(draw).replace(b"\n", b" ") + b"\n", *steps[:3]]) for _ in range(draw.choice([0, 3, 10, 40])))
+    replies += draw.choice([b"", b"", b"quit\n", b"quit", b"a" * 201, b"x\n" * 10000])
+    text = DEFENDED[loser] + replies
     lines = Lines(text)
     reader.read_text(lines)
-    return Case([b"play", b"1"], text, None, game(lines))
+    return Case([b"defend", b"%d" % moves], text, None, defence(lines, moves, loser))
+
+
+def replies_case(draw, kept):
+    """A game with some dozens of replies."""
+    if draw.random() < 0.3:
+        return defence_case(draw)
+    replies = b"".join(drawn_reply(draw) + b"\n" for _ in range(draw.choice([0, 1, 5, 40, 40])))
+    replies += draw.choice([b"", b"", b"4 0 0\n", b"4 0 0", b"quit\n", b"quit", b"a" * 201, b"x\n" * 200, b"x\n" * 10000])
+    start, winner = draw.choice([(BLACK_FIRST, b"white"), (WHITE_FIRST, b"black")])
+    if draw.random() < 0.5:
+        return Case([b"resume", b"a"], replies, draw.choice(kept[start]), game(Lines(replies), winner))
+    lines = Lines(start + replies)
+    reader.read_text(lines)
+    return Case([b"play", b"1"], start + replies, None, game(lines, winner))
 
 
 def changed_file(draw, data):
@@ -272,9 +328,9 @@ def changed_file(draw, data):
 
 
 def file_case(draw, kept):
-    data = changed_file(draw, draw.choice(kept)) if draw.random() < 0.97 else bytes(draw.randrange(256) for _ in range(draw.randrange(300)))
+    data = changed_file(draw, draw.choice(draw.choice(list(kept.values())))) if draw.random() < 0.97 else bytes(draw.randrange(256) for _ in range(draw.randrange(300)))
     budget = draw.choice([b"1", b"10", b"100", b"500"])
-    words = [draw.choice([b"check", b"check", b"resume"]), b"a", budget] if draw.random() < 0.8 else [b"migrate", b"a", b"a"]
+    words = [draw.choice([b"check", b"check", b"resume"]), b"a", budget] if draw.random() < 0.8 else [b"migrate", b"a", draw.choice([b"a", b"b"])]
     try:
         reader.read_file(data)
     except reader.Refusal as why:
@@ -282,32 +338,70 @@ def file_case(draw, kept):
     return Case(words, b"quit\n", data, (b"migrated\n", 0) if words[0] == b"migrate" else None)
 
 
+def files_of(folder):
+    return {it.name: it.read_bytes() for it in folder.iterdir()}
+
+
 def run(program, folder, case):
-    """The output, the code and the standard error. A signal that ends the process is a code below 0."""
-    file = folder / "a"
-    file.unlink(missing_ok=True)
+    """The output, the code and the standard error, and the files behind it. A signal that ends the process is a code below 0."""
+    for it in folder.iterdir():
+        it.unlink()
     if case.file is not None:
-        file.write_bytes(case.file)
-    ended = subprocess.run([program, *case.words], cwd=folder, input=case.text, capture_output=True, timeout=SECONDS)
-    return ended.stdout, ended.returncode, ended.stderr
+        (folder / "a").write_bytes(case.file)
+    process = subprocess.Popen([program, *case.words], cwd=folder, stdin=subprocess.PIPE, stdout=subprocess.PIPE, stderr=subprocess.PIPE)
+    resource.prlimit(process.pid, resource.RLIMIT_CPU, (SECONDS, SECONDS))
+    output, errors = process.communicate(case.text)
+    return output, process.returncode, errors, files_of(folder)
 
 
-def fault(case, output, code, errors):
+def claim_of(data):
+    """The position, the sides, the number of moves and the plies and masks of a file, without the numbers of states."""
+    claim = re.sub(r"(\d+/\d+)/\d+", r"\1", reader.read_file(data))
+    return claim, data[5:reader.head_length(data)]
+
+
+def files_fault(case, output, code, files):
+    """What is wrong with the files that are left, or None."""
+    before = {} if case.file is None else {"a": case.file}
+    if code or case.words[0] not in (b"keep", b"migrate") or output.startswith(b"no mate"):
+        return None if files == before else "files"
+    name = case.words[2].decode()
+    new = files.pop(name, b"")
+    before.pop(name, None)
+    if files != before:
+        return "another file"
+    try:
+        claim = claim_of(new)
+    except reader.Refusal as why:
+        return f"file {why}"
+    if case.words[0] == b"migrate":
+        return None if new[4] == 2 and claim == claim_of(case.file) else "another claim"
+    turn, winner, men = reader.read_text(Lines(case.text))
+    head = bytes([int(case.words[1]), turn + 2 * winner, len(men)])
+    return None if new[4] == 2 and claim[1][:3] == head else "another problem"
+
+
+def fault(case, output, code, errors, files):
     """What is wrong with an end, or None."""
     if errors:
         return "standard error"
-    if case.wanted:
-        return None if (output, code) == case.wanted else f"wanted {case.wanted}"
-    if code not in ANSWERS:
-        return "code"
-    return None if re.fullmatch(ANSWERS[code], output) else "output"
+    if case.wanted and (output, code) != case.wanted:
+        return f"wanted {case.wanted}"
+    if not case.wanted:
+        number = case.words[1] if len(case.words) > 1 else b""
+        answer = DONE[case.words[0]].replace(b"N", number) if code == 0 else ANSWERS.get(code)
+        if answer is None:
+            return "code"
+        if not re.fullmatch(answer, output):
+            return "output"
+    return files_fault(case, output, code, files)
 
 
-def files(program, folder):
-    """The kept files of three positions."""
-    for text, moves in [(LADDER, b"1"), (BLACK_FIRST, b"1"), (MATED, b"0")]:
-        run(program, folder, Case([b"keep", moves, b"a"], text))
-        yield (folder / "a").read_bytes()
+def kept_files(program, folder):
+    """The files that are kept of some positions, in both versions where the first has room for them."""
+    for text, moves in [(LADDER, b"1"), (BLACK_FIRST, b"1"), (MATED, b"0"), (WHITE_FIRST, b"1"), (OTHER_KINDS, b"1")]:
+        data = run(program, folder, Case([b"keep", moves, b"a"], text))[3]["a"]
+        yield text, [data, File(data).written(1)] if text in (LADDER, BLACK_FIRST, MATED) else [data]
 
 
 def main():
@@ -316,31 +410,33 @@ def main():
     parser.add_argument("--seed", type=int, default=1)
     parser.add_argument("--count", type=int, default=100000)
     given = parser.parse_args()
-    draw, begun, wrong, slowest = random.Random(given.seed), time.time(), 0, 0
-    codes, kinds, known = collections.Counter(), collections.Counter(), 0
+    draw, begun, wrong, slowest, stopped = random.Random(given.seed), time.time(), 0, 0, []
+    signal.signal(signal.SIGTERM, lambda *_: stopped.append(True))
+    codes, kinds, commands, known = collections.Counter(), collections.Counter(), collections.Counter(), 0
     with tempfile.TemporaryDirectory() as top:
         folder, program = pathlib.Path(top), pathlib.Path(given.program).resolve()
-        kept = list(files(program, folder))
+        kept = dict(kept_files(program, folder))
         makers = {"words": words_case, "texts": text_case, "formulas": formula_case}
         makers |= {"games": lambda it: replies_case(it, kept), "files": lambda it: file_case(it, kept)}
         for number in range(given.count):
-            kind = draw.choices(list(makers), [350, 350, 150, 5, 145])[0]
+            if stopped:
+                break
+            kind = draw.choices(list(makers), [350, 350, 150, 10, 140])[0]
             case, started = makers[kind](draw), time.time()
-            try:
-                output, code, errors = run(program, folder, case)
-                why = fault(case, output, code, errors)
-            except subprocess.TimeoutExpired:
-                code, output, errors, why = "none", b"", b"", f"no end in {SECONDS} s"
+            output, code, errors, left = run(program, folder, case)
+            why = f"no end in {SECONDS} s" if code == -signal.SIGKILL else fault(case, output, code, errors, left)
             slowest = max(slowest, time.time() - started)
             kinds[kind] += 1
             codes[code] += 1
+            commands[case.words[0].decode() if case.words and case.words[0] in reader.SHAPES else "none"] += code != 2
             known += case.wanted is not None
             if why:
                 wrong += 1
                 file = None if case.file is None else case.file[:600].hex()
                 print(f"{number}: {why}\n  words {case.words}\n  input {case.text[:600]}\n  file {file}\n  code {code}, {output[:300]}, {errors[:300]}", flush=True)
     spread = ", ".join(f"{kind} {count}" for kind, count in sorted(kinds.items()))
-    print(f"seed {given.seed}: {given.count} runs ({spread}), {known} of them with a known answer; {time.time() - begun:.0f} s, the slowest {slowest:.1f} s")
+    print(f"seed {given.seed}: {sum(kinds.values())} runs ({spread}), {known} of them with a known answer; {time.time() - begun:.0f} s, the slowest {slowest:.1f} s")
+    print("not refused for their words: " + ", ".join(f"{command} {count}" for command, count in sorted(commands.items()) if count))
     print("codes: " + ", ".join(f"{code}: {count}" for code, count in sorted(codes.items(), key=lambda it: str(it[0]).zfill(3))))
     print(f"{wrong} wrong ends")
     return 1 if wrong else 0

@@ -21,7 +21,7 @@ NAME = re.compile(rb"[a-z0-9_]{1,32}")
 MOVES, BUDGET = (0, 20), (1, 200000)
 SHAPES = {
     b"decide": [MOVES, BUDGET], b"least": [MOVES, BUDGET], b"first": [MOVES, BUDGET], b"describe": [MOVES, BUDGET],
-    b"play": [MOVES, BUDGET],
+    b"play": [MOVES, BUDGET], b"defend": [MOVES, BUDGET],
     b"keep": [MOVES, None, BUDGET], b"check": [None, BUDGET], b"resume": [None, BUDGET], b"migrate": [None, None],
     b"show": [], b"drill": [(0, 2**64 - 1), (0, 100)], b"arith": [BUDGET],
 }
@@ -124,6 +124,14 @@ def read_text(lines):
             if None in place:
                 lines.refuse("number")
         men.append((SIDES.index(shape[1]), KINDS.index(shape[2]), place))
+
+
+def head_length(data):
+    """The length of a strategy file's bytes before its sets."""
+    at = 8
+    for _ in range(data[7]):
+        at += 19 if data[at + 2] else 3
+    return at
 
 
 def require_sound(turn, men):

@@ -24,7 +24,8 @@ REFUSALS = (b"illegal\n", b"unreadable\n")
 # Milliseconds without a word from either side, after which it is said what is waited for.
 SILENCE = 300
 TYPED = {"arith": "a formula, in one line", **dict.fromkeys(("decide", "least", "first", "keep", "show"), "a position, up to its line `end`")}
-REPLIES = "Black's replies, a line each: the man's number and the square that he goes to, as 4 0 0, or quit"
+REPLIES = "the loser's replies, a line each: the man's number and the square that he goes to, as 4 0 0, or quit"
+MOVES = "the winner's moves, a line each: the man's number and the square that he goes to, as 3 5 0, or quit"
 WRITE_FAILED = 6
 
 
@@ -92,9 +93,10 @@ class Run:
     def invite(self):
         """Says what is waited for."""
         command = self.words[0] if self.words else None
-        if command in ("play", "resume"):
+        if command in explain.GAMES:
             has_text = command == "resume" or not os.isatty(0)
-            say([f"reading {REPLIES}" if has_text else f"reading a position, up to its line `end`, and then {REPLIES}"])
+            awaited = MOVES if command == "defend" else REPLIES
+            say([f"reading {awaited}" if has_text else f"reading a position, up to its line `end`, and then {awaited}"])
         elif command in TYPED and os.isatty(0):
             say([f"reading {TYPED[command]}"])
 
