@@ -1,4 +1,4 @@
--- How many states a step may need.
+-- The greatest spread that a step may have, in states.
 use Rattle.std.specs.Prelude.{◌≤◌, ℕ}
 
 -- from 1 to 200,000

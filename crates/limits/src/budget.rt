@@ -1,11 +1,11 @@
-//! How many states a step may need.
+//! How far a step may spread.
 ghost use Rattle.std.specs.Prelude.{◌≡◌, IfSome, IfNone};
 ghost use Rattle.limits.specs.Budget.{IsBudget};
 
 use crate::numbers::MOST_STATES;
 use std::marker::Model;
 
-/// How many states a step of a computation may need: from 1 to `MOST_STATES`.
+/// The greatest spread that a step of a computation may have, in states: from 1 to `MOST_STATES`.
 #[derive(Clone, Copy, PartialEq, Eq)]
 pub struct Budget {
     states: u32,
@@ -45,7 +45,7 @@ impl Budget {
         }
     }
 
-    /// How many states a step may need.
+    /// The greatest spread that a step may have, in states.
     pub fn states(self) -> u32
         ensures is { result ≡ self }
         ensures within { IsBudget result }

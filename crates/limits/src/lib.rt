@@ -5,6 +5,4 @@ mod budget;
 mod numbers;
 
 pub use budget::Budget;
-pub use numbers::{
-    MOST_FILE_BYTES, MOST_LINE_BYTES, MOST_MEN, MOST_MOVES, MOST_STATES, MOST_TRACKS,
-};
+pub use numbers::{MOST_FILE_BYTES, MOST_LINE_BYTES, MOST_MOVES, MOST_STATES, MOST_TRACKS};
