@@ -1,5 +1,5 @@
 -- The coarsest partition of the states of an automaton that respects flags and rows (Moore 1956).
-use Rattle.std.specs.Prelude.{◌≡◌, ◌≢◌, ℕ, ◌<◌, List, length, All, slice_index}
+use Rattle.std.specs.Prelude.{◌≡◌, ◌≢◌, ℕ, ◌<◌, ◌≤◌, List, length, All, slice_index}
 use Rattle.auto_core.specs.Automaton.{Automaton, IsAutomaton, width, next_state, is_final}
 use Rattle.auto_core.specs.Reduced.{ToldApart}
 use Rattle.auto_refine.specs.declared.classes.Partition.{Partition}
@@ -25,6 +25,11 @@ pub record AreMembers (classes : List ℕ) (count : ℕ) (members : List ℕ) : 
   pub size : length members ≡ count
   pub within : All (λ state. state < length classes) members
   pub has : (class : ℕ) → class < count → slice_index classes (slice_index members class) ≡ class
+
+-- the first state of each class
+pub record AreFirstMembers (classes : List ℕ) (count : ℕ) (members : List ℕ) : Type 0 where
+  pub of_each : AreMembers classes count members
+  pub first : (state : ℕ) → state < length classes → slice_index members (slice_index classes state) ≤ state
 
 -- states of one class have one flag, and each letter leads them to one class
 pub record Respects (a : Automaton) (classes : List ℕ) : Type 0 where

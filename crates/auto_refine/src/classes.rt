@@ -1,6 +1,6 @@
 //! Partitions of the states into numbered classes.
 ghost use Rattle.std.specs.Prelude.{◌<◌, ◌^◌, length, IfOk};
-ghost use Rattle.auto_refine.specs.Coarsest.{AreClasses, AreMembers};
+ghost use Rattle.auto_refine.specs.Coarsest.{AreClasses, AreFirstMembers};
 
 use std::alloc::{AllocError, Global};
 
@@ -11,11 +11,11 @@ pub struct Partition {
     pub count: usize,
 }
 
-/// A state of each class: the first, to which short words lead. The states that are told apart from it are mostly fewer than the others.
+/// The first state of each class, to which short words lead. The states that are told apart from it are mostly fewer than the others.
 pub fn members(alloc: Global, partition: &Partition) -> Result<Vec<u32>, AllocError>
     requires partition { AreClasses partition.now }
     requires few { length partition.now.classes.items < 2 ^ 31 }
-    ensures { IfOk result (λ members. AreMembers partition.now.classes.items partition.now.count members.items) }
+    ensures { IfOk result (λ members. AreFirstMembers partition.now.classes.items partition.now.count members.items) }
 {
     let mut members = vec![in alloc; 0u32; partition.count]?;
     for state in (0..partition.classes.len()).rev() {

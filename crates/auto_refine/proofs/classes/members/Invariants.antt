@@ -8,4 +8,5 @@ invariant-loop-state l = record {
   within : All (λ state. state < length l.partition.classes.items) l.members.items;
   has : (k : ℕ) → l.state ≤ k → k < length l.partition.classes.items → get_or l.partition.classes.items
       (get_or l.members.items (get_or l.partition.classes.items k 0) 0) 0 ≡ get_or l.partition.classes.items k 0;
+  first : (k : ℕ) → l.state ≤ k → k < length l.partition.classes.items → get_or l.members.items (get_or l.partition.classes.items k 0) 0 ≤ k;
 }
