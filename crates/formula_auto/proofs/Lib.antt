@@ -14,6 +14,7 @@ pub mod Compiles
 pub mod Stable
 pub mod NoSets
 pub mod PlainLemmas
+pub mod Laters
 pub mod Connections
 pub mod Entries
 pub mod MeetLemmas

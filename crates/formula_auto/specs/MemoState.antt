@@ -73,6 +73,11 @@ pub record IsMemoAfter (old new : MemoState) (fs : List Tree) : Type 0 where
   pub entries : new.entries ≡ old.entries ++ added
   pub passes : Passes (known old) old.found fs (known new) new.found
 
+-- the memo later on: some formulas have passed
+pub record IsMemoLater (old new : MemoState) : Type 0 where
+  pub passed : List Tree
+  pub after : IsMemoAfter old new passed
+
 -- where a step is over the budget, the plain subformulas that ended before it have passed; where memory ran out, those
 -- that ended within some steps
 abbrev pub IsMemoStopped : MemoState → MemoState → Tree → CompileError → Type 0

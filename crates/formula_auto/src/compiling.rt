@@ -138,7 +138,30 @@ impl Memo {
         ensures same_sets { meets.new.sets ≡ meets.old.sets }
         ensures meets_budget { meets.new.budget ≡ meets.old.budget }
     {
-        self.whole_on(alloc, f, meets)
+        self.whole_on(alloc, f, meets, Recall::Plain)
+    }
+
+    /// As `compile_on`, apart from the entries, for sets that never come again: of these none is looked up, and none is added.
+    pub fn compile_apart(
+        &mut self,
+        alloc: Global,
+        f: &Formula,
+        meets: &mut MeetTable,
+    ) -> Result<Auto, CompileError>
+        requires compilable { IsCompilable (tree_of f.now) meets.old.sets }
+        requires few_steps { length (steps (tree_of f.now)) < 2 ^ 31 }
+        requires same_budget { meets.old.budget ≡ self.old.budget }
+        ensures reached { IfOk result AllReached }
+        ensures few { IfOk result (λ a. HasStep (tree_of f.now) → length a.accept ≤ self.old.budget) }
+        ensures decides { IfOk result (λ a. Decides a (tree_of f.now) (members (tables meets.old.sets))) }
+        ensures integers { IfOk result DecidesIntegers }
+        ensures within { OnOk result (StaysWithin (tree_of f.now) (members (tables meets.old.sets)) self.old.budget) }
+        ensures over { IfErr result (IsCompileError (tree_of f.now) (tables meets.old.sets) 0 self.old.budget) }
+        ensures same { self.new ≡ self.old }
+        ensures same_sets { meets.new.sets ≡ meets.old.sets }
+        ensures meets_budget { meets.new.budget ≡ meets.old.budget }
+    {
+        self.whole_on(alloc, f, meets, Recall::Nothing)
     }
 
     /// The automaton of a whole formula, reduced, to keep.
@@ -166,20 +189,17 @@ impl Memo {
         alloc: Global,
         f: &Formula,
         meets: &mut MeetTable,
+        recall: Recall,
     ) -> Result<Auto, CompileError>
         requires compilable { IsCompilable (tree_of f.now) meets.old.sets }
         requires few_steps { length (steps (tree_of f.now)) < 2 ^ 31 }
         requires same_budget { meets.old.budget ≡ self.old.budget }
         ensures compiled { IfOk result (IsCompiledOn (tree_of f.now) (tables meets.old.sets) 0 self.old.budget) }
-        ensures after { OnOk result (IsMemoAfter self.old self.new (plain_parts (tree_of f.now))) }
-        ensures err { IfErr result (IsInterruptedOn (tree_of f.now) (start Recall.Plain) self.old self.new meets.old) }
+        ensures after { OnOk result (IsMemoAfter self.old self.new (recalled_parts recall (tree_of f.now))) }
+        ensures err { IfErr result (IsInterruptedOn (tree_of f.now) (start recall) self.old self.new meets.old) }
         ensures grows { MeetsGrow meets.old meets.new }
     {
-        let standing = Standing {
-            before: 0,
-            recall: Recall::Plain,
-        };
-        let made = self.compiled(alloc, f, meets, standing)?;
+        let made = self.compiled(alloc, f, meets, Standing { before: 0, recall })?;
         Ok(self.finished(alloc, f, meets, made.part)?)
     }
 

@@ -1,0 +1,45 @@
+-- A memo later on, and one that is as it was.
+use Rattle.std.proofs.Common.{◌≡◌, ℕ, ◌+◌, ◌-◌, List, [], ◌++◌, length, Result, Ok, Err, IfErr, refl, ap, ◌∙◌, arith, length-append, append-nil}
+use Rattle.std.specs.Prelude.{OnOk}
+use Rattle.std.proofs.lemmas.List.{length-map, nil_from_length}
+use Rattle.auto_core.specs.Automaton.{Automaton}
+use Rattle.lin_formula.specs.Tree.{Tree}
+use Rattle.lin_formula.specs.declared.formula.Formula.{Formula}
+use Rattle.formula_auto.specs.PlainParts.{plain_within, plain_parts}
+use Rattle.formula_auto.specs.MemoState.{MemoState, known, IsMemoAfter, IsMemoLater, IsMemoStopped}
+use Rattle.formula_auto.specs.declared.errors.CompileError.{CompileError}
+use Rattle.formula_auto.specs.declared.errors.CompileError.TheVariants.{Over, Memory}
+use Rattle.formula_auto.proofs.Entries.{tree_in}
+use Rattle.formula_auto.proofs.PlainLemmas.{after-none, after-append}
+
+pub later-none : (m : MemoState) → IsMemoLater m m
+later-none m = record { passed = []; after = after-none m }
+
+pub later-then : {a b c : MemoState} → IsMemoLater a b → IsMemoLater b c → IsMemoLater a c
+later-then first second = record { passed = first.passed ++ second.passed; after = after-append first.after second.after }
+
+later-stopped : (f : Tree) {old new : MemoState} (why : CompileError) → IsMemoStopped old new f why → IsMemoLater old new
+later-stopped f (Over step) after = record { passed = plain_within f (step - 1); after = after }
+later-stopped f Memory (done, after) = record { passed = plain_within f done; after = after }
+
+-- whatever compiling a formula answers
+pub later-compiled : (f : Tree) {old new : MemoState} (r : Result Automaton CompileError) → OnOk r (IsMemoAfter old new (plain_parts f))
+    → IfErr r (IsMemoStopped old new f) → IsMemoLater old new
+later-compiled f (Ok a) after stopped = record { passed = plain_parts f; after = after }
+later-compiled f (Err why) after stopped = later-stopped f why stopped
+
+same_state : {m n : MemoState} → n.budget ≡ m.budget → n.entries ≡ m.entries → n.found ≡ m.found → n ≡ m
+same_state {m} {n} budget entries found =
+    ap (λ b. record { budget = b; entries = n.entries; found = n.found }) budget
+    ∙ (ap (λ es. record { budget = m.budget; entries = es; found = n.found }) entries ∙ ap (λ k. record { budget = m.budget; entries = m.entries; found = k }) found)
+
+-- where no formula has passed
+pub still_same : {old new : MemoState} → IsMemoAfter old new [] → new ≡ old
+still_same {old} {new} after =
+    let count : length (known new) ≡ length (known old) = ap length after.passes.0 in
+    let before : length (known old) ≡ length old.entries = length-map old.entries tree_in in
+    let now : length (known new) ≡ length new.entries = length-map new.entries tree_in in
+    let more : length new.entries ≡ length old.entries + length after.added = ap length after.entries ∙ length-append old.entries after.added in
+    let none : after.added ≡ [] = nil_from_length after.added (omega arith) in
+    let entries : new.entries ≡ old.entries = after.entries ∙ (ap (λ xs. old.entries ++ xs) none ∙ append-nil old.entries) in
+    same_state after.budget entries after.passes.1
