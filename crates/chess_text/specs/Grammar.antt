@@ -4,12 +4,17 @@ use Rattle.std.specs.Int.{w64}
 use Rattle.std.specs.Fmt.{signed_decimal}
 use Rattle.game_rules.specs.declared.men.Place.{Place}
 use Rattle.game_rules.specs.declared.men.Place.TheVariants.{Gone, At}
+use Rattle.chess_game.specs.declared.position.TheConstants.{MOST_CROWD}
 use Rattle.chess_text.specs.declared.grammar.Grammar.{Grammar}
 use Rattle.chess_text.specs.declared.grammar.TheConstants.{MOST_MEN}
 
 -- position texts have up to eight men, on squares of 64 bits
 abbrev pub positions : Grammar
 positions = record { header = codes "infinite chess 1"; most_men = MOST_MEN; farthest = 2 ^ 63 }
+
+-- crowd texts have up to 32 men, on squares whose numbers are at most 2^60 from 0
+abbrev pub crowds : Grammar
+crowds = record { header = codes "infinite crowd 1"; most_men = MOST_CROWD; farthest = 2 ^ 60 }
 
 -- a number of 64 bits that a text may name
 pub record IsCoordinateOf (g : Grammar) (z : ℤ) : Type 0 where

@@ -1,7 +1,9 @@
 //! What kinds of texts differ in.
 
 ghost use Rattle.std.specs.Prelude.{◌≡◌, ◌↔◌, IsTrue};
-ghost use Rattle.chess_text.specs.Grammar.{IsCoordinateOf, positions};
+ghost use Rattle.chess_text.specs.Grammar.{IsCoordinateOf, crowds, positions};
+
+use chess_game::MOST_CROWD;
 
 /// How many bytes a header has.
 pub const HEADER_BYTES: usize = 16;
@@ -28,6 +30,17 @@ impl Grammar {
             header: *b"infinite chess 1",
             most_men: MOST_MEN,
             farthest: 1 << 63,
+        }
+    }
+
+    /// Crowd texts: up to 32 men, on squares near enough that sums over a few moves have 64 bits.
+    pub fn crowds() -> Grammar
+        ensures { result ≡ crowds }
+    {
+        Grammar {
+            header: *b"infinite crowd 1",
+            most_men: MOST_CROWD,
+            farthest: 1 << 60,
         }
     }
 
