@@ -43,9 +43,9 @@ rows_long : AreLong rows
 rows_long =
     also (λ words asked reads. tt) (also (λ words asked reads. tt) (also (λ words asked reads. tt) (also (λ words asked reads. tt)
     (also (λ words asked reads. tt) (also (λ words asked reads. tt)
-    (also two_words (also (λ words asked reads. tt) (also one_name (also one_name
+    (also two_words (also (λ words asked reads. tt) (also (λ words asked reads. tt) (also one_name (also one_name
     (also both_names
-    (also (λ words asked reads. tt) (also (λ words asked reads. tt) none))))))))))))
+    (also (λ words asked reads. tt) (also (λ words asked reads. tt) none)))))))))))))
 
 named_long : {commands : List Row} → AreLong commands → (name : List ℕ) (words : List (List ℕ)) (order : Order) → OrderedBy commands name words (Ok order) → IsLong order words
 named_long none name words order is = absurd (cc)

@@ -5,11 +5,11 @@ use Rattle.std.specs.declared.alloc.Global.{Global}
 use Rattle.std.specs.List.{All}
 use Rattle.std.specs.Str.Parse.{digits_value}
 use Rattle.limits.specs.declared.numbers.TheConstants.{MOST_MOVES, MOST_STATES}
-use Rattle.desk_words.specs.declared.order.TheConstants.{DEFAULT_STATES}
+use Rattle.desk_words.specs.declared.order.TheConstants.{DEFAULT_STATES, MOST_CROWD_MOVES}
 use Rattle.desk_words.specs.declared.order.Asked.{Asked}
 use Rattle.desk_words.specs.declared.order.Asked.TheVariants as asked
 use Rattle.desk_words.specs.declared.order.Order.{Order}
-use Rattle.desk_words.specs.declared.order.Order.TheVariants.{Decide, Least, First, Describe, Play, Defend, Keep, Check, Resume, Migrate, Show, Drill, Arith}
+use Rattle.desk_words.specs.declared.order.Order.TheVariants.{Decide, Least, First, Describe, Play, Defend, Keep, Crowd, Check, Resume, Migrate, Show, Drill, Arith}
 use Rattle.desk_words.specs.declared.order.TextOrder.{TextOrder}
 use Rattle.desk_words.specs.declared.order.TextOrder.TheVariants as text_orders
 use Rattle.desk_words.specs.declared.order.UsageWhy.{UsageWhy}
@@ -120,9 +120,17 @@ abbrev pub order_for : {A : Type 0} → (A → Order) → Result A UsageWhy → 
 order_for order (Ok asked) = Ok (order asked)
 order_for order (Err why) = Err why
 
+-- a number of moves, of at most so many, and a budget
+abbrev pub moves_up_to : ℕ → Words (ℕ × ℕ)
+moves_up_to most = Numeral 0 most (λ moves. Budgeted (λ budget. (moves, budget)))
+
 -- a number of moves, and a budget
 abbrev pub moves_and_budget : Words (ℕ × ℕ)
-moves_and_budget = Numeral 0 MOST_MOVES (λ moves. Budgeted (λ budget. (moves, budget)))
+moves_and_budget = moves_up_to MOST_MOVES
+
+-- a number of moves that may be asked for of a crowd, and a budget
+abbrev pub crowd_moves_and_budget : Words (ℕ × ℕ)
+crowd_moves_and_budget = moves_up_to MOST_CROWD_MOVES
 
 -- a number of moves, a name, and a budget
 abbrev pub moves_name_and_budget : Words (ℕ × ℕ)
@@ -161,7 +169,8 @@ row name {A} words order = record { name = name; Told = A; words = words; order 
 -- the commands that read no position text, a row each
 abbrev pub textless_rows : List Row
 textless_rows =
-    row (codes "check") name_and_budget (λ budget. Check budget)
+    row (codes "crowd") crowd_moves_and_budget (λ asked. Crowd asked.0 asked.1)
+    ∷ row (codes "check") name_and_budget (λ budget. Check budget)
     ∷ row (codes "resume") name_and_budget (λ budget. Resume budget)
     ∷ row (codes "migrate") two_names (λ asked. Migrate)
     ∷ row (codes "drill") seed_and_count (λ asked. Drill asked.0 asked.1)
@@ -240,6 +249,7 @@ pub record IsOfFiles (from to : List ℕ) (words : List (List ℕ)) : Type 0 whe
 -- the words ask this
 abbrev pub IsAsked : Asked → (words : List (List ℕ)) → Type 0
 IsAsked (asked.Text order) words = IsOrderOf order words
+IsAsked (asked.Crowd moves budget) words = Ordered words (Ok (Crowd moves budget))
 IsAsked (asked.Check name budget) words = IsOfFile (Check budget) name.now words
 IsAsked (asked.Resume name budget) words = IsOfFile (Resume budget) name.now words
 IsAsked (asked.Migrate from to) words = IsOfFiles from.now to.now words
@@ -255,12 +265,14 @@ IsWithinLimits (Describe moves budget) = moves ≤ MOST_MOVES
 IsWithinLimits (Play moves budget) = moves ≤ MOST_MOVES
 IsWithinLimits (Defend moves budget) = moves ≤ MOST_MOVES
 IsWithinLimits (Keep moves budget) = moves ≤ MOST_MOVES
+IsWithinLimits (Crowd moves budget) = moves ≤ MOST_CROWD_MOVES
 IsWithinLimits (Drill seed count) = (seed ≤ most_seed) × (count ≤ most_positions)
 IsWithinLimits order = Unit {0}
 
--- so are those of an order of a text
+-- so are those of an order of a text, or of a crowd
 abbrev pub IsAskedWithin : Asked → Type 0
 IsAskedWithin (asked.Text order) = IsWithinLimits (as_order order)
+IsAskedWithin (asked.Crowd moves budget) = IsWithinLimits (Crowd moves budget)
 IsAskedWithin other = Unit {0}
 
 -- the fault line of words that are no order

@@ -4,4 +4,4 @@
 pub mod laws;
 mod order;
 
-pub use order::{Asked, DEFAULT_STATES, Order, TextOrder, UsageWhy, order_of};
+pub use order::{Asked, DEFAULT_STATES, MOST_CROWD_MOVES, Order, TextOrder, UsageWhy, order_of};

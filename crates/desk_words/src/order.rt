@@ -3,12 +3,15 @@
 ghost use Rattle.std.specs.Prelude.{◌≡◌, ◌↔◌, ◌<◌, ◌≤◌, slice_get, length, Ok, Some, IsTrue, IfOk};
 ghost use Rattle.std.specs.Char.{IsAsciiDigit};
 ghost use Rattle.std.specs.List.{All};
-ghost use Rattle.desk_words.specs.Order.{Asks, IsAsked, IsAskedWithin, IsName, IsNameByte, IsNaturalText, IsWithinLimits, Ordered, OrderedBy, OrdersAs, ReadsName, ReadsNumber, budget_alone, most_seed, moves_and_budget, moves_name_and_budget, name_and_budget, no_words, rows, seed_and_count, textless_rows, texts, two_names, usage_line};
+ghost use Rattle.desk_words.specs.Order.{Asks, IsAsked, IsAskedWithin, IsName, IsNameByte, IsNaturalText, IsWithinLimits, Ordered, OrderedBy, OrdersAs, ReadsName, ReadsNumber, budget_alone, crowd_moves_and_budget, most_seed, moves_and_budget, moves_name_and_budget, moves_up_to, name_and_budget, no_words, rows, seed_and_count, textless_rows, texts, two_names, usage_line};
 
 use limits::{Budget, MOST_MOVES, MOST_STATES};
 
 /// The budget where no word names one.
 pub const DEFAULT_STATES: u32 = 50_000;
+
+/// The greatest number of moves that can be asked for of a crowd.
+pub const MOST_CROWD_MOVES: u8 = 2;
 
 /// The greatest number of positions that can be asked for.
 const MOST_POSITIONS: u64 = 100;
@@ -43,6 +46,8 @@ pub enum Order {
     Defend { moves: u8, budget: Budget },
     /// Keep a file of the sets by which the winner mates within so many moves of his own, if he does. The budget is that of `Decide`.
     Keep { moves: u8, budget: Budget },
+    /// Say whether the winner that a crowd's text names mates within so many moves of his own. The budget bounds the states of the automata that decide it.
+    Crowd { moves: u8, budget: Budget },
     /// Check the file of a name, and say within how many moves it mates. The budget is that of the plan that checks its claim.
     Check { budget: Budget },
     /// Check the file of a name, and play the game by its sets. The budget is that of `Check`.
@@ -97,6 +102,8 @@ pub enum TextOrder<'a> {
 pub enum Asked<'a> {
     /// Of the position text at the front of the input.
     Text(TextOrder<'a>),
+    /// Of the crowd's text at the front of the input.
+    Crowd { moves: u8, budget: Budget },
     /// That the file of the name be checked.
     Check { name: &'a str, budget: Budget },
     /// That the game be played by the file of the name.
@@ -134,6 +141,7 @@ impl Order {
                     name,
                 })
             }
+            Order::Crowd { moves, budget } => Asked::Crowd { moves, budget },
             Order::Check { budget } => {
                 let name = word_at(words, FILE_NAME);
                 Asked::Check { name, budget }
@@ -222,6 +230,7 @@ fn textless_order_named(name: &str, words: &[String]) -> Result<Order, UsageWhy>
     ensures within { IfOk result IsWithinLimits }
 {
     match name.as_bytes() {
+        b"crowd" => crowd_order(words),
         b"check" => check_order(words),
         b"resume" => resume_order(words),
         b"migrate" => migrate_order(words),
@@ -294,6 +303,15 @@ fn keep_order(words: &[String]) -> Result<Order, UsageWhy>
     Ok(Order::Keep { moves, budget })
 }
 
+/// The order that the words behind `crowd` are.
+fn crowd_order(words: &[String]) -> Result<Order, UsageWhy>
+    ensures ordered { OrdersAs crowd_moves_and_budget (λ asked. Order.Crowd asked.0 asked.1) (texts words.now) result }
+    ensures within { IfOk result IsWithinLimits }
+{
+    let (moves, budget) = read_moves_up_to(words, MOST_CROWD_MOVES)?;
+    Ok(Order::Crowd { moves, budget })
+}
+
 /// The order that the words behind `check` are.
 fn check_order(words: &[String]) -> Result<Order, UsageWhy>
     ensures ordered { OrdersAs name_and_budget (λ budget. Order.Check budget) (texts words.now) result }
@@ -353,9 +371,20 @@ fn read_moves_and_budget(words: &[String]) -> Result<(u8, Budget), UsageWhy>
     ensures reads { Asks moves_and_budget (texts words.now) result }
     ensures within { IfOk result (λ asked. asked.0 ≤ MOST_MOVES) }
 {
+    read_moves_up_to(words, MOST_MOVES)
+}
+
+/// A number of moves, of at most so many, and a budget, if a word names one.
+fn read_moves_up_to(words: &[String], most: u8) -> Result<(u8, Budget), UsageWhy>
+    ensures reads { Asks (moves_up_to most) (texts words.now) result }
+    ensures within { IfOk result (λ asked. asked.0 ≤ most) }
+{
     match words {
-        [moves] => Ok((read_moves(moves.as_str())?, default_budget())),
-        [moves, budget] => Ok((read_moves(moves.as_str())?, read_budget(budget.as_str())?)),
+        [moves] => Ok((read_moves(moves.as_str(), most)?, default_budget())),
+        [moves, budget] => Ok((
+            read_moves(moves.as_str(), most)?,
+            read_budget(budget.as_str())?,
+        )),
         _ => Err(UsageWhy::Count),
     }
 }
@@ -367,12 +396,12 @@ fn read_moves_name_and_budget(words: &[String]) -> Result<(u8, Budget), UsageWhy
 {
     match words {
         [moves, name] => {
-            let moves = read_moves(moves.as_str())?;
+            let moves = read_moves(moves.as_str(), MOST_MOVES)?;
             read_name(name.as_str())?;
             Ok((moves, default_budget()))
         }
         [moves, name, budget] => {
-            let moves = read_moves(moves.as_str())?;
+            let moves = read_moves(moves.as_str(), MOST_MOVES)?;
             read_name(name.as_str())?;
             Ok((moves, read_budget(budget.as_str())?))
         }
@@ -444,11 +473,11 @@ fn read_no_words(words: &[String]) -> Result<(), UsageWhy>
     }
 }
 
-/// The number of moves that the word is.
-fn read_moves(word: &str) -> Result<u8, UsageWhy>
-    ensures { ReadsNumber word.now 0 MOST_MOVES result }
+/// The number of moves that the word is, of at most so many.
+fn read_moves(word: &str, most: u8) -> Result<u8, UsageWhy>
+    ensures { ReadsNumber word.now 0 most result }
 {
-    Ok(read_number(word, 0, MOST_MOVES as u64)? as u8)
+    Ok(read_number(word, 0, most as u64)? as u8)
 }
 
 /// The budget where no word names one.
