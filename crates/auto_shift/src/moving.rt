@@ -81,6 +81,7 @@ pub fn move_by(alloc: Global, a: &Auto, track: u8, by: i32, budget: Budget) -> R
     ensures integers { IfOk result (λ b. DecidesIntegers b) }
     ensures reached { IfOk result AllReached }
     ensures few { IfOk result (λ b. length b.accept ≤ budget) }
+    ensures within { OnOk result (¬ IsOverOnTheWay a.now track by budget) }
     ensures over { result ≡ Err Grown.Over → IsOverOnTheWay a.now track by budget }
 {
     moving_adds_up();

@@ -1,10 +1,11 @@
-use Rattle.std.proofs.Common.{rules, ◌≡◌, Bool, true, false, Err, pos, refl, sym, arith, ap, ◌∙◌, subst}
+use Rattle.std.proofs.Common.{rules, ◌≡◌, Err, refl, arith, ap, ◌∙◌, subst}
 use Rattle.auto_walk.specs.declared.grown.Grown.TheVariants as grown
 use Rattle.std.specs.Int.{w32}
 use Rattle.std.proofs.lemmas.Int.{to_z-of_z}
 use Rattle.auto_shift.specs.Moved.{DecidesMoved}
 use Rattle.auto_shift.specs.Shifted.{along}
-use Rattle.auto_shift.proofs.Decisions.{DecidesMoved-next, walked-next}
+use Rattle.auto_shift.proofs.Decisions.{along-one, DecidesMoved-next, walked-next}
+use Rattle.auto_shift.proofs.OnTheWay.{within-one, within-next, within-all}
 use Rattle.auto_shift.proofs.moving.move_by.Goals as goal
 
 pub returns-in_err-moved-clause-over : goal.returns-in_err-moved-clause-over
@@ -30,6 +31,7 @@ loop-done-preserved c =
       integers = e.integers;
       reached = e.reached;
       few = e.few;
+      within = within-next _ _ c.of-up.result.up c.loop-done._done c.requires.track c.loop-done.invariant.walked e.within c.loop-done.invariant.within;
     }
 
 pub returns-clause-moved : goal.returns-clause-moved
@@ -39,3 +41,24 @@ returns-clause-moved c =
     let most = c.loop-done.auto._done-end in
     let all : c.loop-done._done ≡ c.of-up.result.times = omega (arith, some, past, most) in
     subst (DecidesMoved c.args.a.now c.loop-done.moved c.args.track) (ap (along c.of-up.result.up) all ∙ c.of-up.ensures.along ∙ to_z-of_z w32 c.args.by c.ranges.by) c.loop-done.invariant.moved
+
+pub loop-done-init : goal.loop-done-init
+loop-done-init c =
+    let e = c.in_ok-moved.ensures in
+    record {
+      walked = (c.args.a.now, refl, e.walked);
+      moved = subst (DecidesMoved c.args.a.now c.in_ok-moved.moved c.args.track) (along-one c.of-up.result.up) e.moved;
+      integers = e.integers;
+      reached = e.reached;
+      few = e.few;
+      within = within-one _ c.of-up.result.up c.requires.track e.within;
+    }
+
+pub returns-clause-within : goal.returns-clause-within
+returns-clause-within c =
+    let some = c.of-up.ensures.some in
+    let past = c.loop-done-test.false in
+    let most = c.loop-done.auto._done-end in
+    let all : c.loop-done._done ≡ c.of-up.result.times = omega (arith, some, past, most) in
+    let by = ap (along c.of-up.result.up) all ∙ c.of-up.ensures.along ∙ to_z-of_z w32 c.args.by c.ranges.by in
+    within-all _ c.of-up.result.up c.loop-done._done (omega (arith, some, all)) by c.loop-done.invariant.within

@@ -3,6 +3,7 @@ use Rattle.auto_core.specs.Integers.{DecidesIntegers}
 use Rattle.auto_core.specs.Reduced.{AllReached}
 use Rattle.auto_shift.specs.Moved.{DecidesMoved, IsWalkedTimes}
 use Rattle.auto_shift.specs.Shifted.{along}
+use Rattle.auto_shift.proofs.OnTheWay.{IsWithinBefore}
 use Rattle.auto_shift.proofs.moving.move_by.Given as goal
 
 abbrev pub invariant-loop-done : goal.invariant-loop-done
@@ -12,4 +13,5 @@ invariant-loop-done l = record {
   integers : DecidesIntegers l.moved;
   reached : AllReached l.moved;
   few : length l.moved.accept ≤ l.budget;
+  within : IsWithinBefore l.up l.track l.a l.budget l._done;
 }
