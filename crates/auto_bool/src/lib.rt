@@ -19,5 +19,5 @@ pub use connective::Connective;
 pub use nothing::none_of;
 pub use one_side::side;
 pub use operand::{Operand, fits_with_itself, operand_by};
-pub use product::{difference, join, meet, pairs_fit, product_within};
+pub use product::{difference, join, meet, pairs_fit};
 pub use sink::sinks;

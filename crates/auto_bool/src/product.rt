@@ -22,7 +22,7 @@ use std::alloc::Global;
 /// the pairs that words lead to are more than the budget. Only of reduced automata does that say how many words the step has to tell
 /// apart: on the reduced automata for the same words it may still be within. Costs the pairs of nodes that are met over all rows
 /// together.
-pub fn product_within(
+fn product_within(
     alloc: Global,
     a: &Auto,
     b: &Auto,
