@@ -51,7 +51,7 @@ tuple_placed stock live turn v =
     let n : length (men_from 1 stock live (squares v)) ≡ length stock = length_placed 1 stock live (squares v) in
     tuple_is stock live turn own v (length stock) (omega arith) ∙ ap (tuple_to (placed stock live turn (squares v))) (sym n)
 
-values_same : (xs : List Var) (v w : Values) → values_at xs v ≡ values_at xs w → (z : Var) → IsOneOf z xs → v z.0 ≡ w z.0
+pub values_same : (xs : List Var) (v w : Values) → values_at xs v ≡ values_at xs w → (z : Var) → IsOneOf z xs → v z.0 ≡ w z.0
 values_same [] v w e z is = absurd is
 values_same (x ∷ xs) v w e z (inl is) =
     let cons : v x.0 ∷ values_at xs v ≡ w x.0 ∷ values_at xs w = e in

@@ -152,13 +152,13 @@ enemy_is White Black e = refl
 enemy_is Black White e = refl
 enemy_is Black Black e = absurd (cc)
 
-is_enemy : (a b : Side) → a ≡ other b → not (is_side a b) ≡ true
+pub is_enemy : (a b : Side) → a ≡ other b → not (is_side a b) ≡ true
 is_enemy White White e = absurd (cc)
 is_enemy White Black e = refl
 is_enemy Black White e = refl
 is_enemy Black Black e = absurd (cc)
 
-no_king : (k : Kind) → not (is_king k) ≡ true → k ≢ King
+pub no_king : (k : Kind) → not (is_king k) ≡ true → k ≢ King
 no_king King e = λ w. cc
 no_king Queen e = λ w. cc
 no_king Rook e = λ w. cc
@@ -170,7 +170,7 @@ no_king Amazon e = λ w. cc
 no_king Nightrider e = λ w. cc
 no_king Pawn e = λ w. cc
 
-not_king : (k : Kind) → k ≢ King → not (is_king k) ≡ true
+pub not_king : (k : Kind) → k ≢ King → not (is_king k) ≡ true
 not_king King e = absurd (e refl)
 not_king Queen e = refl
 not_king Rook e = refl

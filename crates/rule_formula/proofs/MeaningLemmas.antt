@@ -22,7 +22,7 @@ use Rattle.rule_formula.proofs.MoveTheorem.{image_holds, pre_holds}
 use Rattle.rule_formula.proofs.PlacedLemmas.{placed_man}
 
 -- a man of the position has the rays of the man of the stock
-ray_placed : (stock : List Man) (live : ℕ → Bool) (turn : Side) (f : ℕ → Square) (k n : ℕ) (m q : Man) (r y : Ray) → stock_man stock k ≡ Some m
+pub ray_placed : (stock : List Man) (live : ℕ → Bool) (turn : Side) (f : ℕ → Square) (k n : ℕ) (m q : Man) (r y : Ray) → stock_man stock k ≡ Some m
     → man_at (placed stock live turn f) k ≡ Some q → ray_of m.kind m.side n ≡ Some r → ray_of q.kind q.side n ≡ Some y → y ≡ r
 ray_placed stock live turn f k n m q r y is at ray his =
     let same : q ≡ man_placed live f k m = same_man stock live turn f k m q is at in

@@ -27,10 +27,10 @@ ex_swept_holds (pos zero) x f e v = (λ h. (pos 0, h), λ h. h.1)
 ex_swept_holds (pos (suc d)) x f e v = (λ h. h, λ h. h)
 ex_swept_holds (negsuc d) x f e v = (λ h. h, λ h. h)
 
-value_other : (v : Values) (x : Var) (n : ℤ) (y : ℕ) → y ≢ x.0 → with_value v x n y ≡ v y
+pub value_other : (v : Values) (x : Var) (n : ℤ) (y : ℕ) → y ≢ x.0 → with_value v x n y ≡ v y
 value_other v x n y ne = grind (arith, nat_tests)
 
-value_same : (v : Values) (x : Var) (n : ℤ) (y : ℕ) → y ≡ x.0 → with_value v x n y ≡ n
+pub value_same : (v : Values) (x : Var) (n : ℤ) (y : ℕ) → y ≡ x.0 → with_value v x n y ≡ n
 value_same v x n y e = grind (arith, nat_tests)
 
 swept_other : (d : ℤ) (v : Values) (x : Var) (n : ℤ) (y : ℕ) → y ≢ x.0 → swept_value d v x n y ≡ v y

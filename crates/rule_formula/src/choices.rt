@@ -15,20 +15,22 @@ use std::alloc::{AllocError, Global};
 /// The ways in which men may go. Most lists are short.
 type Opts = Vec<Opt>;
 
-pub(crate) fn is_side(his: Side, side: Side) -> bool
+/// Whether both are one side.
+pub fn is_side(his: Side, side: Side) -> bool
     ensures { result ≡ side_of his side }
 {
     his == side
 }
 
-pub(crate) fn is_king(kind: Kind) -> bool
+/// Whether the kind is the king.
+pub fn is_king(kind: Kind) -> bool
     ensures { result ≡ king_of kind }
 {
     kind == Kind::King
 }
 
-/// Whether the ray serves moves onto an empty square.
-fn serves_moves(kind: Kind, number: u8) -> bool
+/// Whether the ray of this number serves moves onto an empty square.
+pub fn serves_moves(kind: Kind, number: u8) -> bool
     ensures { result ≡ moves kind number }
 {
     match kind {
@@ -37,8 +39,8 @@ fn serves_moves(kind: Kind, number: u8) -> bool
     }
 }
 
-/// Whether the ray serves captures.
-pub(crate) fn serves_captures(kind: Kind, number: u8) -> bool
+/// Whether the ray of this number serves captures.
+pub fn serves_captures(kind: Kind, number: u8) -> bool
     ensures { result ≡ captures kind number }
 {
     match kind {
