@@ -14,7 +14,6 @@ pub mod Compiles
 pub mod Stable
 pub mod NoSets
 pub mod PlainLemmas
-pub mod Laters
 pub mod Connections
 pub mod Entries
 pub mod MeetLemmas
@@ -22,6 +21,7 @@ pub mod Accessible
 pub mod MemoLemmas
 pub mod WithMemo
 pub mod PartLemmas
+pub mod StillKept
 pub mod Pairs
 pub mod Operands
 pub mod Shorts

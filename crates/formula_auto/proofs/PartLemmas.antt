@@ -26,7 +26,7 @@ use Rattle.formula_auto.proofs.MemoLemmas.{known-at}
 use Rattle.formula_auto.proofs.PlainLemmas.{some_step}
 use Rattle.formula_auto.proofs.WithMemo.{remembered_found, remembered_leaf, made_same}
 
-get-append : {X : Type 0} (xs ys : List X) (k : ℕ) (x : X) → slice_get xs k ≡ Some x → slice_get (xs ++ ys) k ≡ Some x
+pub get-append : {X : Type 0} (xs ys : List X) (k : ℕ) (x : X) → slice_get xs k ≡ Some x → slice_get (xs ++ ys) k ≡ Some x
 get-append [] ys k x there = absurd (none-some x there)
 get-append (y ∷ xs) ys zero x there = there
 get-append (y ∷ xs) ys (suc k) x there = get-append xs ys k x there

@@ -73,10 +73,10 @@ pub record IsMemoAfter (old new : MemoState) (fs : List Tree) : Type 0 where
   pub entries : new.entries ≡ old.entries ++ added
   pub passes : Passes (known old) old.found fs (known new) new.found
 
--- the memo later on: some formulas have passed
-pub record IsMemoLater (old new : MemoState) : Type 0 where
-  pub passed : List Tree
-  pub after : IsMemoAfter old new passed
+-- each entry is still at its place
+abbrev pub KeepsEntries : MemoState → MemoState → Type 0
+KeepsEntries old new =
+    (place : ℕ) (entry : Formula × Automaton) → slice_get old.entries place ≡ Some entry → slice_get new.entries place ≡ Some entry
 
 -- where a step is over the budget, the plain subformulas that ended before it have passed; where memory ran out, those
 -- that ended within some steps

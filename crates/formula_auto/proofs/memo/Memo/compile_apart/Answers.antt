@@ -1,7 +1,7 @@
 use Rattle.std.proofs.lemmas.Result.{IfOk-weaker, IfErr-weaker}
 use Rattle.formula_auto.proofs.BothOk.{either_way}
 use Rattle.formula_auto.proofs.Stable.{Decides-integers}
-use Rattle.formula_auto.proofs.Laters.{still_same}
+use Rattle.formula_auto.proofs.StillKept.{still_same}
 use Rattle.formula_auto.proofs.memo.Memo.compile_apart.Goals as goal
 
 pub returns-clause-reached : goal.returns-clause-reached

@@ -1,32 +1,31 @@
--- A memo later on, and one that is as it was.
-use Rattle.std.proofs.Common.{◌≡◌, ℕ, ◌+◌, ◌-◌, List, [], ◌++◌, length, Result, Ok, Err, IfErr, refl, ap, ◌∙◌, arith, length-append, append-nil}
+-- What a memo keeps while formulas are compiled, and a memo that is as it was.
+use Rattle.std.proofs.Common.{◌≡◌, ℕ, ◌+◌, List, [], ◌++◌, length, Some, Result, Ok, Err, IfErr, sym, ap, ◌∙◌, subst, arith, length-append, append-nil}
+use Rattle.std.specs.List.{slice_get}
 use Rattle.std.specs.Prelude.{OnOk}
 use Rattle.std.proofs.lemmas.List.{length-map, nil_from_length}
 use Rattle.auto_core.specs.Automaton.{Automaton}
 use Rattle.lin_formula.specs.Tree.{Tree}
 use Rattle.lin_formula.specs.declared.formula.Formula.{Formula}
-use Rattle.formula_auto.specs.PlainParts.{plain_within, plain_parts}
-use Rattle.formula_auto.specs.MemoState.{MemoState, known, IsMemoAfter, IsMemoLater, IsMemoStopped}
+use Rattle.formula_auto.specs.PlainParts.{plain_parts}
+use Rattle.formula_auto.specs.MemoState.{MemoState, known, IsMemoAfter, IsMemoStopped, KeepsEntries}
 use Rattle.formula_auto.specs.declared.errors.CompileError.{CompileError}
 use Rattle.formula_auto.specs.declared.errors.CompileError.TheVariants.{Over, Memory}
 use Rattle.formula_auto.proofs.Entries.{tree_in}
-use Rattle.formula_auto.proofs.PlainLemmas.{after-none, after-append}
+use Rattle.formula_auto.proofs.PartLemmas.{get-append}
 
-pub later-none : (m : MemoState) → IsMemoLater m m
-later-none m = record { passed = []; after = after-none m }
+pub keeps-after : {old new : MemoState} {fs : List Tree} → IsMemoAfter old new fs → KeepsEntries old new
+keeps-after {old} {new} after = λ place entry there.
+    subst (λ entries. slice_get entries place ≡ Some entry) (sym after.entries) (get-append old.entries after.added place entry there)
 
-pub later-then : {a b c : MemoState} → IsMemoLater a b → IsMemoLater b c → IsMemoLater a c
-later-then first second = record { passed = first.passed ++ second.passed; after = after-append first.after second.after }
-
-later-stopped : (f : Tree) {old new : MemoState} (why : CompileError) → IsMemoStopped old new f why → IsMemoLater old new
-later-stopped f (Over step) after = record { passed = plain_within f (step - 1); after = after }
-later-stopped f Memory (done, after) = record { passed = plain_within f done; after = after }
+keeps-stopped : (f : Tree) {old new : MemoState} (why : CompileError) → IsMemoStopped old new f why → KeepsEntries old new
+keeps-stopped f (Over step) after = keeps-after after
+keeps-stopped f Memory (done, after) = keeps-after after
 
 -- whatever compiling a formula answers
-pub later-compiled : (f : Tree) {old new : MemoState} (r : Result Automaton CompileError) → OnOk r (IsMemoAfter old new (plain_parts f))
-    → IfErr r (IsMemoStopped old new f) → IsMemoLater old new
-later-compiled f (Ok a) after stopped = record { passed = plain_parts f; after = after }
-later-compiled f (Err why) after stopped = later-stopped f why stopped
+pub keeps-compiled : (f : Tree) {old new : MemoState} (r : Result Automaton CompileError) → OnOk r (IsMemoAfter old new (plain_parts f))
+    → IfErr r (IsMemoStopped old new f) → KeepsEntries old new
+keeps-compiled f (Ok a) after stopped = keeps-after after
+keeps-compiled f (Err why) after stopped = keeps-stopped f why stopped
 
 same_state : {m n : MemoState} → n.budget ≡ m.budget → n.entries ≡ m.entries → n.found ≡ m.found → n ≡ m
 same_state {m} {n} budget entries found =
