@@ -1,10 +1,8 @@
 -- Classes that are given one by one.
 use Rattle.std.proofs.Common.{◌≡◌, ◌≢◌, ◌⊎◌, ℕ, ◌<◌, ◌≤◌, Bool, true, false, List, [], ◌∷◌, ◌++◌, length, get_or, slice_get, Some, None, arith, refl, sym, ap, ◌∙◌, subst, inl, inr}
-use Rattle.std.specs.HashMap.{HashMap, get, Updates}
 use Rattle.std.proofs.lemmas.Bool.{cases_eq, cases_lt}
 use Rattle.std.proofs.lemmas.List.{length_push, get_or_push, get_or_append_left}
 use Rattle.std.proofs.lemmas.Option.{slice_get_within, slice_get-get_or, get_or_from_slice_get, same_Some}
-use Rattle.std.proofs.lemmas.Grind.{common_steps}
 use Rattle.letter_diagram.specs.declared.diagrams.Shape.{Shape}
 use Rattle.letter_diagram.specs.Diagram.{map_at, Grows}
 use Rattle.letter_diagram.proofs.Maps.{Grows-refl}
@@ -14,11 +12,14 @@ use Rattle.auto_walk.proofs.RowLemmas.{Extends-refl, length_le-Extends}
 use Rattle.auto_merge.specs.declared.keys.TheConstants.{NO_CLASS}
 use Rattle.auto_merge.specs.Graph.{Graph}
 use Rattle.auto_merge.specs.Keys.{class_in, HasClass, IsValueOf}
-use Rattle.auto_merge.specs.Merging.{HasOwner, HaveOneClass, IsSettled, IsClassed, OwnsClass, AreClasses, IsKeyOf, IsKeyed, key_eq, AreKeyed, IsRowKey, CanJoin, IsClassGiven, AgreesWith}
+use Rattle.auto_merge.specs.Merging.{HasOwner, HaveOneClass, IsSettled, IsClassed, OwnsClass, AreClasses, IsKeyOf, IsKeyed, by_flag, AreKeyed, IsRowKey, CanJoin, IsClassGiven, IsClassOfKey, AgreesWith}
 use Rattle.auto_merge.proofs.Leads.{HaveMore, HaveMore-extends, HaveMore-table, IsValueOf-more, classed_within}
 
-key_eq-true : (p q : Bool × ℕ) → key_eq p q ≡ true → p ≡ q
-key_eq-true (b, m) (c, n) h = grind (arith, common_steps)
+pub flags_differ : (f flag : Bool) → (f ≡ flag) ⊎ (f ≢ flag)
+flags_differ true true = inl refl
+flags_differ false false = inl refl
+flags_differ true false = inr (λ e. absurd (let f = e in cc))
+flags_differ false true = inr (λ e. absurd (let f = e in cc))
 
 -- ---- owners
 
@@ -44,6 +45,12 @@ KeepsOwners-push owners number = record {
       slice_get-get_or (owners ++ number ∷ []) class first (omega (arith, within, size))
       ∙ ap Some (get_or_append_left owners (number ∷ []) first class within ∙ get_or_from_slice_get owners class first first is);
 }
+
+pub KeepsOwners-key : {keyed more owners after : List ℕ} {key number class : ℕ} → IsClassOfKey keyed more owners after key number class → KeepsOwners owners after
+KeepsOwners-key {owners = owners} {number = number} is = elim is [
+  | inl had ↦ subst (KeepsOwners owners) (sym had.owners_same) (KeepsOwners-refl owners)
+  | inr new ↦ subst (KeepsOwners owners) (sym new.owners_more) (KeepsOwners-push owners number)
+]
 
 -- the last owner
 pub owner-last : (owners : List ℕ) (number class : ℕ) → class ≡ length owners → slice_get (owners ++ number ∷ []) class ≡ Some number
@@ -107,8 +114,8 @@ module _ {old new : List (List ℕ)} {table more owners after_owners : List ℕ}
         key = IsKeyOf-more extends have grows is.key;
       }
 
-      pub AreKeyed-more : {S : Type 0} {keyed : HashMap (Bool × ℕ) ℕ S} → AreKeyed w old table owners shapes keyed → AreKeyed w new more after_owners after keyed
-      AreKeyed-more all = record { at = λ flag node class at. IsKeyed-more (all.at flag node class at) }
+      pub AreKeyed-more : {keyed : Bool → List ℕ} → AreKeyed w old table owners shapes keyed → AreKeyed w new more after_owners after keyed
+      AreKeyed-more all = record { at = λ flag node class at some. IsKeyed-more (all.at flag node class at some) }
 
 -- ---- places that are numbered
 
@@ -235,12 +242,12 @@ module _ {places : List (List ℕ)} {old new : List ℕ} {number class : ℕ} {p
         })
 
     -- the key of a place that gets a class of its own is its class's
-    pub AreKeyed-own : {S : Type 0} (owners : List ℕ) {shapes : List Shape} (flag : Bool) {node : ℕ} {keyed : HashMap (Bool × ℕ) ℕ S} (more : HashMap (Bool × ℕ) ℕ S)
+    pub AreKeyed-own : (owners : List ℕ) {shapes : List Shape} (flag : Bool) {node : ℕ} {keyed more : Bool → List ℕ}
         → class ≡ length owners → w.final place ≡ flag → IsKeyOf w places old shapes number place node
-        → Updates key_eq keyed more (flag, node) (Some class) → AreKeyed w places old owners shapes keyed
+        → IsClassGiven (keyed flag) (more flag) node class → ((f : Bool) → f ≢ flag → more f ≡ keyed f) → AreKeyed w places old owners shapes keyed
         → AreKeyed w places new (owners ++ number ∷ []) shapes more
-    AreKeyed-own owners {shapes} flag {node} {keyed} more is flag_is key updates all = record {
-      at = λ f n c at. by f n c (key_eq (flag, node) (f, n)) refl at;
+    AreKeyed-own owners {shapes} flag {node} {keyed} {more} is flag_is key given_key others all = record {
+      at = λ f n c at some. by f n c (flags_differ f flag) at some;
     }
       where
         own : IsKeyed w places new (owners ++ number ∷ []) shapes flag node class
@@ -252,15 +259,34 @@ module _ {places : List (List ℕ)} {old new : List ℕ} {number class : ℕ} {p
           key = IsKeyOf-more (Extends-refl places) HaveMore-give (Grows-refl shapes) key;
         }
 
-        by : (f : Bool) (n c : ℕ) (b : Bool) → key_eq (flag, node) (f, n) ≡ b → get key_eq more (f, n) ≡ Some c → IsKeyed w places new (owners ++ number ∷ []) shapes f n c
-        by f n c true e at =
-            let same = key_eq-true (flag, node) (f, n) e in
-            let here : c ≡ class = grind (arith, common_steps, updates.1, at, same) in
-            let P : Bool × ℕ → Type 0 = λ p. IsKeyed w places new (owners ++ number ∷ []) shapes p.0 p.1 c in
-            subst P same (subst (IsKeyed w places new (owners ++ number ∷ []) shapes flag node) (sym here) own)
-        by f n c false e at =
-            IsKeyed-more (Extends-refl places) HaveMore-give (KeepsOwners-push owners number) (Grows-refl shapes)
-            (all.at f n c (sym (updates.2 (f, n) e) ∙ at))
+        before : (f : Bool) (n c : ℕ) → class_in (keyed f) n ≡ c → c ≢ NO_CLASS → IsKeyed w places new (owners ++ number ∷ []) shapes f n c
+        before f n c at some = IsKeyed-more (Extends-refl places) HaveMore-give (KeepsOwners-push owners number) (Grows-refl shapes) (all.at f n c at some)
+
+        by : (f : Bool) (n c : ℕ) → (f ≡ flag) ⊎ (f ≢ flag) → class_in (more f) n ≡ c → c ≢ NO_CLASS → IsKeyed w places new (owners ++ number ∷ []) shapes f n c
+        by f n c (inr differ) at some = before f n c (sym (ap (λ l. class_in l n) (others f differ)) ∙ at) some
+        by f n c (inl same) at some =
+            let there : class_in (more flag) n ≡ c = sym (ap (λ b. class_in (more b) n) same) ∙ at in
+            subst (λ b. IsKeyed w places new (owners ++ number ∷ []) shapes b n c) (sym same) (elim (cases_eq n node) [
+              | inl here ↦
+                  let first : class ≡ c = sym given_key.here ∙ ap (class_in (more flag)) (sym here) ∙ there in
+                  let at_node : IsKeyed w places new (owners ++ number ∷ []) shapes flag node c = subst (IsKeyed w places new (owners ++ number ∷ []) shapes flag node) first own in
+                  subst (λ k. IsKeyed w places new (owners ++ number ∷ []) shapes flag k c) (sym here) at_node
+              | inr other ↦ before flag n c (sym (given_key.others n other) ∙ there) some
+            ])
+
+-- the classes of keys by the other flag
+pub by_flag-finals : (finals more others : List ℕ) (flag : Bool) → flag ≢ true → by_flag more others flag ≡ by_flag finals others flag
+by_flag-finals finals more others true differ = absurd (differ refl)
+by_flag-finals finals more others false differ = refl
+
+pub by_flag-others : (finals others more : List ℕ) (flag : Bool) → flag ≢ false → by_flag finals more flag ≡ by_flag finals others flag
+by_flag-others finals others more true differ = refl
+by_flag-others finals others more false differ = absurd (differ refl)
+
+-- the same classes of keys
+pub AreKeyed-same : {w : Walker} {places : List (List ℕ)} {table owners : List ℕ} {shapes : List Shape} {keyed more : Bool → List ℕ} → ((f : Bool) → more f ≡ keyed f)
+    → AreKeyed w places table owners shapes keyed → AreKeyed w places table owners shapes more
+AreKeyed-same same all = record { at = λ flag node class at some. all.at flag node class (sym (ap (λ l. class_in l node) (same flag)) ∙ at) some }
 
 -- ---- keys of rows
 

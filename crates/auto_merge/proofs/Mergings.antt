@@ -1,6 +1,5 @@
 -- What is known of a merging, as places are numbered, spots are led and classes are given.
 use Rattle.std.proofs.Common.{◌≡◌, ◌≢◌, ℕ, ◌<◌, ◌≤◌, ◌^◌, Bool, List, [], ◌∷◌, ◌++◌, length, get_or, slice_get, Option, Some, AllPairs, arith, refl, sym, ap, ◌∙◌, subst, inl, inr}
-use Rattle.std.specs.HashMap.{HashMap, get, Updates}
 use Rattle.std.proofs.lemmas.Option.{slice_get_within, slice_get-get_or, same_Some}
 use Rattle.letter_diagram.specs.declared.diagrams.Shape.{Shape}
 use Rattle.letter_diagram.specs.Diagram.{Grows}
@@ -13,9 +12,9 @@ use Rattle.auto_merge.specs.declared.keys.TheConstants.{NO_CLASS}
 use Rattle.auto_merge.specs.declared.merging.Merging.{Merging}
 use Rattle.auto_merge.specs.Graph.{Graph, AreSeen, IsRowAt, AddsKey, mark_of}
 use Rattle.auto_merge.specs.Keys.{class_in, HasClass, IsLedBy, Remembers, IsUnclassed}
-use Rattle.auto_merge.specs.Merging.{classed_count, HasOwner, AreClasses, key_eq, AreKeyed, IsRowKey, CanJoin, IsClassGiven, LeadsToClass, IsMerging, Keeps}
+use Rattle.auto_merge.specs.Merging.{classed_count, HasOwner, AreClasses, by_flag, AreKeyed, IsRowKey, CanJoin, IsClassGiven, IsClassOfKey, LeadsToClass, IsMerging, Keeps}
 use Rattle.auto_merge.proofs.Leads.{HaveMore, HaveMore-extends, classed_within, IsLedBy-more, IsLedBy-own, Remembers-more, Remembers-adds}
-use Rattle.auto_merge.proofs.Classes.{KeepsOwners, KeepsOwners-refl, KeepsOwners-push, AreKeyed-more, AreClasses-extends, AreClasses-own, AreClasses-shared, HaveMore-give, IsSettled-key, IsSettled-join, AreKeyed-own, IsKeyOf-row, one_owner}
+use Rattle.auto_merge.proofs.Classes.{flags_differ, KeepsOwners, KeepsOwners-refl, KeepsOwners-push, AreKeyed-more, AreKeyed-same, AreClasses-extends, AreClasses-own, AreClasses-shared, HaveMore-give, IsSettled-key, IsSettled-join, AreKeyed-own, IsKeyOf-row, one_owner}
 use Rattle.auto_merge.proofs.Padded.{classed_count_few, classed_grown}
 
 -- ---- classes are few
@@ -49,9 +48,17 @@ classed_few {table = table} seen all =
     omega (arith, count, room, places_few)
 
 -- a class that has a key
-pub keyed_known : {S : Type 0} {w : Walker} {places : List (List ℕ)} {table owners : List ℕ} {shapes : List Shape} {keyed : HashMap (Bool × ℕ) ℕ S} (flag : Bool) (node class : ℕ)
-    → AreKeyed w places table owners shapes keyed → get key_eq keyed (flag, node) ≡ Some class → class < length owners
-keyed_known {owners = owners} flag node class all there = let is = all.at flag node class there in slice_get_within owners class is.number is.at
+pub keyed_known : {w : Walker} {places : List (List ℕ)} {table owners : List ℕ} {shapes : List Shape} {keyed : Bool → List ℕ} (flag : Bool) (node class : ℕ)
+    → AreKeyed w places table owners shapes keyed → class_in (keyed flag) node ≡ class → class ≢ NO_CLASS → class < length owners
+keyed_known {owners = owners} flag node class all there some = let is = all.at flag node class there some in slice_get_within owners class is.number is.at
+
+-- the class of a key
+pub key_class_known : {w : Walker} {places : List (List ℕ)} {table owners after : List ℕ} {shapes : List Shape} {keyed : Bool → List ℕ} {more : List ℕ} {node number class : ℕ} (flag : Bool)
+    → AreKeyed w places table owners shapes keyed → IsClassOfKey (keyed flag) more owners after node number class → class ≤ length owners
+key_class_known {node = node} {class = class} flag all is = elim is [
+  | inl had ↦ let below = keyed_known flag node class all had.class_is had.is_class in omega (arith, below)
+  | inr new ↦ let e = new.class_is in omega (arith, e)
+]
 
 -- the number that got a class first
 pub owner_known : {w : Walker} {places : List (List ℕ)} {table owners : List ℕ} → AreClasses w places table owners → (class : ℕ) → class < length owners → get_or owners class 0 < length places
@@ -82,11 +89,6 @@ class_led {owners = owners} {class = class} all led leads = elim (led.values lea
   | inr self ↦ absurd (leads.is_class (sym leads.leads ∙ self.1))
 ]
 
--- ---- numbers without a class
-
-pub IsUnclassed-more : {old new : List (List ℕ)} {table : List ℕ} {number : ℕ} → Extends old new → IsUnclassed old table number → IsUnclassed new table number
-IsUnclassed-more {number = number} extends is = record { within = length-Extends number extends is.within; none = is.none }
-
 -- ---- keys of rows
 
 pub IsRowAt-more : {Spot : Type 0} {g : Graph Spot} {old new : List (List ℕ)} {number : ℕ} {spot : Spot} → Extends old new → IsRowAt g old number spot → IsRowAt g new number spot
@@ -110,14 +112,14 @@ flags_agree w owner number extends of_owner of_number same p q at_number at_owne
 
 -- ---- a merging, by its parts
 
-pub record IsMergingOf {Spot S : Type 0} (g : Graph Spot) (places : List (List ℕ)) (answers : Option ℕ → Spot → ℕ → Type 0) (table owners : List ℕ) (shapes : List Shape)
-    (keyed : HashMap (Bool × ℕ) ℕ S) : Type 0 where
+pub record IsMergingOf {Spot : Type 0} (g : Graph Spot) (places : List (List ℕ)) (answers : Option ℕ → Spot → ℕ → Type 0) (table owners : List ℕ) (shapes : List Shape)
+    (keyed : Bool → List ℕ) : Type 0 where
   pub seen : AreSeen g places
   pub classes : AreClasses g.walker places table owners
   pub keys : AreKeyed g.walker places table owners shapes keyed
   pub remembered : Remembers g places table shapes answers
 
-module _ {Spot S : Type 0} {g : Graph Spot} {places : List (List ℕ)} {answers : Option ℕ → Spot → ℕ → Type 0} {old owners : List ℕ} {shapes : List Shape} {keyed : HashMap (Bool × ℕ) ℕ S}
+module _ {Spot : Type 0} {g : Graph Spot} {places : List (List ℕ)} {answers : Option ℕ → Spot → ℕ → Type 0} {old owners : List ℕ} {shapes : List Shape} {keyed : Bool → List ℕ}
     (m : IsMergingOf g places answers old owners shapes keyed) where
   -- places are numbered
   pub IsMergingOf-seen : {new : List (List ℕ)} → Extends places new → AreSeen g new → IsMergingOf g new answers old owners shapes keyed
@@ -176,17 +178,17 @@ module _ {Spot S : Type 0} {g : Graph Spot} {places : List (List ℕ)} {answers 
         }
 
     -- the number gets a class of its own, by a key that is new
-    pub IsMergingOf-new_key : {flag : Bool} {node : ℕ} (more : HashMap (Bool × ℕ) ℕ S) → class ≡ length owners → IsFlagOf g.walker places number flag → IsRowKey g places old shapes (Some number) number node
-        → Updates key_eq keyed more (flag, node) (Some class) → IsMergingOf g places answers new (owners ++ number ∷ []) shapes more
-    IsMergingOf-new_key {flag} more own flagged key updates =
+    IsMergingOf-new_key : {flag : Bool} {node : ℕ} {more : Bool → List ℕ} → class ≡ length owners → IsFlagOf g.walker places number flag → IsRowKey g places old shapes (Some number) number node
+        → IsClassGiven (keyed flag) (more flag) node class → ((f : Bool) → f ≢ flag → more f ≡ keyed f) → IsMergingOf g places answers new (owners ++ number ∷ []) shapes more
+    IsMergingOf-new_key {flag} own flagged key given_key others =
         let some = class_is_class m.seen m.classes class (omega (arith, own)) in
         record {
           seen = m.seen;
           classes = AreClasses-own given is.none there g.walker own some m.classes;
           keys =
-              AreKeyed-own given is.none key.row.is g.walker owners flag more own
+              AreKeyed-own given is.none key.row.is g.walker owners flag own
               (ap g.walker.final (same_Some key.row.place flagged.0 (sym key.row.is ∙ flagged.1)) ∙ sym flagged.2)
-              (IsKeyOf-row key) updates m.keys;
+              (IsKeyOf-row key) given_key others m.keys;
           remembered = remembered_still;
         }
 
@@ -202,13 +204,12 @@ module _ {Spot S : Type 0} {g : Graph Spot} {places : List (List ℕ)} {answers 
           remembered = remembered_still;
         }
 
-    -- the number gets the class of its key
-    pub IsMergingOf-key : {flag : Bool} {node : ℕ} → get key_eq keyed (flag, node) ≡ Some class → IsFlagOf g.walker places number flag → IsRowKey g places old shapes (Some number) number node
+    -- the number gets the class that its key had
+    IsMergingOf-key : {flag : Bool} {node : ℕ} → class_in (keyed flag) node ≡ class → class ≢ NO_CLASS → IsFlagOf g.walker places number flag → IsRowKey g places old shapes (Some number) number node
         → IsMergingOf g places answers new owners shapes keyed
-    IsMergingOf-key {flag} {node} at flagged key =
-        let keyed_at = m.keys.at flag node class at in
+    IsMergingOf-key {flag} {node} at some flagged key =
+        let keyed_at = m.keys.at flag node class at some in
         let below = slice_get_within owners class keyed_at.number keyed_at.at in
-        let some = class_is_class m.seen m.classes class (omega (arith, below)) in
         let owner : HasOwner places owners class keyed_at.place = record { number = keyed_at.number; at = keyed_at.at; is = keyed_at.key.is } in
         let own = m.classes.own class below in
         let has : HasClass places old keyed_at.place class = subst (λ p. HasClass places old p class) (one_owner class own.owner keyed_at.place own.has owner) own.class_is in
@@ -221,13 +222,31 @@ module _ {Spot S : Type 0} {g : Graph Spot} {places : List (List ℕ)} {answers 
           remembered = remembered_still;
         }
 
+    -- the number gets the class of its key
+    pub IsMergingOf-by_key : (flag : Bool) {node : ℕ} {after : List ℕ} (more : Bool → List ℕ) → IsFlagOf g.walker places number flag → IsRowKey g places old shapes (Some number) number node
+        → IsClassOfKey (keyed flag) (more flag) owners after node number class → ((f : Bool) → f ≢ flag → more f ≡ keyed f) → IsMergingOf g places answers new after shapes more
+    IsMergingOf-by_key flag {node} {after} more flagged key of_key others = elim of_key [
+      | inl had ↦
+          let by = IsMergingOf-key {flag = flag} had.class_is had.is_class flagged key in
+          subst (λ l. IsMergingOf g places answers new l shapes more) (sym had.owners_same) (record {
+            seen = by.seen;
+            classes = by.classes;
+            keys = AreKeyed-same (λ f. elim (flags_differ f flag) [
+              | inl same ↦ ap more same ∙ had.keyed_same ∙ ap keyed (sym same)
+              | inr differ ↦ others f differ
+            ]) by.keys;
+            remembered = by.remembered;
+          })
+      | inr first ↦ subst (λ l. IsMergingOf g places answers new l shapes more) (sym first.owners_more) (IsMergingOf-new_key {flag = flag} first.class_is flagged key first.given others)
+    ]
+
 -- ---- the same of the record that the code has
 
 module _ {R Spot Seen Memo : Type 0} {g : Graph Spot} {places : Seen → List (List ℕ)} {answers : Memo → Option ℕ → Spot → ℕ → Type 0} where
-  pub IsMerging-of : (m : Merging R Spot Seen Memo) → IsMergingOf g (places m.led.seen) (answers m.led.memo) m.table.items m.owners.items m.led.to m.keyed → IsMerging g places answers m
+  pub IsMerging-of : (m : Merging R Spot Seen Memo) → IsMergingOf g (places m.led.seen) (answers m.led.memo) m.table.items m.owners.items m.led.to (by_flag m.keyed_final.items m.keyed.items) → IsMerging g places answers m
   IsMerging-of m is = record { seen = is.seen; classes = is.classes; keys = is.keys; remembered = is.remembered }
 
-  pub of-IsMerging : {m : Merging R Spot Seen Memo} → IsMerging g places answers m → IsMergingOf g (places m.led.seen) (answers m.led.memo) m.table.items m.owners.items m.led.to m.keyed
+  pub of-IsMerging : {m : Merging R Spot Seen Memo} → IsMerging g places answers m → IsMergingOf g (places m.led.seen) (answers m.led.memo) m.table.items m.owners.items m.led.to (by_flag m.keyed_final.items m.keyed.items)
   of-IsMerging is = record { seen = is.seen; classes = is.classes; keys = is.keys; remembered = is.remembered }
 
 module _ {R Spot Seen Memo : Type 0} {places : Seen → List (List ℕ)} where

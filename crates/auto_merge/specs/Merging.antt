@@ -1,7 +1,6 @@
 -- Classes of places that are given one by one. Each is given to a place whose row leads to places with classes that were
 -- given before, or to the place itself: the class of another such place with the same row, or one of its own.
-use Rattle.std.specs.Prelude.{◌≡◌, ◌≢◌, ◌⊎◌, ℕ, ◌<◌, ◌≤◌, ◌+◌, ◌^◌, Bool, List, Option, length, slice_get, Some, None, sum_by, nat_eq, vec_len, ◌&&◌, if◌then◌else◌}
-use Rattle.std.specs.HashMap.{HashMap, get, hash_map_len}
+use Rattle.std.specs.Prelude.{◌≡◌, ◌≢◌, ◌⊎◌, ℕ, ◌<◌, ◌≤◌, ◌+◌, ◌++◌, ◌∷◌, [], ◌^◌, Bool, true, false, List, Option, length, slice_get, Some, None, sum_by, nat_eq, if◌then◌else◌}
 use Rattle.letter_diagram.specs.declared.diagrams.Shape.{Shape}
 use Rattle.letter_diagram.specs.Diagram.{map_at, Grows}
 use Rattle.auto_walk.specs.Walker.{Walker}
@@ -12,7 +11,6 @@ use Rattle.auto_merge.specs.declared.rows.Key.{Key}
 use Rattle.auto_merge.specs.declared.merging.Merging.{Merging}
 use Rattle.auto_merge.specs.Graph.{Graph, AreSeen, IsRowAt, mark_of}
 use Rattle.auto_merge.specs.Keys.{class_in, HasClass, IsOwn, IsValueOf, IsLedBy, IsUnclassed, IsNoKey, Remembers}
-use mathlib.Core.Bool.{beq}
 
 -- how many numbers have a class
 abbrev pub classed_count : List ℕ → ℕ
@@ -72,14 +70,15 @@ pub record IsKeyed (w : Walker) (places : List (List ℕ)) (table owners : List 
   pub flag_is : w.final place ≡ flag
   pub key : IsKeyOf w places table shapes number place node
 
--- whether two flags are equal, and two nodes
-abbrev pub key_eq : Bool × ℕ → Bool × ℕ → Bool
-key_eq p q = beq p.0 q.0 && nat_eq p.1 q.1
+-- the classes of keys by a flag: those of accepting places, or the others
+abbrev pub by_flag : List ℕ → List ℕ → Bool → List ℕ
+by_flag finals others true = finals
+by_flag finals others false = others
 
--- each class with a key is that of a number with this flag and this row
-pub record AreKeyed {S : Type 0} (w : Walker) (places : List (List ℕ)) (table owners : List ℕ) (shapes : List Shape)
-    (keyed : HashMap (Bool × ℕ) ℕ S) : Type 0 where
-  pub at : (flag : Bool) (node class : ℕ) → get key_eq keyed (flag, node) ≡ Some class
+-- each class of a key is that of a number with the flag and with this row
+pub record AreKeyed (w : Walker) (places : List (List ℕ)) (table owners : List ℕ) (shapes : List Shape) (keyed : Bool → List ℕ) : Type
+    0 where
+  pub at : (flag : Bool) (node class : ℕ) → class_in (keyed flag) node ≡ class → class ≢ NO_CLASS
       → IsKeyed w places table owners shapes flag node class
 
 -- the row of a number, led to classes, but where it leads to the place of a number that may have none
@@ -117,6 +116,24 @@ pub record IsClassGiven (old new : List ℕ) (number class : ℕ) : Type 0 where
   pub others : (other : ℕ) → other ≢ number → class_in new other ≡ class_in old other
   pub more : classed_count new ≡ classed_count old + 1
 
+-- the class that a key had
+pub record HadClass (keyed more owners after : List ℕ) (key class : ℕ) : Type 0 where
+  pub class_is : class_in keyed key ≡ class
+  pub is_class : class ≢ NO_CLASS
+  pub keyed_same : more ≡ keyed
+  pub owners_same : after ≡ owners
+
+-- a new class, that a number is the first to get, is given to a key
+pub record GetsNewClass (keyed more owners after : List ℕ) (key number class : ℕ) : Type 0 where
+  pub class_is : class ≡ length owners
+  pub given : IsClassGiven keyed more key class
+  pub owners_more : after ≡ owners ++ number ∷ []
+
+-- the class of a key: that which it had, or a new one
+abbrev pub IsClassOfKey : List ℕ → List ℕ → List ℕ → List ℕ → ℕ → ℕ → ℕ → Type 0
+IsClassOfKey keyed more owners after key number class =
+    HadClass keyed more owners after key class ⊎ GetsNewClass keyed more owners after key number class
+
 -- a letter at which a node's value is a class
 pub record LeadsToClass (shapes : List Shape) (key class : ℕ) : Type 0 where
   pub letter : ℕ
@@ -134,7 +151,7 @@ pub record IsMerging {R Spot Seen Memo : Type 0} (g : Graph Spot) (places : Seen
     (answers : Memo → Option ℕ → Spot → ℕ → Type 0) (m : Merging R Spot Seen Memo) : Type 0 where
   pub seen : AreSeen g (places m.led.seen)
   pub classes : AreClasses g.walker (places m.led.seen) m.table.items m.owners.items
-  pub keys : AreKeyed g.walker (places m.led.seen) m.table.items m.owners.items m.led.to m.keyed
+  pub keys : AreKeyed g.walker (places m.led.seen) m.table.items m.owners.items m.led.to (by_flag m.keyed_final.items m.keyed.items)
   pub remembered : Remembers g (places m.led.seen) m.table.items m.led.to (answers m.led.memo)
 
 -- what was numbered, given and led stays as it was
@@ -147,10 +164,6 @@ pub record Keeps {R Spot Seen Memo : Type 0} (places : Seen → List (List ℕ))
       → slice_get new.owners.items class ≡ Some number
   pub nodes : Grows old.led.to new.led.to
   pub counted : classed_count old.table.items ≤ classed_count new.table.items
-
--- there are more classes than keys that have one: some place got a class of its own
-abbrev pub HasOwnClasses : {R Spot Seen Memo : Type 0} → Merging R Spot Seen Memo → Type 0
-HasOwnClasses m = hash_map_len m.keyed < vec_len m.owners
 
 abbrev pub IsUnclassedIn : {R Spot Seen Memo : Type 0} → (Seen → List (List ℕ)) → Merging R Spot Seen Memo → ℕ → Type 0
 IsUnclassedIn places m number = IsUnclassed (places m.led.seen) m.table.items number

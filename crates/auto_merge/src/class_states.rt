@@ -8,7 +8,7 @@ ghost use Rattle.auto_merge.specs.Walk.{IsTrailIn};
 ghost use Rattle.auto_merge.specs.Merged.{IsMerged, IsSettledIn, IsClassRowIn, AreClassRowsIn, AreClassFlagsIn};
 
 use crate::keys::NoKey;
-use crate::merging::{Merging, has_own_classes, into_diagrams, no_classes};
+use crate::merging::{Merging, into_diagrams, no_classes};
 use crate::rows::Rows;
 use crate::visits::spot_key;
 use crate::walk::{Trail, class_from, no_trail};
@@ -127,7 +127,7 @@ fn merged<R: Rows>(alloc: Global, rows: &R) -> Result<Once, Grown>
     let nodes = class_rows(alloc, rows, &mut merging, &mut way)?;
     let accept = class_flags(alloc, rows, &merging)?;
     let tracks = rows.tracks().to_vec(alloc)?;
-    let is_looped = has_own_classes(&merging);
+    let is_looped = merging.has_own;
     let is_halved = accept.len() <= rows.count(&merging.led.seen) / 2;
     Ok(Once {
         auto: Auto::from_diagrams(tracks, into_diagrams(merging), first, nodes, accept),

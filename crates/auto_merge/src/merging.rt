@@ -2,14 +2,13 @@
 ghost use Rattle.std.specs.Prelude.{◌≡◌, ◌↔◌, ◌<◌, ◌≤◌, ◌^◌, ◌++◌, ◌∷◌, [], ℕ, Err, length, IfErr, IfOk, IfSome, OnOk, IsTrue, true, false};
 ghost use Rattle.auto_merge.specs.declared.keys.TheConstants.{NO_CLASS};
 ghost use Rattle.auto_merge.specs.Keys.{class_in};
-ghost use Rattle.auto_merge.specs.Merging.{IsRoomMade, IsClassGiven, IsMerging, Keeps, IsUnclassedIn, IsClassedIn, IsKnownClassIn, IsRowKeyIn, IsOwnerRowIn, MayShareIn, HasOwnClasses};
+ghost use Rattle.auto_merge.specs.Merging.{IsRoomMade, IsClassGiven, IsClassOfKey, IsMerging, Keeps, IsUnclassedIn, IsClassedIn, IsKnownClassIn, IsRowKeyIn, IsOwnerRowIn, MayShareIn};
 
 use crate::joining::{agrees, first_class};
-use crate::keys::{Led, NO_CLASS};
+use crate::keys::{Led, NO_CLASS, class_of};
 use crate::rows::{Key, Rows};
 use letter_diagram::{Diagrams, Node};
 use std::alloc::{AllocError, Global};
-use std::collections::HashMap;
 
 /// How many pairs of nodes are compared at most before a place is taken to differ from another.
 const MOST_STEPS: u32 = 1000;
@@ -21,8 +20,13 @@ pub struct Merging<R: Rows> {
     pub table: Vec<u32>,
     /// For each class the number of the place that got it first.
     pub owners: Vec<u32>,
-    /// The class of a flag and the key of a row.
-    keyed: HashMap<(bool, Node), u32>,
+    /// The class of each key of the row of an accepting place, by the key's number, as far as the list goes; `NO_CLASS` where it has none.
+    keyed_final: Vec<u32>,
+    /// The same of places that are not accepting.
+    keyed: Vec<u32>,
+    /// Whether some place got a class of its own without a key. What is said of the classes holds whatever this is: where it is wrongly
+    /// false, places that are alike may stay apart, and where it is wrongly true, a reduction is made for nothing.
+    pub has_own: bool,
     pub led: Led<R>,
     /// Whether each place is being visited, as far as the list goes. One past it is not.
     pub visited: Vec<bool>,
@@ -35,7 +39,9 @@ pub fn no_classes<R: Rows>(alloc: Global, rows: &R) -> Result<Merging<R>, AllocE
     Ok(Merging {
         table: Vec::new(alloc),
         owners: Vec::new(alloc),
-        keyed: HashMap::new(alloc),
+        keyed_final: Vec::new(alloc),
+        keyed: Vec::new(alloc),
+        has_own: false,
         led: Led {
             seen: rows.new_seen(alloc)?,
             to: Diagrams::with_capacity(alloc, rows.nodes())?,
@@ -43,14 +49,6 @@ pub fn no_classes<R: Rows>(alloc: Global, rows: &R) -> Result<Merging<R>, AllocE
         },
         visited: Vec::new(alloc),
     })
-}
-
-/// Whether some place got a class of its own without a key. What is said of the classes holds whatever this answers: where it answers no
-/// for yes, places that are alike may stay apart, and where it answers yes for no, a reduction is made for nothing.
-pub fn has_own_classes<R: Rows>(merging: &Merging<R>) -> bool
-    ensures { IsTrue result ↔ HasOwnClasses merging.now }
-{
-    merging.keyed.len() < merging.owners.len()
 }
 
 /// The diagrams that spots were led to nodes of.
@@ -106,7 +104,28 @@ pub fn give_own<R: Rows>(rows: &R, number: u32, merging: &mut Merging<R>) -> Res
     let _ = rows.count(&merging.led.seen);
     let class = new_class(&mut merging.owners, number)?;
     give(&mut merging.table, number, class)?;
+    merging.has_own = true;
     Ok(())
+}
+
+/// The class of a key, or a new one where it has none, that a number is the first to get.
+fn class_of_key(
+    keyed: &mut Vec<u32>,
+    key: Node,
+    owners: &mut Vec<u32>,
+    number: u32,
+) -> Result<u32, AllocError>
+    requires { length owners.old.items < 2 ^ 31 }
+    ensures { IfOk result (IsClassOfKey keyed.old.items keyed.new.items owners.old.items owners.new.items key number) }
+{
+    let key = key.number() as u32;
+    let class = class_of(keyed.as_slice(), key);
+    if class != NO_CLASS {
+        return Ok(class);
+    }
+    let class = new_class(owners, number)?;
+    give(keyed, key, class)?;
+    Ok(class)
 }
 
 /// Gives a number the class that has its key, or one of its own where the key is new.
@@ -123,13 +142,12 @@ fn give_by_key<R: Rows>(
     ensures kept { OnOk result (Keeps (R.places rows.now) merging.old merging.new) }
     ensures given { OnOk result (IsClassedIn merging.new number) }
 {
-    let flag = rows.is_final(&merging.led.seen, number);
-    if let Some(class) = merging.keyed.get(&(flag, key)).copied() {
+    if rows.is_final(&merging.led.seen, number) {
+        let class = class_of_key(&mut merging.keyed_final, key, &mut merging.owners, number)?;
         give(&mut merging.table, number, class)?;
         return Ok(());
     }
-    let class = new_class(&mut merging.owners, number)?;
-    merging.keyed.insert((flag, key), class)?;
+    let class = class_of_key(&mut merging.keyed, key, &mut merging.owners, number)?;
     give(&mut merging.table, number, class)?;
     Ok(())
 }

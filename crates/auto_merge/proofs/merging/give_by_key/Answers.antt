@@ -1,51 +1,57 @@
-use Rattle.std.proofs.Common.{arith, length, sym, ◌∙◌}
-use Rattle.auto_merge.proofs.Classes.{KeepsOwners-refl, KeepsOwners-push}
-use Rattle.auto_merge.proofs.Mergings.{keyed_known, class_few, class_is_class, of-IsMerging, IsMerging-of, IsMergingOf-key, IsMergingOf-new_key, Keeps-of, KeepsOf-give, classed-given}
+use Rattle.std.proofs.Common.{arith, length, true, false}
+use Rattle.auto_merge.specs.Merging.{by_flag}
+use Rattle.auto_merge.proofs.Classes.{KeepsOwners-key, by_flag-finals, by_flag-others}
+use Rattle.auto_merge.proofs.Mergings.{key_class_known, class_few, class_is_class, of-IsMerging, IsMerging-of, IsMergingOf-by_key, Keeps-of, KeepsOf-give, classed-given}
 use Rattle.auto_merge.proofs.merging.give_by_key.Goals as goal
+
+pub class_of_key-requires : goal.class_of_key-requires
+class_of_key-requires g c =
+    let m = c.requires.merging in
+    class_few m.seen m.classes (length c.args.merging.now.owners.items) (omega arith)
 
 pub give-requires-clause-class : goal.give-requires-clause-class
 give-requires-clause-class g c =
     let m = c.requires.merging in
-    let below = keyed_known c.is_final-flag.result c.args.key c.in-Some.class m.keys (sym c.get.ensures.value ∙ sym c.copied.ensures ∙ c.in-Some.is) in
-    class_few m.seen m.classes c.in-Some.class (omega (arith, below))
+    class_few m.seen m.classes c.in_ok-class.class (key_class_known true m.keys c.in_ok-class.ensures)
 
-pub returns-in-Some-clause-merging : goal.returns-in-Some-clause-merging
-returns-in-Some-clause-merging g c =
-    IsMerging-of _ (IsMergingOf-key (of-IsMerging c.requires.merging) c.in_ok-give.ensures c.requires.new (sym c.get.ensures.value ∙ sym c.copied.ensures ∙ c.in-Some.is) c.is_final-flag.ensures c.requires.key)
+pub returns-then-is_final-clause-merging : goal.returns-then-is_final-clause-merging
+returns-then-is_final-clause-merging g c =
+    let old = c.args.merging.now in
+    let more = c.class_of_key.new.keyed.items in
+    let flagged = rw c.if-is_final.true at c.is_final.ensures in
+    IsMerging-of _ (IsMergingOf-by_key (of-IsMerging c.requires.merging) c.in_ok-give.ensures c.requires.new true (by_flag more old.keyed.items) flagged c.requires.key c.in_ok-class.ensures
+    (by_flag-finals old.keyed_final.items more old.keyed.items))
 
-pub returns-in-Some-clause-kept : goal.returns-in-Some-clause-kept
-returns-in-Some-clause-kept g c =
-    Keeps-of _ _ (KeepsOf-give c.args.merging.now.led.to c.in_ok-give.ensures c.requires.new (KeepsOwners-refl c.args.merging.now.owners.items))
+pub returns-then-is_final-clause-kept : goal.returns-then-is_final-clause-kept
+returns-then-is_final-clause-kept g c = Keeps-of _ _ (KeepsOf-give c.args.merging.now.led.to c.in_ok-give.ensures c.requires.new (KeepsOwners-key c.in_ok-class.ensures))
 
-pub returns-in-Some-clause-given : goal.returns-in-Some-clause-given
-returns-in-Some-clause-given g c =
+pub returns-then-is_final-clause-given : goal.returns-then-is_final-clause-given
+returns-then-is_final-clause-given g c =
     let m = c.requires.merging in
-    let below = keyed_known c.is_final-flag.result c.args.key c.in-Some.class m.keys (sym c.get.ensures.value ∙ sym c.copied.ensures ∙ c.in-Some.is) in
-    classed-given c.in_ok-give.ensures (class_is_class m.seen m.classes c.in-Some.class (omega (arith, below)))
+    classed-given c.in_ok-give.ensures (class_is_class m.seen m.classes c.in_ok-class.class (key_class_known true m.keys c.in_ok-class.ensures))
 
-pub new_class-requires : goal.new_class-requires
-new_class-requires g c =
+pub class_of_key-requires-2 : goal.class_of_key-requires-2
+class_of_key-requires-2 g c =
     let m = c.requires.merging in
     class_few m.seen m.classes (length c.args.merging.now.owners.items) (omega arith)
 
 pub give-requires-2-clause-class : goal.give-requires-2-clause-class
 give-requires-2-clause-class g c =
     let m = c.requires.merging in
-    let own = c.in_ok-class.ensures.class in
-    class_few m.seen m.classes c.in_ok-class.class (omega (arith, own))
+    class_few m.seen m.classes c.in_ok-class-2.class (key_class_known false m.keys c.in_ok-class-2.ensures)
 
 pub returns-clause-merging : goal.returns-clause-merging
 returns-clause-merging g c =
-    let items = c.in_ok-class.ensures.owners in
-    IsMerging-of _ (rw items (IsMergingOf-new_key (of-IsMerging c.requires.merging) c.in_ok-give-2.ensures c.requires.new c.insert.new.self c.in_ok-class.ensures.class c.is_final-flag.ensures c.requires.key c.in_ok-insert.ensures.updates))
+    let old = c.args.merging.now in
+    let more = c.class_of_key-2.new.keyed.items in
+    let flagged = rw c.if-is_final.false at c.is_final.ensures in
+    IsMerging-of _ (IsMergingOf-by_key (of-IsMerging c.requires.merging) c.in_ok-give-2.ensures c.requires.new false (by_flag old.keyed_final.items more) flagged c.requires.key c.in_ok-class-2.ensures
+    (by_flag-others old.keyed_final.items old.keyed.items more))
 
 pub returns-clause-kept : goal.returns-clause-kept
-returns-clause-kept g c =
-    let items = c.in_ok-class.ensures.owners in
-    Keeps-of _ _ (rw items (KeepsOf-give c.args.merging.now.led.to c.in_ok-give-2.ensures c.requires.new (KeepsOwners-push c.args.merging.now.owners.items c.args.number)))
+returns-clause-kept g c = Keeps-of _ _ (KeepsOf-give c.args.merging.now.led.to c.in_ok-give-2.ensures c.requires.new (KeepsOwners-key c.in_ok-class-2.ensures))
 
 pub returns-clause-given : goal.returns-clause-given
 returns-clause-given g c =
     let m = c.requires.merging in
-    let own = c.in_ok-class.ensures.class in
-    classed-given c.in_ok-give-2.ensures (class_is_class m.seen m.classes c.in_ok-class.class (omega (arith, own)))
+    classed-given c.in_ok-give-2.ensures (class_is_class m.seen m.classes c.in_ok-class-2.class (key_class_known false m.keys c.in_ok-class-2.ensures))
