@@ -127,7 +127,7 @@ impl<'a> Rows for PairRows<'a> {
     }
 
     fn new_memo(&self, alloc: Global) -> Result<KeyMemo, AllocError> {
-        let memo = KeyMemo::with_capacity(alloc, self.nodes() / 2, self.factors.left.first_node())?;
+        let memo = KeyMemo::with_capacity(alloc, self.nodes(), self.factors.left.first_node())?;
         Ok(memo)
     }
 
