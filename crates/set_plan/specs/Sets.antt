@@ -1,5 +1,5 @@
 -- Sets that a program has made.
-use Rattle.std.specs.Prelude.{◌≡◌, ◌<◌, ◌≤◌, ℕ, List, length, Option, Some, None, IfSome, slice_get}
+use Rattle.std.specs.Prelude.{◌≡◌, ◌<◌, ◌≤◌, ℕ, List, [], ◌∷◌, length, Option, Some, None, IfSome, slice_get}
 use Rattle.std.specs.Borrow.{Bor}
 use Rattle.limits.specs.declared.numbers.TheConstants.{MOST_STATES}
 use Rattle.track_word.specs.declared.tracks.Var.{Var}
@@ -84,6 +84,11 @@ IsLeftOn tracks (Part set) = IfSome set (IsSetOn tracks)
 -- each set of the one table is in the other under its number
 abbrev pub Grows : List Automaton → List Automaton → Type 0
 Grows old new = (k : ℕ) (a : Automaton) → slice_get old k ≡ Some a → slice_get new k ≡ Some a
+
+-- what is kept of a set, if there is one
+abbrev pub kept_of : Option Automaton → List Automaton
+kept_of None = []
+kept_of (Some a) = a ∷ []
 
 -- the set of a name, if there is one
 abbrev pub set_at : List Automaton → Option SetId → SetOf

@@ -17,10 +17,11 @@ mod steps;
 mod stop;
 
 pub use asking::{are_empty, is_within};
-pub use empty::is_empty_set;
+pub use empty::{has_no_tuple, is_empty_set};
 pub use fold::{Steps, each};
 pub use left::{Left, remainder};
 pub use made::Made;
 pub use parts::{make, make_reached, reduced, together, unite};
 pub use sets::Sets;
+pub use steps::step_count;
 pub use stop::{PlanError, StepName};

@@ -1,7 +1,7 @@
 //! Sets that are kept.
-ghost use Rattle.std.specs.Prelude.{◌≡◌, ◌<◌, ◌≤◌, ◌++◌, ◌∷◌, length, IfOk, IfSome, OnErr, OnOk, [], slice_get, Some, take};
+ghost use Rattle.std.specs.Prelude.{◌≡◌, ◌<◌, ◌≤◌, ◌++◌, ◌∷◌, length, IfOk, IfSome, OnErr, OnOk, [], slice_get, Some, None, Ok, take};
 ghost use Rattle.lin_formula.specs.SetOf.{as_set};
-ghost use Rattle.set_plan.specs.Sets.{Grows, set_at};
+ghost use Rattle.set_plan.specs.Sets.{Grows, kept_of, set_at};
 
 use auto_core::Auto;
 use formula_auto::SetTable;
@@ -55,10 +55,14 @@ impl Sets {
         }
     }
 
-    /// Keeps a set, and gives its name. Where there is none, none is kept.
+    /// Keeps a set behind the others, and gives its name. Where there is none, none is kept. Err is as `put` has it.
     pub fn keep(&mut self, set: Option<Auto>) -> Result<Option<SetId>, AllocError>
         ensures ok { IfOk result (λ id. set_at self.new id ≡ as_set set) }
+        ensures name { IfOk result (λ id. IfSome id (λ k. k.0 ≡ length self.old)) }
         ensures within { IfOk result (λ id. IfSome id (λ k. k.0 < length self.new)) }
+        ensures entered { OnOk result (self.new ≡ self.old ++ kept_of set) }
+        ensures none { set ≡ None → result ≡ Ok None }
+        ensures err { OnErr result (self.new ≡ self.old) }
         ensures grows { Grows self.old self.new }
     {
         match set {
@@ -86,6 +90,7 @@ impl Sets {
     /// Keeps a set behind the others, and gives its name. Err is want of memory, or that there are no more names.
     pub fn put(&mut self, a: Auto) -> Result<SetId, AllocError>
         ensures ok { IfOk result (λ id. slice_get self.new id.0 ≡ Some a) }
+        ensures name { IfOk result (λ id. id.0 ≡ length self.old) }
         ensures within { IfOk result (λ id. id.0 < length self.new) }
         ensures entered { OnOk result (self.new ≡ self.old ++ a ∷ []) }
         ensures err { OnErr result (self.new ≡ self.old) }
