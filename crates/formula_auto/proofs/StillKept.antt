@@ -17,7 +17,7 @@ pub keeps-after : {old new : MemoState} {fs : List Tree} → IsMemoAfter old new
 keeps-after {old} {new} after = λ place entry there.
     subst (λ entries. slice_get entries place ≡ Some entry) (sym after.entries) (get-append old.entries after.added place entry there)
 
-keeps-stopped : (f : Tree) {old new : MemoState} (why : CompileError) → IsMemoStopped old new f why → KeepsEntries old new
+pub keeps-stopped : (f : Tree) {old new : MemoState} (why : CompileError) → IsMemoStopped old new f why → KeepsEntries old new
 keeps-stopped f (Over step) after = keeps-after after
 keeps-stopped f Memory (done, after) = keeps-after after
 
