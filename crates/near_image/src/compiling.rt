@@ -8,6 +8,7 @@ ghost use Rattle.lin_formula.specs.SetOf.{tables, members};
 ghost use Rattle.formula_auto.specs.Step.{StaysWithin};
 ghost use Rattle.formula_auto.specs.Decides.{Decides};
 ghost use Rattle.formula_auto.specs.Compiled.{IsAccessible, IsCompilable, IsCompileError};
+ghost use Rattle.formula_auto.specs.MemoState.{KeepsEntries};
 ghost use Rattle.near_image.specs.Image.{image_tree};
 ghost use Rattle.near_image.specs.Laws.{IsCompiledOver, IsMovedSet};
 ghost use Rattle.near_image.specs.Read.{image_of, IsMovable};
@@ -47,6 +48,7 @@ pub fn compile_image_on(
     ensures within { OnOk result (StaysWithin (tree_of f.now) (members (tables meets.old.sets)) memo.old.budget) }
     ensures over { IfErr result (IsCompileError (tree_of f.now) (tables meets.old.sets) 0 memo.old.budget) }
     ensures budget { memo.new.budget ≡ memo.old.budget }
+    ensures kept { KeepsEntries memo.old memo.new }
     ensures same_sets { meets.new.sets ≡ meets.old.sets }
     ensures meets_budget { meets.new.budget ≡ meets.old.budget }
 {
@@ -68,6 +70,7 @@ fn by_moving(
     ensures made { IfOk result
         (λ some. IfSome some (IsCompiledOver (tree_of f.now) sets.now memo.old.budget)) }
     ensures budget { memo.new.budget ≡ memo.old.budget }
+    ensures kept { KeepsEntries memo.old memo.new }
 {
     let Some(image) = movable_image(alloc, f)? else {
         return Ok(None);
@@ -106,6 +109,7 @@ fn image_within(
     ensures made { IfOk result
         (IsCompiledOver (image_tree (image_of image.now)) sets.now memo.old.budget) }
     ensures budget { memo.new.budget ≡ memo.old.budget }
+    ensures kept { KeepsEntries memo.old memo.new }
 {
     image_says_what_its_part_says();
     steps_of_an_image_are_within();
