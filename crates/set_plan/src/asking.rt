@@ -2,6 +2,7 @@
 ghost use Rattle.std.specs.Prelude.{ℕ, ◌≡◌, ◌<◌, ◌≤◌, ◌^◌, List, length, map, All, IfSome};
 ghost use Rattle.track_word.specs.declared.tracks.Var.{Var};
 ghost use Rattle.lin_formula.specs.TreeOf.{tree_of};
+ghost use Rattle.formula_auto.specs.MemoState.{KeepsEntries};
 ghost use Rattle.set_plan.specs.Making.{items_over};
 ghost use Rattle.set_plan.specs.Outcome.{Answers, as_is};
 ghost use Rattle.set_plan.specs.Sets.{IsItemOn, IsSetOn, lent};
@@ -30,6 +31,7 @@ pub fn are_empty<P: Copy>(
     requires few { length formulas.now < 2 ^ 20 }
     ensures answers { Answers (plan.are_empty part 1 (items_over sets.now formulas.now)) memo.old.budget as_is result }
     ensures budget { memo.new.budget ≡ memo.old.budget }
+    ensures kept { KeepsEntries memo.old memo.new }
 {
     let mut meets = memo.meets(alloc, sets);
     let mut at = 1;

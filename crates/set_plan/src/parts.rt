@@ -5,6 +5,7 @@ ghost use Rattle.lin_formula.specs.Tree.{free_vars, steps};
 ghost use Rattle.lin_formula.specs.TreeOf.{tree_of};
 ghost use Rattle.lin_formula.specs.SetOf.{as_set};
 ghost use Rattle.formula_auto.specs.Compiled.{IsCompilable};
+ghost use Rattle.formula_auto.specs.MemoState.{KeepsEntries};
 ghost use Rattle.set_plan.specs.Making as making;
 ghost use Rattle.set_plan.specs.Making.{AnswersMade, item_over, items_over};
 ghost use Rattle.set_plan.specs.Outcome.{Answers};
@@ -41,6 +42,7 @@ pub fn make<P: Copy>(
     ensures set { IfOk result (λ made. IfSome made.set (IsSetBy (tree_of f.now))) }
     ensures room { IfOk result (λ made. made.at < at + 1000) }
     ensures budget { memo.new.budget ≡ memo.old.budget }
+    ensures kept { KeepsEntries memo.old memo.new }
 {
     if lacks_a_set(f, sets) {
         return Ok(Made { set: None, at });
@@ -74,6 +76,7 @@ pub fn make_on<P: Copy>(
     ensures set { IfOk result (λ made. IfSome made.set (IsReachedOn (free_vars (tree_of f.now)))) }
     ensures room { IfOk result (λ made. made.at < from.at + 1000) }
     ensures budget { memo.new.budget ≡ memo.old.budget }
+    ensures kept { KeepsEntries memo.old memo.new }
     ensures same_sets { meets.new.sets ≡ meets.old.sets }
     ensures meets_budget { meets.new.budget ≡ meets.old.budget }
 {
@@ -108,6 +111,7 @@ pub fn make_reached<P: Copy>(
     ensures set { IfOk result (λ made. IfSome made.set (IsReachedOn (free_vars (tree_of f.now)))) }
     ensures room { IfOk result (λ made. made.at < from.at + 1000) }
     ensures budget { memo.new.budget ≡ memo.old.budget }
+    ensures kept { KeepsEntries memo.old memo.new }
 {
     let mut meets = memo.meets(alloc, sets);
     let made = make_on(alloc, memo, &mut meets, from, f);
@@ -171,6 +175,7 @@ impl<P: Copy> Uniting<'_, P> {
         ensures set { IfOk result (λ made. IfSome made.set (IsReachedOn self.now.tracks.now)) }
         ensures room { IfOk result (λ made. made.at ≤ so_far.at + 1001) }
         ensures budget { memo.new.budget ≡ memo.old.budget }
+        ensures kept { KeepsEntries memo.old memo.new }
         ensures same_sets { meets.new.sets ≡ meets.old.sets }
         ensures meets_budget { meets.new.budget ≡ meets.old.budget }
     {
@@ -200,6 +205,7 @@ impl<P: Copy> Uniting<'_, P> {
         ensures answers { AnswersMade memo.old (making.union_of self.now meets.old.sets at formulas.now) result }
         ensures set { IfOk result (λ made. IfSome made.set (IsReachedOn self.now.tracks.now)) }
         ensures budget { memo.new.budget ≡ memo.old.budget }
+        ensures kept { KeepsEntries memo.old memo.new }
     {
         let mut made = Made { set: None, at };
         for f in formulas {
@@ -238,6 +244,7 @@ pub fn unite<P: Copy>(
     ensures answers { AnswersMade memo.old (plan.unite_from tracks.now from (items_over sets.now formulas.now)) result }
     ensures set { IfOk result (λ made. IfSome made.set (IsSetOn tracks.now)) }
     ensures budget { memo.new.budget ≡ memo.old.budget }
+    ensures kept { KeepsEntries memo.old memo.new }
 {
     let StepName { part, at } = from;
     let uniting = Uniting {

@@ -32,6 +32,7 @@ loop-f-preserved g c =
     record {
       room = omega (arith, c.in_ok-made.ensures.room, c.loop-f.invariant.room);
       budget = c.in_ok-made.ensures.budget ∙ c.loop-f.invariant.budget;
+      kept = λ place entry there. c.in_ok-made.ensures.kept place entry (c.loop-f.invariant.kept place entry there);
       sets = c.in_ok-made.ensures.same_sets ∙ c.loop-f.invariant.sets;
       meets_budget = c.in_ok-made.ensures.meets_budget ∙ c.loop-f.invariant.meets_budget;
       left =

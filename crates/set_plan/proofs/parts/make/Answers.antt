@@ -2,6 +2,7 @@ use Rattle.std.proofs.Common.{arith}
 use Rattle.lin_formula.specs.SetOf.{members, tables}
 use Rattle.lin_formula.specs.TreeOf.{tree_of}
 use Rattle.formula_auto.proofs.Rooms.{ready}
+use Rattle.formula_auto.proofs.StillKept.{keeps-after, keeps-stopped}
 use Rattle.set_plan.specs.Sets.{item_of}
 use Rattle.set_plan.proofs.Decided.{DecidesIntegers-decides, IsSetOf-decides}
 use Rattle.set_plan.proofs.FewStates.{few_states}
@@ -40,3 +41,9 @@ pub returns-in-Err-clause-answers : goal.returns-in-Err-clause-answers
 returns-in-Err-clause-answers g c =
     rw c.stopped.ensures
     (not_made c.args.part c.args.at (item_of c.args.sets.now (tree_of c.args.f.now)) c.args.memo.now.budget c.in-Err.why c.if-lacks_a_set.ensures.none c.in-Err.ensures.over)
+
+pub returns-in-Ok-clause-kept : goal.returns-in-Ok-clause-kept
+returns-in-Ok-clause-kept g c = keeps-after c.in-Ok.ensures.after
+
+pub returns-in-Err-clause-kept : goal.returns-in-Err-clause-kept
+returns-in-Err-clause-kept g c = keeps-stopped (tree_of c.args.f.now) c.in-Err.why c.in-Err.ensures.stopped

@@ -38,6 +38,7 @@ loop-f-preserved g c =
       room = omega (arith, c.in_ok-made.ensures.room, c.loop-f.invariant.room);
       set = c.in_ok-made.ensures.set;
       budget = c.in_ok-made.ensures.budget ∙ c.loop-f.invariant.budget;
+      kept = λ place entry there. c.in_ok-made.ensures.kept place entry (c.loop-f.invariant.kept place entry there);
       sets = c.in_ok-made.ensures.same_sets ∙ c.loop-f.invariant.sets;
       meets_budget = c.in_ok-made.ensures.meets_budget ∙ c.loop-f.invariant.meets_budget;
       left =
