@@ -175,4 +175,15 @@ impl TextReader {
             _ => None,
         }
     }
+
+    /// The same, in place of the reader.
+    pub fn into_whole(self) -> Option<Draft>
+        ensures some { IfSome result (λ draft. IsWhole self draft) }
+        ensures none { IfNone result (self.end ≢ Some End.Whole) }
+    {
+        match (self.end, self.stage) {
+            (Some(End::Whole), Stage::Men(draft)) => Some(draft),
+            _ => None,
+        }
+    }
 }
