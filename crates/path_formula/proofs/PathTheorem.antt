@@ -37,12 +37,12 @@ use Rattle.rule_formula.proofs.KindLemmas.{ray_is}
 use Rattle.rule_formula.proofs.LawTheorem.{no_king_taken, self_placed, square_self, squares_of}
 use Rattle.rule_formula.proofs.ListTheorem.{options_are}
 use Rattle.rule_formula.proofs.MaskLemmas.{without_is}
-use Rattle.rule_formula.proofs.MeaningLemmas.{ray_at_is, takes_is}
+use Rattle.rule_formula.proofs.MeaningLemmas.{ray_at_is, ray_placed, takes_is}
 use Rattle.rule_formula.proofs.MoveLemmas.{EachOther, IsMove, move_of, option_untaken, same_man, same_number, steps_by}
 use Rattle.rule_formula.proofs.OptionTheorem.{option_of_step}
 use Rattle.rule_formula.proofs.PlacedLemmas.{stands_placed}
 use Rattle.rule_formula.proofs.RayLemmas.{IsFair, IsSteps, IsWithin, LiesOn, all_hold-append, far, near, slide_steps_same, square_at, steps_same}
-use Rattle.rule_formula.proofs.SweptLemmas.{placed_same}
+use Rattle.rule_formula.proofs.SweptLemmas.{placed_same, value_other, value_same}
 use Rattle.path_formula.specs.declared.leg.Leg.{Leg}
 use Rattle.path_formula.specs.Places.{home, place, square_or, step_x, step_y}
 use Rattle.path_formula.specs.Paths.{GoesBy, Plays, after, bear_after, dangers_at, first_part, further_parts, leg_of, legs_at, legs_of, mask_at, options_at, threats_at, turn_at}
@@ -50,7 +50,6 @@ use Rattle.path_formula.specs.Rules.{capture_parts, clear_parts}
 use Rattle.path_formula.specs.Laws.{BearsMeanCheck, LegalIsByOption, PartsMeanLegal}
 use Rattle.path_formula.proofs.BearFormulas.{bear_sees}
 use Rattle.path_formula.proofs.MoveFormulas.{IsDistance, capture_holds, clear_holds_all, distance_from, distance_to, move_from_parts, place_moves, place_stays}
-use Rattle.path_formula.proofs.PlaceLemmas.{value_other, value_same}
 
 -- positions with the same live men
 men_live : (n : ℕ) (stock : List Man) (live other_live : ℕ → Bool) (f : ℕ → Square) → ((k : ℕ) → n ≤ k → live k ≡ other_live k)
@@ -65,13 +64,6 @@ placed_live : (stock : List Man) (live other_live : ℕ → Bool) (turn : Side) 
 placed_live stock live other_live turn f h = ap (λ xs. record { men = xs; turn = turn }) (men_live 1 stock live other_live f (λ k low. h k (omega arith)))
 
 -- a man of the position has the rays of the man of the stock
-ray_same : (stock : List Man) (live : ℕ → Bool) (turn : Side) (f : ℕ → Square) (k n : ℕ) (m q : Man) (r y : Ray) → stock_man stock k ≡ Some m
-    → man_at (placed stock live turn f) k ≡ Some q → ray_of m.kind m.side n ≡ Some r → ray_of q.kind q.side n ≡ Some y → y ≡ r
-ray_same stock live turn f k n m q r y is at ray his =
-    let same : q ≡ man_placed live f k m = same_man stock live turn f k m q is at in
-    let there : ray_of q.kind q.side n ≡ Some r = subst (λ (a : Man). ray_of a.kind a.side n ≡ Some r) (sym same) ray in
-    let both : Some y ≡ Some r = sym his ∙ there in cc
-
 ray_there : (stock : List Man) (live : ℕ → Bool) (turn : Side) (f : ℕ → Square) (k n : ℕ) (m q : Man) (r : Ray) → stock_man stock k ≡ Some m
     → man_at (placed stock live turn f) k ≡ Some q → ray_of m.kind m.side n ≡ Some r → ray_of q.kind q.side n ≡ Some r
 ray_there stock live turn f k n m q r is at ray =
@@ -209,7 +201,7 @@ bear_means p s e v few side b is =
             bears = bears;
           },
       λ h.
-          let ray = ray_same p.men (is_live (mask_at p s)) (turn_at p s) f b.man b.ray w.man h.man (ray_at p.men b.man b.ray) h.ray bearing.is_man h.is_man bearing.ray h.is_ray in
+          let ray = ray_placed p.men (is_live (mask_at p s)) (turn_at p s) f b.man b.ray w.man h.man (ray_at p.men b.man b.ray) h.ray bearing.is_man h.is_man bearing.ray h.is_ray in
           sees.1 (sees_of (turn_at p s) bearing f (subst (λ r. BearsAlong r b.man b.king (after p s v)) ray h.bears)),
     )
 
@@ -351,7 +343,7 @@ module _ (p : Position) (sound : Sound p) (s : List Opt) (o : Opt) (e : ℕ → 
       let d : ℕ = goes.steps in
       let takes : TakesOption o q r = goes_takes goes in
       let steps : StepsBy o.man leg.ray o.taken q r = (takes_is p.men live (turn_at p s) f o c.man leg.ray r c.option.is_man c.option.ray).1 takes in
-      let ray : goes.ray ≡ leg.ray = ray_same p.men live (turn_at p s) f o.man o.ray c.man goes.man leg.ray goes.ray c.option.is_man goes.is_man c.option.ray goes.is_ray in
+      let ray : goes.ray ≡ leg.ray = ray_placed p.men live (turn_at p s) f o.man o.ray c.man goes.man leg.ray goes.ray c.option.is_man goes.is_man c.option.ray goes.is_ray in
       let later : placed p.men (without live o.taken) (turn_at p (o ∷ s)) g ≡ r = ap (λ side. placed p.men (without live o.taken) (other side) g) (sym c.his) ∙ c.later in
       let ends = ends_of c.option (turn_at p s) (turn_at p (o ∷ s)) f g goes.man goes.from goes.to goes.is_man goes.stands
       (subst (IsAfter q o.man goes.to) (sym later) goes.legal.step.after) in
@@ -406,7 +398,7 @@ legal_is_by_option p s v i z r sound plays legal =
     let kept : (j : ℕ) → j < n → v j ≡ u j = λ j less. sym (value_other v (var n) (pos d) j (omega arith)) in
     let count = legs-length p.men s in
     let same_place : (k : ℕ) → f k ≡ place first legs u k = place_kept first legs v u (λ j less. kept j (omega (arith, count, less))) in
-    let own : u (length legs) ≡ pos d = ap u count ∙ value_same v (var n) (pos d) in
+    let own : u (length legs) ≡ pos d = ap u count ∙ value_same v (var n) (pos d) n refl in
     let apart : IsApart before = subst IsApart (sym c.before) h.sound.apart in
     let is : steps.man ≡ man_placed live f o.man c.man = same_man p.men live c.man.side f o.man c.man steps.man c.option.is_man steps.is_man in
     let from : f o.man ≡ steps.from = (stands_placed (live o.man) (f o.man) steps.from (subst (λ a. StandsOn a steps.from) is steps.stands)).1 in

@@ -11,17 +11,12 @@ use Rattle.track_word.specs.declared.atoms.Rel.{Rel}
 use Rattle.auto_core.proofs.Products.{mul-add}
 use Rattle.lin_formula.specs.Holds.{Holds, Sets, with_value}
 use Rattle.rule_formula.specs.Seats.{var}
+use Rattle.rule_formula.proofs.SweptLemmas.{value_other, value_same}
 use Rattle.path_formula.specs.declared.gap.Gap.{Gap}
 use Rattle.path_formula.specs.declared.leg.Leg.{Leg}
 use Rattle.path_formula.specs.Atoms.{constant, gap_tree, held, sum_tree, terms, weight, weighed, with_term}
 use Rattle.path_formula.specs.Places.{place, step_x, step_y}
 use Rattle.path_formula.proofs.Numbers.{weighed-step}
-
-pub value_other : (v : Values) (x : Var) (n : ℤ) (y : ℕ) → y ≢ x.0 → with_value v x n y ≡ v y
-value_other v x n y ne = grind (arith, nat_tests)
-
-pub value_same : (v : Values) (x : Var) (n : ℤ) → with_value v x n x.0 ≡ n
-value_same v x n = grind (arith, nat_tests)
 
 -- a term more, if its coefficient is not 0
 with_term-sum : (w : ℤ) (x : Var) (ts : List (ℤ × Var)) (v : Values) → sum_of (with_term w x ts) v ≡ (w *ℤ v x.0) +ℤ sum_of ts v
@@ -84,7 +79,7 @@ sum_holds c ts rel bound e v below =
     in (
       λ h. subst At (whole h.0 h.1.0) h.1.1,
       λ h.
-          let is : with_value v held c 16 ≡ c = value_same v held c in
+          let is : with_value v held c 16 ≡ c = value_same v held c 16 refl in
           (c, (is, subst At (sym (whole c is)) h)),
     )
 

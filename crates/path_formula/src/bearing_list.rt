@@ -3,12 +3,11 @@
 ghost use Rattle.std.specs.Prelude.{◌≡◌, ◌≤◌, ◌++◌, IfOk, OnOk, Some, length};
 ghost use Rattle.rule_formula.specs.Bearings.{along_rays, bearings_of, is_king_man, king_number as number_of_king, king_to, man_bearings};
 
-use crate::choices::{is_king, is_side, serves_captures};
 use crate::men::{is_live, man_of};
 use crate::scene::Force;
 use chess_game::{MOST_CROWD, ray_count};
 use game_rules::{Kind, Man, Side};
-use rule_formula::Bearing;
+use rule_formula::{Bearing, is_king, is_side, serves_captures};
 use std::alloc::{AllocError, Global};
 
 /// The ways in which men may bear.

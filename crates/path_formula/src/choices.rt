@@ -1,52 +1,19 @@
 //! The options of a side in a mask.
 
 ghost use Rattle.std.specs.Prelude.{◌≡◌, ◌↔◌, ◌≤◌, ◌++◌, Contains, IfOk, OnOk, length};
-ghost use Rattle.game_rules.specs.Rays.{serves_captures as captures, serves_moves as moves};
 ghost use Rattle.rule_formula.specs.declared.opt.Opt.{Opt};
 ghost use Rattle.rule_formula.specs.Meaning.{IsOptionOfSide};
-ghost use Rattle.rule_formula.specs.Options.{captures_of, his_options, is_king as king_of, is_prey as prey_of, is_side as side_of, options_of, ray_options, rays_to};
+ghost use Rattle.rule_formula.specs.Options.{captures_of, his_options, is_prey as prey_of, options_of, ray_options, rays_to};
 
 use crate::men::{is_live, man_of};
 use crate::scene::Force;
 use chess_game::{MOST_CROWD, ray_count};
-use game_rules::{Kind, Man, Side};
-use rule_formula::Opt;
+use game_rules::{Kind, Man};
+use rule_formula::{Opt, is_king, is_side, serves_captures, serves_moves};
 use std::alloc::{AllocError, Global};
 
 /// The ways in which men may go.
 type Opts = Vec<Opt>;
-
-pub(crate) fn is_side(his: Side, side: Side) -> bool
-    ensures { result ≡ side_of his side }
-{
-    his == side
-}
-
-pub(crate) fn is_king(kind: Kind) -> bool
-    ensures { result ≡ king_of kind }
-{
-    kind == Kind::King
-}
-
-/// Whether the ray serves moves onto an empty square.
-fn serves_moves(kind: Kind, number: u8) -> bool
-    ensures { result ≡ moves kind number }
-{
-    match kind {
-        Kind::Pawn => number == 0,
-        _ => true,
-    }
-}
-
-/// Whether the ray serves captures.
-pub(crate) fn serves_captures(kind: Kind, number: u8) -> bool
-    ensures { result ≡ captures kind number }
-{
-    match kind {
-        Kind::Pawn => number != 0,
-        _ => true,
-    }
-}
 
 /// Whether the man of this number is a live enemy other than the king.
 fn is_prey(men: &[Man], force: Force, number: u8) -> bool
