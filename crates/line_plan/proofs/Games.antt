@@ -1,5 +1,5 @@
 -- One move more: what the winner, and the loser, can do after a path.
-use Rattle.std.proofs.Common.{◌≡◌, ◌↔◌, ◌⊎◌, ℕ, zero, suc, ◌<◌, Bool, true, false, not, List, ◌∷◌, length, ℤ, inl, inr, refl, sym, ap, ◌∙◌, subst, arith}
+use Rattle.std.proofs.Common.{◌≡◌, ◌↔◌, ◌⊎◌, ℕ, zero, suc, ◌<◌, Bool, false, not, List, ◌∷◌, length, ℤ, inl, inr, refl, sym, ap, ◌∙◌, subst, arith}
 use Rattle.std.specs.Prelude.{Contains}
 use Rattle.game_rules.specs.Game.{HasMove, InCheck, Legal, Lost, Position, Sound, Value, Win, other}
 use Rattle.game_rules.specs.declared.men.Side.{Side}
@@ -12,9 +12,9 @@ use Rattle.lin_formula.specs.Holds.{with_value}
 use Rattle.rule_formula.specs.declared.opt.Opt.{Opt}
 use Rattle.rule_formula.specs.Options.{is_side}
 use Rattle.rule_formula.specs.Seats.{var}
+use Rattle.rule_formula.proofs.SweptLemmas.{value_other, value_same}
 use Rattle.path_formula.specs.Paths.{GoesBy, Plays, after, options_at, turn_at}
 use Rattle.path_formula.proofs.PathTheorem.{after_kept, legal_is_by_option, played, plays_kept}
-use Rattle.path_formula.proofs.PlaceLemmas.{value_other, value_same}
 
 -- the values with a distance for the next move
 abbrev pub next_value : List Opt → Values → ℤ → Values
@@ -55,7 +55,7 @@ module _ (p : Position) (winner : Side) (sound : Sound p) (s : List Opt) (v : Va
   made i z r legal =
       let (o, t, listed, is, goes) = legal_is_by_option p s v i z r sound plays legal in
       let u : Values = next_value s v t in
-      let own : t ≡ u (length s) = sym (value_same v (var (length s)) t) in
+      let own : t ≡ u (length s) = sym (value_same v (var (length s)) t (length s) refl) in
       record {
         option = o;
         distance = t;
@@ -139,12 +139,6 @@ module _ (p : Position) (winner : Side) (sound : Sound p) (s : List Opt) (v : Va
   none_left turn (inr lost) = other_differs winner (sym turn ∙ lost.0)
 
 -- whose turn it is
-pub is_his : (a b : Side) → is_side a b ≡ true → a ≡ b
-is_his White White e = refl
-is_his White Black e = absurd (cc)
-is_his Black White e = absurd (cc)
-is_his Black Black e = refl
-
 pub is_others : (a b : Side) → is_side a b ≡ false → a ≡ other b
 is_others White White e = absurd (cc)
 is_others White Black e = refl

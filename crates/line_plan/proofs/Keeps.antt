@@ -10,6 +10,7 @@ use Rattle.lin_formula.specs.Tree.{Among, Not, Or}
 use Rattle.rule_formula.specs.declared.opt.Bearing.{Bearing}
 use Rattle.rule_formula.specs.declared.opt.Opt.{Opt}
 use Rattle.rule_formula.specs.Options.{is_side}
+use Rattle.rule_formula.proofs.ListTheorem.{side_is}
 use Rattle.path_formula.specs.Paths.{Plays, after, bear_after, options_at, threats_at, turn_at}
 use Rattle.path_formula.proofs.PathTheorem.{at_home, bears_mean_check}
 use Rattle.set_plan.specs.Program.{Program, Entry, Item, Takes, Give, Ask, Empty, Within, Has, Question, IsYes, each, bind}
@@ -18,7 +19,7 @@ use Rattle.set_plan.proofs.Composition.{Takes-split, none_some}
 use Rattle.set_plan.proofs.Takings.{Takes-give, contains_cases, contains_head, contains_rest}
 use Rattle.line_plan.specs.Plan.{Found, Losing, distances, is_known, kept, kept_by, known_of, lose, lose_option, lost_by, narrowed, no_distance, plies, reach, shorten_rest, shortened, shortened_rest, win, win_option, won_by}
 use Rattle.line_plan.specs.Laws.{IsKept, IsLine, IsSetWhere, KeptIsWon, PlanDecides}
-use Rattle.line_plan.proofs.Games.{SomeMove, before_plays, is_his, is_others, loser_moves, next_value, none_left, turned, winner_moves}
+use Rattle.line_plan.proofs.Games.{SomeMove, before_plays, is_others, loser_moves, next_value, none_left, turned, winner_moves}
 use Rattle.formula_auto.proofs.NoSets.{Holds-no_set}
 use Rattle.line_plan.proofs.PartFacts.{bear_is_part}
 use Rattle.line_plan.proofs.Reaches.{reach_is_legal}
@@ -426,7 +427,7 @@ module _ (p : Position) (winner : Side) (sound : Sound p) where
       let none : moves ≡ 0 = omega (arith, count) in
       where_map (nothing_where (length s)) (λ v. (
         λ h. absurd h,
-        λ h. none_left p winner sound s v h.0 (is_his (turn_at p s) winner e) (subst (λ k. Value winner k (after p s v)) none h.1),
+        λ h. none_left p winner sound s v h.0 (side_is (turn_at p s) winner e) (subst (λ k. Value winner k (after p s v)) none h.1),
       ))
   kept_none false moves s e count = absurd (omega (arith, count))
 
@@ -439,7 +440,7 @@ module _ (p : Position) (winner : Side) (sound : Sound p) where
       win_kept p winner sound s (omega (arith, few)) next.0 line (kept p winner left) moves
       (λ o more ys f listed legal u k.
       law moves (o ∷ s) more ys f (omega (arith, few)) (let w = his_plies (turn_at p (o ∷ s)) moves false (turned (turn_at p s) winner true e) in omega (arith, w, count)) legal u k)
-      (is_his (turn_at p s) winner e) next.1 xs found t known
+      (side_is (turn_at p s) winner e) next.1 xs found t known
   kept_more left law false moves s next xs found few e count line t known =
       lose_kept p winner sound s (omega (arith, few)) next.0 line (kept p winner left) moves
       (λ o more ys f listed legal u k.

@@ -1,5 +1,5 @@
 -- What sets of distances are made of items.
-use Rattle.std.proofs.Common.{◌≡◌, ◌≢◌, ◌↔◌, ◌⊎◌, ℕ, zero, suc, ◌+◌, ◌<◌, ◌≤◌, List, [], ◌∷◌, map, Some, ℤ, inl, inr, refl, sym, ap, ◌∙◌, subst, arith}
+use Rattle.std.proofs.Common.{◌≡◌, ◌≢◌, ◌↔◌, ◌⊎◌, ℕ, zero, suc, ◌+◌, ◌<◌, ◌≤◌, List, [], map, Some, inl, inr, refl, sym, ap, ◌∙◌, subst, arith}
 use Rattle.std.specs.List.{All, AllPairs}
 use Rattle.std.proofs.lemmas.List.Elements.{All-cons, All-nil}
 use Rattle.std.proofs.lemmas.List.Kept.{AllPairs-cons}
@@ -13,6 +13,7 @@ use Rattle.lin_formula.proofs.Coincide.{coincide}
 use Rattle.lin_formula.proofs.FreeVars.{free_vars-ascend, free_vars-free}
 use Rattle.formula_auto.proofs.Variables.{same-ascending}
 use Rattle.rule_formula.specs.Seats.{var}
+use Rattle.rule_formula.proofs.FitLemmas.{values_same}
 use Rattle.set_plan.specs.Program.{Entry, Item, IsSetOf, Takes}
 use Rattle.set_plan.specs.Unite.{Made, join, make, with_item}
 use Rattle.set_plan.proofs.Composition.{Takes-split}
@@ -111,23 +112,10 @@ free_known n = free_is n (Or (Among 0 (distances n)) (Not (Among 0 (distances n)
 pub free_difference : (n : ℕ) → free_vars (And (Among 0 (distances n)) (Not (Among 1 (distances n)))) ≡ distances n
 free_difference n = free_is n (And (Among 0 (distances n)) (Not (Among 1 (distances n)))) (both_free n) (λ x less. inl ((in_distances n x).1 less))
 
-same_there : (xs : List Var) (v w : Values) → values_at xs v ≡ values_at xs w → (x : Var) → IsOneOf x xs → v x.0 ≡ w x.0
-same_there [] v w e x h = absurd h
-same_there (y ∷ ys) v w e x (inl same) =
-    let here : v y.0 ≡ w y.0 = head_same (v y.0) (w y.0) (values_at ys v) (values_at ys w) e in
-    ap (λ (z : Var). v z.0) same ∙ here ∙ ap (λ (z : Var). w z.0) (sym same)
-  where
-    head_same : (a b : ℤ) (xs zs : List ℤ) → a ∷ xs ≡ b ∷ zs → a ≡ b
-    head_same a b xs zs e = cc
-same_there (y ∷ ys) v w e x (inr there) = same_there ys v w (tail_same (v y.0) (w y.0) (values_at ys v) (values_at ys w) e) x there
-  where
-    tail_same : (a b : ℤ) (xs zs : List ℤ) → a ∷ xs ≡ b ∷ zs → xs ≡ zs
-    tail_same a b xs zs e = cc
-
 -- the tuple of some values is one at which the formula holds exactly where it holds of them
 pub where_values : (f : Tree) (e : ℕ → SetOf) (v : Values) → Member (Where f e) (values_at (free_vars f) v) ↔ Holds f (members e) v
 where_values f e v = (
-  λ h. coincide f (members e) h.values v (λ x free. same_there (free_vars f) h.values v h.is_tuple x ((free_vars-free f x).1 free)) h.holds,
+  λ h. coincide f (members e) h.values v (λ x free. values_same (free_vars f) h.values v h.is_tuple x ((free_vars-free f x).1 free)) h.holds,
   λ h. record { values = v; is_tuple = refl; holds = h },
 )
 
