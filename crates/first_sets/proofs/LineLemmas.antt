@@ -23,9 +23,9 @@ use Rattle.rule_formula.proofs.LawTheorem.{square_stands, squares_of}
 use Rattle.rule_formula.proofs.MoveLemmas.{kept_live, same_number, was_live}
 use Rattle.rule_formula.proofs.PointTheorem.{from_square}
 use Rattle.rule_formula.proofs.RayLemmas.{square_at}
-use Rattle.rule_formula.proofs.SweptLemmas.{placed_same}
+use Rattle.rule_formula.proofs.SweptLemmas.{placed_same, value_other, value_same}
 use Rattle.first_sets.specs.RayFormula.{gone_along, from_x, from_y, line, or_lines, others_standing, standing, t_var, way_atoms, with_term}
-use Rattle.first_sets.proofs.ValueLemmas.{others_other, others_same, own_apart, square_same, value_other, value_same, with_option, with_others}
+use Rattle.first_sets.proofs.ValueLemmas.{others_other, others_same, own_apart, square_same, with_option, with_others}
 
 -- a man on a square
 standing_holds : (k : ℕ) (o : Option Square) (f : Tree) (e : Sets) (v : Values) → 0 < k

@@ -4,11 +4,9 @@ use Rattle.std.specs.Prelude.{if◌then◌else◌, slice_get}
 use Rattle.std.specs.List.{All}
 use Rattle.std.proofs.lemmas.List.Elements.{All-append, All-cons, All-nil}
 use Rattle.game_rules.specs.Game.{Position, Sound, other}
-use Rattle.game_rules.specs.declared.men.Kind.{Kind}
-use Rattle.game_rules.specs.declared.men.Kind.TheVariants.{King, Queen, Rook, Bishop, Knight, Pawn, Chancellor, Archbishop, Amazon, Nightrider}
+use Rattle.game_rules.specs.declared.men.Kind.TheVariants.{King}
 use Rattle.game_rules.specs.declared.men.Man.{Man}
 use Rattle.game_rules.specs.declared.men.Side.{Side}
-use Rattle.game_rules.specs.declared.men.Side.TheVariants.{White, Black}
 use Rattle.mask_sets.specs.Stock.{mask_of, stock_man}
 use Rattle.mask_sets.proofs.Men.{stock_man-men}
 use Rattle.rule_formula.specs.Fits.{IsGameMask, mask_without}
@@ -18,13 +16,10 @@ use Rattle.rule_formula.specs.Placed.{is_live, without}
 use Rattle.rule_formula.proofs.BearLemmas.{stock_number}
 use Rattle.rule_formula.proofs.ChainLemmas.{last_or_before}
 use Rattle.rule_formula.proofs.GameTheorem.{fits_mask, sound_fits}
-use Rattle.rule_formula.proofs.ListTheorem.{both_true, true_both}
+use Rattle.rule_formula.proofs.ListTheorem.{both_true, is_enemy, no_king, not_king, true_both}
 use Rattle.rule_formula.proofs.MaskLemmas.{without_is, without_less}
 use Rattle.rule_formula.proofs.MoveLemmas.{kept_live, was_live}
 use Rattle.first_sets.specs.RayFormula.{capture_masks, capture_masks_to, masks_after}
-
-not_king : (k : Kind) → not (is_king k) ≡ true → k ≢ King
-not_king k h e = let no : not (is_king King) ≡ true = subst (λ n. not (is_king n) ≡ true) e h in cc
 
 -- who can be captured is live, and no king
 module _ (p : Position) (t : ℕ) (prey : is_prey p.men (mask_of p) p.turn t ≡ true) where
@@ -34,7 +29,7 @@ module _ (p : Position) (t : ℕ) (prey : is_prey p.men (mask_of p) p.turn t ≡
   prey_piece : (m : Man) → stock_man p.men t ≡ Some m → m.kind ≢ King
   prey_piece m is =
       let man : is_prey_man p.turn (Some m) ≡ true = subst (λ o. is_prey_man p.turn o ≡ true) is (both_true (is_live (mask_of p) t) (is_prey_man p.turn (stock_man p.men t)) prey).1 in
-      not_king m.kind (both_true (not (is_side m.side p.turn)) (not (is_king m.kind)) man).1
+      no_king m.kind (both_true (not (is_side m.side p.turn)) (not (is_king m.kind)) man).1
 
   -- the mask without him is of the game
   capture_game : Sound p → IsGameMask p (mask_without (mask_of p) t)
@@ -106,31 +101,13 @@ captured p t (suc n) high low prey =
           (last_if last b (capture_masks_to p n) (subst (λ j. is_prey p.men (mask_of p) p.turn j ≡ true) e prey))
     ]
 
-enemy : (s t : Side) → s ≡ other t → not (is_side s t) ≡ true
-enemy White White e = absurd (cc)
-enemy White Black e = refl
-enemy Black White e = refl
-enemy Black Black e = absurd (cc)
-
-no_king : (k : Kind) → k ≢ King → not (is_king k) ≡ true
-no_king King h = absurd (h refl)
-no_king Queen h = refl
-no_king Rook h = refl
-no_king Bishop h = refl
-no_king Knight h = refl
-no_king Pawn h = refl
-no_king Chancellor h = refl
-no_king Archbishop h = refl
-no_king Amazon h = refl
-no_king Nightrider h = refl
-
 -- the mask after the capture of some prey, or of nobody, is one of them
 pub after_prey : (p : Position) (side : Side) (t : ℕ) → side ≡ p.turn → IsPrey p.men (mask_of p) side t
     → (j : ℕ) × (slice_get (masks_after p) j ≡ Some (mask_without (mask_of p) t))
 after_prey p side zero is prey = (zero, refl)
 after_prey p side (suc t) is (m, man, live, his, piece) =
     let so : is_prey_man p.turn (Some m) ≡ true =
-    true_both (not (is_side m.side p.turn)) (not (is_king m.kind)) (enemy m.side p.turn (his ∙ ap other is)) (no_king m.kind piece) in
+    true_both (not (is_side m.side p.turn)) (not (is_king m.kind)) (is_enemy m.side p.turn (his ∙ ap other is)) (not_king m.kind piece) in
     let prey : is_prey p.men (mask_of p) p.turn (suc t) ≡ true =
     true_both (is_live (mask_of p) (suc t)) (is_prey_man p.turn (stock_man p.men (suc t))) live (subst (λ o. is_prey_man p.turn o ≡ true) (sym man) so) in
     let within = (stock_number p.men (suc t) m man).high in

@@ -1,11 +1,9 @@
 -- Values with some of them changed.
-use Rattle.std.proofs.Common.{◌≡◌, ◌≢◌, ℕ, zero, suc, ◌<◌, ◌≤◌, ℤ, true, false, Option, Some, None, inl, inr, refl, sym, ap, subst, ◌∙◌, arith}
+use Rattle.std.proofs.Common.{◌≡◌, ◌≢◌, ℕ, zero, suc, ◌<◌, ◌≤◌, true, false, Option, Some, None, inl, inr, refl, sym, ap, subst, ◌∙◌, arith}
 use Rattle.std.specs.Prelude.{if◌then◌else◌}
-use Rattle.std.proofs.lemmas.Bool.Decides.{nat_tests}
 use Rattle.game_rules.specs.Game.{Position, man_at}
 use Rattle.game_rules.specs.declared.men.Square.{Square}
 use Rattle.game_laws.proofs.RayLemmas.{true_or_not}
-use Rattle.track_word.specs.declared.tracks.Var.{Var}
 use Rattle.track_word.specs.Tracks.{Values}
 use Rattle.lin_formula.specs.Holds.{with_value}
 use Rattle.rule_formula.specs.Placed.{is_live, without}
@@ -13,12 +11,7 @@ use Rattle.rule_formula.specs.Seats.{own, squares}
 use Rattle.rule_formula.specs.Trees.{man_square}
 use Rattle.rule_formula.proofs.ChainLemmas.{last_or_before}
 use Rattle.rule_formula.proofs.RayLemmas.{square_at}
-
-pub value_other : (v : Values) (x : Var) (n : ℤ) (y : ℕ) → y ≢ x.0 → with_value v x n y ≡ v y
-value_other v x n y ne = grind (arith, nat_tests)
-
-pub value_same : (v : Values) (x : Var) (n : ℤ) (y : ℕ) → y ≡ x.0 → with_value v x n y ≡ n
-value_same v x n y e = grind (arith, nat_tests)
+use Rattle.rule_formula.proofs.SweptLemmas.{value_other, value_same}
 
 pub own_apart : (k : ℕ) → 0 < k → (own k).x.0 ≢ (own k).y.0
 own_apart k low e = omega (arith, low, e)

@@ -2,12 +2,12 @@
 ghost use Rattle.std.specs.Prelude.{◌≡◌, ◌≤◌, ◌++◌, ◌∷◌, [], if◌then◌else◌, IfOk, OnOk, length};
 ghost use Rattle.mask_sets.specs.Stock.{mask_of};
 ghost use Rattle.rule_formula.specs.Fits.{mask_without};
-ghost use Rattle.rule_formula.specs.Options.{is_king as king_of, is_prey as prey_of, is_side as side_of};
+ghost use Rattle.rule_formula.specs.Options.{is_prey as prey_of};
 ghost use Rattle.rule_formula.specs.Placed.{IsLiveIn, is_live as live_in};
 ghost use Rattle.first_sets.specs.RayFormula.{masks_after as all_masks};
 
-use chess_game::{Kind, Position, Side};
-use rule_formula::Opt;
+use chess_game::Position;
+use rule_formula::{Opt, is_king, is_side};
 use std::alloc::{AllocError, Global};
 
 /// Whether man k is in the mask.
@@ -24,18 +24,6 @@ fn live_mask(p: &Position) -> u8
     ensures { result ≡ mask_of p.now }
 {
     p.mask()
-}
-
-fn is_side(his: Side, side: Side) -> bool
-    ensures { result ≡ side_of his side }
-{
-    his == side
-}
-
-fn is_king(kind: Kind) -> bool
-    ensures { result ≡ king_of kind }
-{
-    matches!(kind, Kind::King)
 }
 
 /// Whether man k is a live man of the side that is not to move, and not its king.
