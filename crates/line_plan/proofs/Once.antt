@@ -21,10 +21,11 @@ use Rattle.set_plan.proofs.Unique.{Ends-not_stops, Ends-one, Stops-one}
 use Rattle.line_plan.specs.Plan.{Found, Losing, distances, is_known, kept, kept_by, known_of, lose_option, lost_by, narrow, narrowed, no_distance, plan, plies, reach, shorten_rest, shortened, shortened_rest, verdict, win_option, won_by}
 use Rattle.line_plan.specs.Laws.{PlanEndsOnce}
 
-record SameFound (f g : Found) : Type 0 where
-  sets : SameSets f.set g.set
-  at : f.at ≡ g.at
-  known : f.known ≡ g.known
+-- the same set, the same number, and both are known or neither
+pub record SameFound (f g : Found) : Type 0 where
+  pub sets : SameSets f.set g.set
+  pub at : f.at ≡ g.at
+  pub known : f.known ≡ g.known
 
 record SameLosing (f g : Losing) : Type 0 where
   escape : SameSets f.escape g.escape
@@ -189,7 +190,8 @@ module _ (p : Position) (winner : Side) where
         (left_alike c d f.escape g.escape all lost.escape)
         (λ x y left. record { sets = left.sets; at = left.at; known = lost.known }))))
 
-  kept_alike : (left : ℕ) (s : List Opt) (a b : Made) → SameMade a b → Alike SameFound (kept p winner left s a) (kept p winner left s b)
+  -- from sets of the same tuples the same is kept
+  pub kept_alike : (left : ℕ) (s : List Opt) (a b : Made) → SameMade a b → Alike SameFound (kept p winner left s a) (kept p winner left s b)
   kept_alike zero s a b same = record { sets = SameSets-self Nothing; at = same.at; known = refl }
   kept_alike (suc left) s a b same = by_alike (kept p winner left) (kept_alike left) s a.0 b.0 same.sets (is_side (turn_at p s) winner) a.1 b.1 same.at
 
