@@ -17,15 +17,15 @@ pub keeps-after : {old new : MemoState} {fs : List Tree} → IsMemoAfter old new
 keeps-after {old} {new} after = λ place entry there.
     subst (λ entries. slice_get entries place ≡ Some entry) (sym after.entries) (get-append old.entries after.added place entry there)
 
-pub keeps-stopped : (f : Tree) {old new : MemoState} (why : CompileError) → IsMemoStopped old new f why → KeepsEntries old new
-keeps-stopped f (Over step) after = keeps-after after
-keeps-stopped f Memory (done, after) = keeps-after after
+pub keeps-stopped : (f : Tree) (old new : MemoState) (why : CompileError) → IsMemoStopped old new f why → KeepsEntries old new
+keeps-stopped f old new (Over step) after = keeps-after after
+keeps-stopped f old new Memory (done, after) = keeps-after after
 
 -- whatever compiling a formula answers
-pub keeps-compiled : (f : Tree) {old new : MemoState} (r : Result Automaton CompileError) → OnOk r (IsMemoAfter old new (plain_parts f))
+pub keeps-compiled : (f : Tree) (old new : MemoState) (r : Result Automaton CompileError) → OnOk r (IsMemoAfter old new (plain_parts f))
     → IfErr r (IsMemoStopped old new f) → KeepsEntries old new
-keeps-compiled f (Ok a) after stopped = keeps-after after
-keeps-compiled f (Err why) after stopped = keeps-stopped f why stopped
+keeps-compiled f old new (Ok a) after stopped = keeps-after after
+keeps-compiled f old new (Err why) after stopped = keeps-stopped f old new why stopped
 
 same_state : {m n : MemoState} → n.budget ≡ m.budget → n.entries ≡ m.entries → n.found ≡ m.found → n ≡ m
 same_state {m} {n} budget entries found =

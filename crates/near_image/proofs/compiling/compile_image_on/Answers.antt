@@ -10,5 +10,5 @@ returns-in-Some-clause-integers c =
 
 pub returns-in-None-clause-kept : goal.returns-in-None-clause-kept
 returns-in-None-clause-kept c = λ place entry there.
-    keeps-compiled (tree_of c.args.f.now) c.compile_on.result c.compile_on.ensures.after c.compile_on.ensures.stopped place entry
+    keeps-compiled (tree_of c.args.f.now) _ _ c.compile_on.result c.compile_on.ensures.after c.compile_on.ensures.stopped place entry
     (c.in_ok-auto.ensures.kept place entry there)

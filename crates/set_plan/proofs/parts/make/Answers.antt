@@ -46,4 +46,4 @@ pub returns-in-Ok-clause-kept : goal.returns-in-Ok-clause-kept
 returns-in-Ok-clause-kept g c = keeps-after c.in-Ok.ensures.after
 
 pub returns-in-Err-clause-kept : goal.returns-in-Err-clause-kept
-returns-in-Err-clause-kept g c = keeps-stopped (tree_of c.args.f.now) c.in-Err.why c.in-Err.ensures.stopped
+returns-in-Err-clause-kept g c = keeps-stopped (tree_of c.args.f.now) _ _ c.in-Err.why c.in-Err.ensures.stopped
