@@ -20,3 +20,16 @@ returns-in-describe-clause-ordered c =
         ),
       ),
     )
+
+pub returns-in_default-clause-ordered : goal.returns-in_default-clause-ordered
+returns-in_default-clause-ordered c =
+    inr (
+      search rules,
+      inr (
+        search rules,
+        inr (
+          search rules,
+          inr (search rules, inr (search rules, inr (search rules, inr (search rules, inr (search rules, c.textless_order_named.ensures.ordered))))),
+        ),
+      ),
+    )
