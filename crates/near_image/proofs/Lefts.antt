@@ -25,7 +25,7 @@ use Rattle.formula_auto.proofs.Exceedings.{Exceeds-connect}
 use Rattle.formula_auto.proofs.Parts.{Decides-AndNot}
 use Rattle.near_image.specs.Laws.{IsMovedBy, negated}
 use Rattle.near_image.specs.Read.{trees}
-use Rattle.near_image.specs.LeftOut.{IsDifference, IsLeftOf, AreLeftOf}
+use Rattle.near_image.specs.LeftOut.{IsDifference, IsLeftOf, AreLeftByTurns}
 use Rattle.near_image.specs.declared.shift.Shift.{Shift}
 use Rattle.formula_auto.proofs.Variables.{same-ascending}
 
@@ -57,13 +57,13 @@ moved-more shifts i d a {m} {next} within rest moved b h =
 
 -- one formula more
 pub left-more : {e : ℕ → SetOf} {budget each : ℕ} (gs : List Tree) (i : ℕ) {g : Tree} (a : Automaton) {m next : Automaton} → i < length gs
-    → get_or gs i g ≡ g → ((b : Automaton) → AreLeftOf e budget each (drop i gs) m b → AreLeftOf e budget each gs a b)
+    → get_or gs i g ≡ g → ((b : Automaton) → AreLeftByTurns e budget each (drop i gs) m b → AreLeftByTurns e budget each gs a b)
     → IsLeftOf e budget each g m next
-    → (b : Automaton) → AreLeftOf e budget each (drop (i + 1) gs) next b → AreLeftOf e budget each gs a b
+    → (b : Automaton) → AreLeftByTurns e budget each (drop (i + 1) gs) next b → AreLeftByTurns e budget each gs a b
 left-more {e} {budget} {each} gs i {g} a {m} {next} within is rest left b h =
-    let from : AreLeftOf e budget each (g ∷ drop (i + 1) gs) m b = (next, left, h) in
+    let from : AreLeftByTurns e budget each (g ∷ drop (i + 1) gs) m b = (next, left, h) in
     let here = ap (λ h. h ∷ drop (i + 1) gs) (sym is) ∙ drop-here gs i g within in
-    rest b (subst (λ l. AreLeftOf e budget each l m b) here from)
+    rest b (subst (λ l. AreLeftByTurns e budget each l m b) here from)
 
 -- the tree of the formula at a place
 pub tree-at : (formulas : List (Bor Formula)) (i : ℕ) (f : Bor Formula) → i < length formulas → f ≡ get_or formulas i f

@@ -16,3 +16,4 @@ pub mod Readings
 pub mod Lefts
 pub mod Askings
 pub mod Results
+pub mod SomeOf

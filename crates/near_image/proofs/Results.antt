@@ -16,7 +16,7 @@ use Rattle.near_bound.specs.Equations.{open_ways}
 use Rattle.near_image.specs.declared.shift.Shift.{Shift}
 use Rattle.near_image.specs.Image.{Image, IsShiftable, and_all, image_tree, part_tree, moved_vars, equation_of}
 use Rattle.near_image.specs.Laws.{ImageSaysPart, StepsAreWithin, AreClearWithin, HasFewStates, change_colours}
-use Rattle.near_image.specs.LeftOut.{AreLeftOf}
+use Rattle.near_image.specs.LeftOut.{AreLeftByTurns}
 use Rattle.near_image.proofs.Shifts.{IsAmong, new-among, moved-vars}
 use Rattle.near_image.proofs.Moving.{place-within}
 
@@ -33,12 +33,12 @@ new-places {i} is tracks same =
     rw same (place-within s.new (with_vars (moved_vars i) []) ((one_of-with_vars s.new (moved_vars i) []).1 (inl one))))
 
 module _ (e : ℕ → SetOf) (budget each : ℕ) where
-  pub decides-all : {f : Tree} (gs : List Tree) {a : Automaton} (b : Automaton) → Decides a f (members e) → AreLeftOf e budget each gs a b
+  pub decides-all : {f : Tree} (gs : List Tree) {a : Automaton} (b : Automaton) → Decides a f (members e) → AreLeftByTurns e budget each gs a b
       → Decides b (and_all f (map Not gs)) (members e)
   decides-all {f} [] b decides same = subst (λ c. Decides c f (members e)) (sym same) decides
   decides-all {f} (g ∷ gs) b decides (m, left, rest) = decides-all gs b (left.decides f decides) rest
 
-  pub clear-within : {f : Tree} (gs : List Tree) {a : Automaton} (b : Automaton) → Decides a f (members e) → AreLeftOf e budget each gs a b
+  pub clear-within : {f : Tree} (gs : List Tree) {a : Automaton} (b : Automaton) → Decides a f (members e) → AreLeftByTurns e budget each gs a b
       → AreClearWithin f gs e budget each
   clear-within [] b decides same = tt
   clear-within {f} (g ∷ gs) b decides (m, left, rest) =

@@ -13,6 +13,7 @@ mod reading;
 mod share;
 mod shift;
 mod shifting;
+mod tuples;
 
 pub use compiling::compile_image_on;
 pub use shift::Shift;

@@ -1,9 +1,10 @@
 use Rattle.std.proofs.Common.{◌≡◌, ap}
 use Rattle.lin_formula.specs.SetOf.{Table, tables, as_set}
+use Rattle.near_image.specs.Image.{moved_tree}
 use Rattle.near_image.specs.Laws.{HasFewStates}
 use Rattle.near_image.specs.Read.{image_of}
 use Rattle.near_image.proofs.Askings.{set_is_there, set_is_fit, may_ask}
-use Rattle.near_image.proofs.Results.{decides-all, clear-within, compiled-on}
+use Rattle.near_image.proofs.Results.{compiled-on}
 use Rattle.near_image.proofs.compiling.image_within.Goals as goal
 
 pub unreachable-requires : goal.unreachable-requires
@@ -42,8 +43,8 @@ returns-clause-made c =
     let is : e i.set ≡ Table set = ap as_set c.in-Some.ensures in
     let moved_decides = c.in_ok-moved.ensures.decides e is in
     let left = rw c.as_slice-2.ensures.value at c.in_ok-part.ensures.left in
-    let decides = decides-all e budget each i.clear part moved_decides left in
-    let accessible = c.in_ok-part.ensures.accessible c.in_ok-moved.ensures.accessible in
+    let decides = left.decides (moved_tree i) moved_decides in
+    let accessible = left.accessible c.in_ok-moved.ensures.accessible in
     let few : HasFewStates i e budget each = record {
       set = set;
       is_set = is;
@@ -52,7 +53,7 @@ returns-clause-made c =
       integers = fits.1;
       start = rw (c.as_slice.ensures.value, c.states.ensures.states, c.budget.ensures.is) at c.in-Some-share.ensures.start;
       changes = rw (c.as_slice.ensures.value, c.budget.ensures.is) at c.in-Some-share.ensures.changes;
-      clear = clear-within e budget each i.clear part moved_decides left;
+      clear = left.within (moved_tree i) moved_decides;
       part = part;
       is_part = c.states-2.ensures.valid;
       decides = decides;

@@ -1,30 +1,13 @@
-use Rattle.std.proofs.Common.{◌<◌, ◌≤◌, refl, ◌∙◌, arith, length}
-use Rattle.std.proofs.lemmas.List.{drop_all}
-use Rattle.lin_formula.specs.TreeOf.{tree_of}
+use Rattle.std.proofs.Common.{◌∙◌}
+use Rattle.lin_formula.specs.SetOf.{tables}
 use Rattle.near_image.specs.Read.{trees}
-use Rattle.near_image.proofs.Lefts.{tree-at, left-more, length-trees}
+use Rattle.near_image.proofs.SomeOf.{ok-both, left-by-turns}
 use Rattle.near_image.proofs.leaving.left_of_all.Goals as goal
 
-pub left_of-requires : goal.left_of-requires
-left_of-requires c =
-    let g = tree_of c.f-item.result.now in
-    let within : c.loop-f.f-index < length (trees c.args.formulas.now) = omega (arith, length-trees c.args.formulas.now, c.loop-f-test.true) in
-    let asked = c.requires c.loop-f.f-index g within in
-    rw (c.loop-f.invariant.tracks, ← tree-at c.args.formulas.now c.loop-f.f-index c.f-item.result c.loop-f-test.true c.f-item.is) asked
-
-pub loop-f-preserved : goal.loop-f-preserved
-loop-f-preserved c =
-    let within : c.loop-f.f-index < length (trees c.args.formulas.now) = omega (arith, length-trees c.args.formulas.now, c.loop-f-test.true) in
-    let is = tree-at c.args.formulas.now c.loop-f.f-index c.f-item.result c.loop-f-test.true c.f-item.is in
-    let left = rw c.loop-f.invariant.budget at c.in_ok-auto.ensures.left in
-    record {
-      budget = c.in_ok-auto.ensures.budget ∙ c.loop-f.invariant.budget;
-      tracks = left.tracks ∙ c.loop-f.invariant.tracks;
-      rest = left-more (trees c.args.formulas.now) c.loop-f.f-index c.args.set within is c.loop-f.invariant.rest left;
-      accessible = λ was. left.accessible;
-    }
-
-pub returns-clause-left : goal.returns-clause-left
-returns-clause-left c =
-    let past : length (trees c.args.formulas.now) ≤ c.loop-f.f-index = omega (arith, length-trees c.args.formulas.now, c.loop-f-test.false) in
-    c.loop-f.invariant.rest c.loop-f.auto' (rw (drop_all c.loop-f.f-index (trees c.args.formulas.now) past) refl)
+pub returns-in-None-clause-left : goal.returns-in-None-clause-left
+returns-in-None-clause-left c =
+    let e = tables c.args.scope.now.sets.now in
+    let left = rw c.left_at_once.ensures.budget at c.left_in_turn.ensures.left in
+    ok-both _ _ _ c.left_in_turn.result
+    (λ b turns accessible. left-by-turns e c.args.memo.now.budget c.args.scope.now.each (trees c.args.formulas.now) turns accessible)
+    left c.left_in_turn.ensures.accessible
