@@ -120,9 +120,9 @@ module _ (e : ℕ → SetOf) where
       )
 
 -- with one formula more before them
-pub few-more : (e : ℕ → SetOf) (budget most : ℕ) {m : Automaton} (g : Tree) (gs : List Tree) {count states tuples : ℕ} → IsAnswer e budget g m
+pub few-more : (e : ℕ → SetOf) (budget most : ℕ) {m : Automaton} (g : Tree) (gs : List Tree) (count : ℕ) {states tuples : ℕ} → IsAnswer e budget g m
     → tuples ≡ count * states → states ≡ length m.accept → tuples ≤ most → AreFew e budget most gs tuples → AreFew e budget most (g ∷ gs) count
-few-more e budget most {m} g gs {count} answer product size few rest =
+few-more e budget most {m} g gs count answer product size few rest =
     let same = product ∙ ap (λ n. count * n) size in
     (m, answer, subst (λ n. n ≤ most) same few, subst (AreFew e budget most gs) same rest)
 

@@ -1,10 +1,7 @@
-use Rattle.std.proofs.Common.{rules, ◌≡◌, [], ◌∷◌, List, length, arith}
-use Rattle.std.proofs.lemmas.List.{nil_from_length}
-use Rattle.lin_formula.specs.Tree.{Tree}
+use Rattle.std.proofs.Common.{rules}
 use Rattle.lin_formula.specs.TreeOf.{tree_of}
 use Rattle.lin_formula.specs.SetOf.{tables}
 use Rattle.near_image.specs.Read.{trees}
-use Rattle.near_image.specs.LeftOut.{MayAllBeAsked}
 use Rattle.near_image.proofs.SomeOf.{few-more, may-first, may-others, some-fit, some-more}
 use Rattle.near_image.proofs.leaving.+any_of.Goals as goal
 
@@ -27,27 +24,17 @@ pub merged_product_within-requires : goal.merged_product_within-requires
 merged_product_within-requires t c =
     let may = rw c.in-Some.ensures.cases.0 at c.requires in
     let some = rw c.in-Some-2.is at c.in_ok-rest.ensures.some in
-    some-fit (tables c.args.scope.now.sets.now) c.in-Some-2.rest (tree_of c.in-Some.f.now.now) (trees c.in-Some.others.now) may
-    c.in_ok-asked.ensures.answered.decides some
-
-pub returns-then-is_empty-clause-few : goal.returns-then-is_empty-clause-few
-returns-then-is_empty-clause-few t c =
-    let none : c.in-Some.others.now ≡ [] = nil_from_length c.in-Some.others.now (omega (arith, c.is_empty.ensures, c.if-is_empty.true)) in
-    rw (c.in-Some.ensures.cases.0, none)
-    (few-more (tables c.args.scope.now.sets.now) c.args.memo.now.budget c.args.before.most (tree_of c.in-Some.f.now.now) []
-    c.in_ok-asked.ensures.answered c.in-Some-with.ensures.count c.states.ensures.states c.in-Some-with.ensures.few tt)
-
-pub returns-then-is_empty-clause-some : goal.returns-then-is_empty-clause-some
-returns-then-is_empty-clause-some t c =
-    let none : c.in-Some.others.now ≡ [] = nil_from_length c.in-Some.others.now (omega (arith, c.is_empty.ensures, c.if-is_empty.true)) in
-    rw (c.in-Some.ensures.cases.0, none) c.in_ok-asked.ensures.answered.decides
+    record {
+      tracks = some-fit (tables c.args.scope.now.sets.now) c.in-Some-2.rest (tree_of c.in-Some.f.now.now) (trees c.in-Some.others.now) may
+          c.in_ok-asked.ensures.answered.decides some;
+    }
 
 pub returns-clause-few : goal.returns-clause-few
 returns-clause-few t c =
     let rest = rw c.in-Some-2.is at c.in_ok-rest.ensures.few in
     let before = rw (c.in_ok-asked.ensures.budget, c.in-Some-with.ensures.most) at rest in
     rw c.in-Some.ensures.cases.0
-    (few-more (tables c.args.scope.now.sets.now) c.args.memo.now.budget c.args.before.most (tree_of c.in-Some.f.now.now) (trees c.in-Some.others.now)
+    (few-more (tables c.args.scope.now.sets.now) c.args.memo.now.budget c.args.before.most (tree_of c.in-Some.f.now.now) (trees c.in-Some.others.now) c.args.before.count
     c.in_ok-asked.ensures.answered c.in-Some-with.ensures.count c.states.ensures.states c.in-Some-with.ensures.few before)
 
 pub returns-clause-some : goal.returns-clause-some
