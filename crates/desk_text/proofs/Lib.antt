@@ -1,4 +1,5 @@
 pub mod MoreLines
 pub mod OneText
 pub mod RoundTrip
+pub mod Said
 pub mod TextSteps

@@ -26,7 +26,7 @@ use Rattle.chess_text.specs.declared.reader.Stage.{Stage}
 use Rattle.chess_text.specs.declared.reader.Stage.TheVariants.{Header}
 use Rattle.chess_text.proofs.PositionLemmas.{positions_writable, spelled_is_accepted}
 use Rattle.desk_text.specs.TextLaws.{TextIsRead}
-use Rattle.desk_text.specs.Text.{ReadsLines, problem_of, whole}
+use Rattle.desk_text.specs.Text.{Reading, ReadsLines, problems, whole}
 
 -- bytes of which none is LF, at most so many
 record IsShort (bytes : List ℕ) (most : ℕ) : Type 0 where
@@ -105,27 +105,27 @@ turn_line s Black =
     record { free = free_append (codes "turn ") (side_letter s ∷ codes " for B") (all_free (codes "turn ") refl) (side_free s, named); short = omega arith }
 
 -- lines that are read as a text are read from their bytes, where so many lines stood before them, and there are as many with them
-module _ (d : Draft) (rest : List ℕ) (all : ℕ) where
+module _ {A : Type 0} (r : Reading A) (d : Draft) (rest : List ℕ) (all : ℕ) where
   read_last : (stage : Stage) (number : ℕ) (line more : List ℕ) → IsLine line → more ≡ rest → number ≡ all
-      → turnouts.Feeds positions stage line (turnouts.complete d)
-      → ReadsLines stage number (lines_of (line ++ 10 ∷ more)) (whole (problem_of d all) (lines_of rest))
+      → turnouts.Feeds r.grammar stage line (turnouts.complete d)
+      → ReadsLines r stage number (lines_of (line ++ 10 ∷ more)) (whole (r.says d all) (lines_of rest))
   read_last stage number line more is same last feeds =
-      let P : Lines → Type 0 = λ l. ReadsLines stage number l (whole (problem_of d all) (lines_of rest)) in
+      let P : Lines → Type 0 = λ l. ReadsLines r stage number l (whole (r.says d all) (lines_of rest)) in
       subst P (sym (line_first line more is.free is.short))
-      (turnouts.complete d, feeds, ap (λ b. whole (problem_of d all) (lines_of b)) (sym same) ∙ ap (λ k. whole (problem_of d k) (lines_of more)) (sym last))
+      (turnouts.complete d, feeds, ap (λ b. whole (r.says d all) (lines_of b)) (sym same) ∙ ap (λ k. whole (r.says d k) (lines_of more)) (sym last))
 
   pub read_lines : (stage : Stage) (number : ℕ) (lines : List (List ℕ)) → All IsLine lines → number + length lines ≡ all + 1
-      → Completes positions stage lines d
-      → ReadsLines stage number (lines_of (text_of_lines lines ++ rest)) (whole (problem_of d all) (lines_of rest))
+      → Completes r.grammar stage lines d
+      → ReadsLines r stage number (lines_of (text_of_lines lines ++ rest)) (whole (r.says d all) (lines_of rest))
   read_lines stage number [] are count completes = absurd completes
   read_lines stage number (line ∷ []) are count completes =
-      let P : List ℕ → Type 0 = λ b. ReadsLines stage number (lines_of b) (whole (problem_of d all) (lines_of rest)) in
+      let P : List ℕ → Type 0 = λ b. ReadsLines r stage number (lines_of b) (whole (r.says d all) (lines_of rest)) in
       let same : line ++ 10 ∷ rest ≡ ((line ++ 10 ∷ []) ++ []) ++ rest =
       sym (append_assoc line (10 ∷ []) rest) ∙ ap (λ b. b ++ rest) (sym (append-nil (line ++ 10 ∷ []))) in
       subst P same (read_last stage number line rest (All-head IsLine line [] are) refl (omega (arith, count)) completes)
   read_lines stage number (line ∷ next_line ∷ lines) are count completes =
-      let P : Lines → Type 0 = λ l. ReadsLines stage number l (whole (problem_of d all) (lines_of rest)) in
-      let Q : List ℕ → Type 0 = λ b. ReadsLines stage number (lines_of b) (whole (problem_of d all) (lines_of rest)) in
+      let P : Lines → Type 0 = λ l. ReadsLines r stage number l (whole (r.says d all) (lines_of rest)) in
+      let Q : List ℕ → Type 0 = λ b. ReadsLines r stage number (lines_of b) (whole (r.says d all) (lines_of rest)) in
       let behind = text_of_lines (next_line ∷ lines) ++ rest in
       let is = All-head IsLine line (next_line ∷ lines) are in
       let same : line ++ 10 ∷ behind ≡ ((line ++ 10 ∷ []) ++ text_of_lines (next_line ∷ lines)) ++ rest =
@@ -148,5 +148,5 @@ all_lines {p} winner h =
 
 pub text_is_read : TextIsRead
 text_is_read p winner rest h =
-    read_lines (draft_of p winner) rest (length (position_lines p winner)) Header 1 (position_lines p winner) (all_lines winner h) (omega arith)
+    read_lines problems (draft_of p winner) rest (length (position_lines p winner)) Header 1 (position_lines p winner) (all_lines winner h) (omega arith)
     (spelled_is_accepted positions (draft_of p winner) ((positions_writable p winner).1 h))

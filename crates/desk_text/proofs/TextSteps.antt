@@ -13,80 +13,85 @@ use Rattle.desk_base.proofs.LinesOf.{line_first}
 use Rattle.desk_base.specs.declared.line.Line.TheVariants.{Full, End}
 use Rattle.desk_base.specs.declared.line.LineError.TheVariants as fails
 use Rattle.chess_text.specs.Draft.{Draft, nobody, with_man}
-use Rattle.chess_text.specs.Grammar.{positions}
-use Rattle.chess_text.specs.PositionText.{Feeds, Turnout, draft_of, text_of_lines}
-use Rattle.chess_text.specs.declared.grammar.TheConstants.{MOST_MEN}
+use Rattle.chess_text.specs.Grammar.{IsPlaceOf}
+use Rattle.chess_text.specs.PositionText.{Feeds, IsDraftOf, Turnout, text_of_lines}
+use Rattle.chess_text.specs.declared.grammar.Grammar.{Grammar}
 use Rattle.chess_text.specs.PositionText as turnouts
-use Rattle.chess_text.specs.Progress.{Progress, ReadsLine, line_due}
-use Rattle.chess_text.specs.declared.positions.Fed.{Fed}
-use Rattle.chess_text.specs.declared.positions.Fed.TheVariants.{More, Whole}
+use Rattle.chess_text.specs.Progress.{line_due}
 use Rattle.chess_text.specs.declared.man_line.TextWhy.{TextWhy}
 use Rattle.chess_text.specs.declared.reader.Stage.{Stage}
 use Rattle.chess_text.specs.declared.reader.Stage.TheVariants as stages
 use Rattle.desk_text.specs.Taken.{TakesLines}
-use Rattle.desk_text.specs.Text.{Text, problem_at, problem_of, whole, refused, AfterLine, ReadsLines, TextAt, is_end}
-use Rattle.desk_text.specs.TextRead.{IsMissing, TextRead}
-use Rattle.desk_text.specs.declared.problem.Problem.{Problem}
+use Rattle.desk_text.specs.Text.{Text, Reading, whole, refused, AfterLine, IsTextOf, ReadsLines, is_end}
+use Rattle.desk_text.specs.TextRead.{IsMissingOf, TextReadOf}
 use Rattle.desk_text.specs.declared.text.LineWhy.{LineWhy}
-use Rattle.desk_text.specs.declared.text.LineWhy.TheVariants.{Grammar, Long, Cut, Missing}
+use Rattle.desk_text.specs.declared.text.LineWhy.TheVariants as refusals
 use Rattle.desk_text.specs.declared.text.TextEnd.TheVariants.{Fault, Refused}
 
 -- how many lines may come before the last
-abbrev pub lines_left : Stage → ℕ
-lines_left stages.Header = 10
-lines_left stages.Turn = 9
-lines_left (stages.Men d) = MOST_MEN - length d.men
+abbrev pub lines_left : Grammar → Stage → ℕ
+lines_left g stages.Header = g.most_men + 2
+lines_left g stages.Turn = g.most_men + 1
+lines_left g (stages.Men d) = g.most_men - length d.men
 
--- there are no more men than a text may have
-abbrev pub IsFew : Stage → Type 0
-IsFew stages.Header = Unit {0}
-IsFew stages.Turn = Unit {0}
-IsFew (stages.Men d) = length d.men ≤ MOST_MEN
+-- there are no more men than a text may have, on places that it may name
+abbrev pub AreMen : Grammar → Stage → Type 0
+AreMen g stages.Header = Unit {0}
+AreMen g stages.Turn = Unit {0}
+AreMen g (stages.Men d) = (length d.men ≤ g.most_men) × All (λ m. IsPlaceOf g m.place) d.men
 
 -- what a text that goes on has come to
-pub record GoesOn (stage next : Stage) : Type 0 where
+pub record GoesOn (g : Grammar) (stage next : Stage) : Type 0 where
   pub counted : line_due next ≡ line_due stage + 1
-  pub few : IsFew next
+  pub men : AreMen g next
+  pub nearer : AreMen g stage → lines_left g next < lines_left g stage
 
-goes_to : (stage next due : Stage) → next ≡ due → GoesOn stage due → GoesOn stage next
-goes_to stage next due is h = let P : Stage → Type 0 = λ s. GoesOn stage s in subst P (sym is) h
+goes_to : (g : Grammar) (stage next due : Stage) → next ≡ due → GoesOn g stage due → GoesOn g stage next
+goes_to g stage next due is h = let P : Stage → Type 0 = λ s. GoesOn g stage s in subst P (sym is) h
 
-pub fed_more : (stage next : Stage) (line : List ℕ) → Feeds positions stage line (turnouts.more next) → GoesOn stage next
-fed_more stages.Header next line (inl (e, i)) = goes_to stages.Header next stages.Turn (let s : next ≡ stages.Turn = cc in s) (record { counted = refl; few = tt })
-fed_more stages.Header next line (inr (e, i)) = absurd (cc)
-fed_more stages.Turn next line (inl (s, w, e, i)) =
-    goes_to stages.Turn next (stages.Men (nobody s w)) (let same : next ≡ stages.Men (nobody s w) = cc in same)
-    (record { counted = refl; few = omega arith })
-fed_more stages.Turn next line (inr (e, i)) = absurd (cc)
-fed_more (stages.Men d) next line (inl (a, e, i)) = absurd (cc)
-fed_more (stages.Men d) next line (inr (inl (a, e, i))) = absurd (cc)
-fed_more (stages.Men d) next line (inr (inr (inl (a, e, i)))) = absurd (cc)
-fed_more (stages.Men d) next line (inr (inr (inr (a, e, inl (m, is, i))))) =
-    goes_to (stages.Men d) next (stages.Men (with_man d m)) (let same : next ≡ stages.Men (with_man d m) = cc in same)
+pub fed_more : (g : Grammar) (stage next : Stage) (line : List ℕ) → AreMen g stage → Feeds g stage line (turnouts.more next) → GoesOn g stage next
+fed_more g stages.Header next line are (inl (e, i)) =
+    goes_to g stages.Header next stages.Turn (let s : next ≡ stages.Turn = cc in s) (record { counted = refl; men = tt; nearer = λ h. omega arith })
+fed_more g stages.Header next line are (inr (e, i)) = absurd (cc)
+fed_more g stages.Turn next line are (inl (s, w, e, i)) =
+    goes_to g stages.Turn next (stages.Men (nobody s w)) (let same : next ≡ stages.Men (nobody s w) = cc in same)
+    (record { counted = refl; men = (omega arith, All-nil (λ m. IsPlaceOf g m.place)); nearer = λ h. omega arith })
+fed_more g stages.Turn next line are (inr (e, i)) = absurd (cc)
+fed_more g (stages.Men d) next line are (inl (a, e, i)) = absurd (cc)
+fed_more g (stages.Men d) next line are (inr (inl (a, e, i))) = absurd (cc)
+fed_more g (stages.Men d) next line are (inr (inr (inl (a, e, i)))) = absurd (cc)
+fed_more g (stages.Men d) next line are (inr (inr (inr (a, e, inl (m, is, i))))) =
+    goes_to g (stages.Men d) next (stages.Men (with_man d m)) (let same : next ≡ stages.Men (with_man d m) = cc in same)
     (record {
       counted = omega (arith, length-append d.men (m ∷ []));
-      few = omega (arith, a, length-append d.men (m ∷ []));
+      men = (omega (arith, a, length-append d.men (m ∷ [])), All-push (λ k. IsPlaceOf g k.place) d.men m are.1 is.fits);
+      nearer = λ h. omega (arith, a, length-append d.men (m ∷ []));
     })
-fed_more (stages.Men d) next line (inr (inr (inr (a, e, inr (reason, r, i))))) = absurd (cc)
+fed_more g (stages.Men d) next line are (inr (inr (inr (a, e, inr (reason, r, i))))) = absurd (cc)
 
--- the last line of a text makes it whole, and says this problem
-pub record IsLast (stage : Stage) (number : ℕ) (line : List ℕ) (problem : Problem) : Type 0 where
-  pub draft : Draft
-  pub feeds : Feeds positions stage line (turnouts.complete draft)
-  pub says : problem ≡ problem_of draft number
+-- what the last line of a text is behind, and what the text says then
+pub record IsLast (g : Grammar) (stage : Stage) (line : List ℕ) (d : Draft) : Type 0 where
+  pub feeds : Feeds g stage line (turnouts.complete d)
+  pub says : IsDraftOf g d
+  pub lines : line_due stage ≡ length d.men + 3
 
--- what the reader of a text has answered
-pub answer_whole : (stage : Stage) (number : ℕ) (line : List ℕ) (fed : Fed) (problem : Problem) (reader : Progress)
-    → problem_at fed number ≡ Some problem → ReadsLine stage line (Ok fed) reader → IsLast stage number line problem
-answer_whole stage number line More problem reader is reads = absurd (cc)
-answer_whole stage number line (Whole p winner) problem reader is reads =
-    let same : problem_of (draft_of p winner) number ≡ problem = cc in
-    record { draft = draft_of p winner; feeds = reads.0; says = sym same }
-
-pub answer_more : (stage : Stage) (number : ℕ) (line : List ℕ) (fed : Fed) (reader : Progress) → problem_at fed number ≡ None
-    → ReadsLine stage line (Ok fed) reader → Feeds positions stage line (turnouts.more reader.stage) × (reader.end ≡ None)
-answer_more stage number line More reader is reads = reads
-answer_more stage number line (Whole p winner) reader is reads = absurd (cc)
+pub fed_last : (g : Grammar) (stage : Stage) (line : List ℕ) (d : Draft) → AreMen g stage → Feeds g stage line (turnouts.complete d) → IsLast g stage line d
+fed_last g stages.Header line d are (inl (e, i)) = absurd (cc)
+fed_last g stages.Header line d are (inr (e, i)) = absurd (cc)
+fed_last g stages.Turn line d are (inl (s, w, e, i)) = absurd (cc)
+fed_last g stages.Turn line d are (inr (e, i)) = absurd (cc)
+fed_last g (stages.Men so_far) line d are (inl (a, e, i)) = absurd (cc)
+fed_last g (stages.Men so_far) line d are (inr (inl (low, e, i))) =
+    let same : d ≡ so_far = cc in
+    let P : Draft → Type 0 = λ k. IsLast g (stages.Men so_far) line k in
+    subst P (sym same) (record {
+      feeds = inr (inl (low, e, refl));
+      says = record { low = low; high = are.0; fit = are.1 };
+      lines = refl;
+    })
+fed_last g (stages.Men so_far) line d are (inr (inr (inl (a, e, i)))) = absurd (cc)
+fed_last g (stages.Men so_far) line d are (inr (inr (inr (a, e, inl (m, is, i))))) = absurd (cc)
+fed_last g (stages.Men so_far) line d are (inr (inr (inr (a, e, inr (reason, r, i))))) = absurd (cc)
 
 -- what is known of the bytes behind those taken, or nothing
 pub known_rest : (after : Option (List ℕ)) → IfSome after (λ told. told ≡ unwrap_or after [])
@@ -110,16 +115,16 @@ pub line_read : (len : ℕ) (old new : List ℕ) → KeepsLine (Ok (Full len)) o
 line_read len old new keeps = record { free = keeps.2; short = omega (arith, keeps.0, keeps.1) }
 
 -- The lines read so far are a text up to this stage, and `pending` was taken behind them.
-pub record SoFar (stage : Stage) (number : ℕ) (pending : List ℕ) (before after : Option (List ℕ)) : Type 0 where
+pub record SoFar {A : Type 0} (r : Reading A) (stage : Stage) (number : ℕ) (pending : List ℕ) (before after : Option (List ℕ)) : Type 0 where
   pub lines : List (List ℕ)
   pub are_lines : All IsLine lines
-  pub due : (k : ℕ) → k < length lines → IsMissing (take k lines)
+  pub due : (k : ℕ) → k < length lines → IsMissingOf r (take k lines)
   pub count : number ≡ length lines + 1
   pub taken : Consumes before after (text_of_lines lines ++ pending)
-  pub text : (more : List ℕ) (text : Text) → ReadsLines stage number (lines_of more) text → TextAt (text_of_lines lines ++ more) text
+  pub text : (more : List ℕ) (text : Text A) → ReadsLines r stage number (lines_of more) text → IsTextOf r (lines_of (text_of_lines lines ++ more)) text
 
-pub nothing_read : (left : Option (List ℕ)) → SoFar stages.Header 1 [] left left
-nothing_read left = record {
+pub nothing_read : {A : Type 0} (r : Reading A) (left : Option (List ℕ)) → SoFar r stages.Header 1 [] left left
+nothing_read r left = record {
   lines = [];
   are_lines = All-nil IsLine;
   due = λ k below. absurd (omega arith);
@@ -128,7 +133,7 @@ nothing_read left = record {
   text = λ more text reads. reads;
 }
 
-module _ (stage : Stage) (number : ℕ) (pending : List ℕ) (before mid after : Option (List ℕ)) (line rest : List ℕ) (so_far : SoFar stage number pending before mid) where
+module _ {A : Type 0} (r : Reading A) (stage : Stage) (number : ℕ) (pending : List ℕ) (before mid after : Option (List ℕ)) (line rest : List ℕ) (so_far : SoFar r stage number pending before mid) where
   abbrev lines : List (List ℕ)
   lines = so_far.lines
 
@@ -153,30 +158,30 @@ module _ (stage : Stage) (number : ℕ) (pending : List ℕ) (before mid after :
     consumed = subst (Consumes before after) next_bytes (all_taken took.bytes took.taken)
 
     -- the line was due
-    due_here : IsMissing lines
+    due_here : IsMissingOf r lines
     due_here =
-        let P : List ℕ → Type 0 = λ b. TextAt b (refused number Missing) in
-        let Q : ℕ → Type 0 = λ n. TextAt (text_of_lines lines) (refused n Missing) in
-        subst Q so_far.count (subst P (append-nil (text_of_lines lines)) (so_far.text [] (refused number Missing) refl))
+        let P : List ℕ → Type 0 = λ b. IsTextOf r (lines_of b) (refused number refusals.Missing) in
+        let Q : ℕ → Type 0 = λ n. IsTextOf r (lines_of (text_of_lines lines)) (refused n refusals.Missing) in
+        subst Q so_far.count (subst P (append-nil (text_of_lines lines)) (so_far.text [] (refused number refusals.Missing) refl))
 
-    due_now : (k : ℕ) → k < length now → IsMissing (take k now)
+    due_now : (k : ℕ) → k < length now → IsMissingOf r (take k now)
     due_now k below = elim (number_cases k (length lines)) [
-      | inl less ↦ subst IsMissing (sym (take-append-le k lines (line ∷ []) (omega (arith, less)))) (so_far.due k less)
+      | inl less ↦ subst (IsMissingOf r) (sym (take-append-le k lines (line ∷ []) (omega (arith, less)))) (so_far.due k less)
       | inr (inr more) ↦ absurd (omega (arith, more, below, length-append lines (line ∷ [])))
       | inr (inl last) ↦
           let front : take k now ≡ lines = take-append-le k lines (line ∷ []) (omega (arith, last)) ∙ take_all k lines (omega (arith, last)) in
-          subst IsMissing (sym front) due_here
+          subst (IsMissingOf r) (sym front) due_here
     ]
 
-    takes_now : (few : length rest ≤ 256) → TakesLines IsMissing (text_of_lines now ++ rest) rest
+    takes_now : (few : length rest ≤ 256) → TakesLines (IsMissingOf r) (text_of_lines now ++ rest) rest
     takes_now few = record { lines = now; are_lines = all_lines lines so_far.are_lines is_line; due = due_now; bytes = refl; few = few }
 
-    text_full : (more : List ℕ) (t : Text) (turnout : Turnout) → Feeds positions stage line turnout
-        → AfterLine turnout number (lines_of more) t (λ next. ReadsLines next (number + 1) (lines_of more) t) → TextAt (text_of_lines now ++ more) t
+    text_full : (more : List ℕ) (t : Text A) (turnout : Turnout) → Feeds r.grammar stage line turnout
+        → AfterLine r turnout number (lines_of more) t (λ next. ReadsLines r next (number + 1) (lines_of more) t) → IsTextOf r (lines_of (text_of_lines now ++ more)) t
     text_full more t turnout feeds after_it =
-        let P : Lines → Type 0 = λ l. ReadsLines stage number l t in
+        let P : Lines → Type 0 = λ l. ReadsLines r stage number l t in
         let read = so_far.text (line ++ 10 ∷ more) t (subst P (sym (line_first line more is_line.free is_line.short)) (turnout, feeds, after_it)) in
-        let Q : List ℕ → Type 0 = λ b. TextAt b t in
+        let Q : List ℕ → Type 0 = λ b. IsTextOf r (lines_of b) t in
         let same : text_of_lines lines ++ (line ++ 10 ∷ more) ≡ text_of_lines now ++ more =
         ap (λ bytes. text_of_lines lines ++ bytes) (sym (append_assoc line (10 ∷ []) more))
         ∙ sym (append_assoc (text_of_lines lines) (line ++ 10 ∷ []) more)
@@ -184,35 +189,35 @@ module _ (stage : Stage) (number : ℕ) (pending : List ℕ) (before mid after :
         subst Q same read
 
     -- the same of the bytes taken, and others behind them
-    text_taken : (more : List ℕ) (t : Text) (turnout : Turnout) → Feeds positions stage line turnout
-        → AfterLine turnout number (lines_of (rest ++ more)) t (λ next. ReadsLines next (number + 1) (lines_of (rest ++ more)) t)
-        → TextAt ((text_of_lines now ++ rest) ++ more) t
+    text_taken : (more : List ℕ) (t : Text A) (turnout : Turnout) → Feeds r.grammar stage line turnout
+        → AfterLine r turnout number (lines_of (rest ++ more)) t (λ next. ReadsLines r next (number + 1) (lines_of (rest ++ more)) t)
+        → IsTextOf r (lines_of ((text_of_lines now ++ rest) ++ more)) t
     text_taken more t turnout feeds after_it =
-        let Q : List ℕ → Type 0 = λ b. TextAt b t in
+        let Q : List ℕ → Type 0 = λ b. IsTextOf r (lines_of b) t in
         subst Q (sym (append_assoc (text_of_lines now) rest more)) (text_full (rest ++ more) t turnout feeds after_it)
 
-    pub goes_on : (next : Stage) → Feeds positions stage line (turnouts.more next) → SoFar next (number + 1) rest before after
+    pub goes_on : (next : Stage) → Feeds r.grammar stage line (turnouts.more next) → SoFar r next (number + 1) rest before after
     goes_on next feeds = record {
       lines = now;
       are_lines = all_lines lines so_far.are_lines is_line;
       due = due_now;
       count = omega (arith, so_far.count, length-append lines (line ∷ []));
       taken = consumed;
-      text = λ more t r. text_full more t (turnouts.more next) feeds r;
+      text = λ more t here. text_full more t (turnouts.more next) feeds here;
     }
 
-    pub is_whole : (problem : Problem) → length rest ≤ 256 → IsLast stage number line problem → TextRead (Ok problem) rest before after
+    pub is_whole : (d : Draft) → length rest ≤ 256 → Feeds r.grammar stage line (turnouts.complete d) → TextReadOf r (Ok (r.says d number)) rest before after
     unfolding takes_now
-    is_whole problem few last = record {
+    is_whole d few feeds = record {
       bytes = text_of_lines now ++ rest;
       rest = unwrap_or after [];
       taken = consumed;
       left = known_rest after;
       takes = takes_now few;
-      reads = λ more. text_full more (whole problem (lines_of more)) (turnouts.complete last.draft) last.feeds (ap (λ p. whole p (lines_of more)) last.says);
+      reads = λ more. text_full more (whole (r.says d number) (lines_of more)) (turnouts.complete d) feeds refl;
     }
 
-    pub is_wrong : (why : TextWhy) → length rest ≤ 256 → Feeds positions stage line (turnouts.wrong why) → TextRead (Err (Refused number (Grammar why))) rest before after
+    pub is_wrong : (why : TextWhy) → length rest ≤ 256 → Feeds r.grammar stage line (turnouts.wrong why) → TextReadOf r (Err (Refused number (refusals.Grammar why))) rest before after
     unfolding takes_now
     is_wrong why few feeds =
         let behind = unwrap_or after [] in
@@ -221,7 +226,7 @@ module _ (stage : Stage) (number : ℕ) (pending : List ℕ) (before mid after :
           rest = behind;
           taken = consumed;
           left = known_rest after;
-          reads = text_taken behind (refused number (Grammar why)) (turnouts.wrong why) feeds refl;
+          reads = text_taken behind (refused number (refusals.Grammar why)) (turnouts.wrong why) feeds refl;
           takes = takes_now few;
         }
 
@@ -230,52 +235,52 @@ module _ (stage : Stage) (number : ℕ) (pending : List ℕ) (before mid after :
     still : Consumes before after (text_of_lines lines ++ rest)
     still = subst (λ b. Consumes before after (text_of_lines lines ++ b)) (sym keeps) (all_taken bytes took)
 
-    takes_still : length rest ≤ 256 → TakesLines IsMissing (text_of_lines lines ++ rest) rest
+    takes_still : length rest ≤ 256 → TakesLines (IsMissingOf r) (text_of_lines lines ++ rest) rest
     takes_still few = record { lines = lines; are_lines = so_far.are_lines; due = so_far.due; bytes = refl; few = few }
 
     refused_still : (behind : List ℕ) (why : LineWhy) → IfSome after (λ told. told ≡ behind) → length rest ≤ 256
-        → ReadsLines stage number (lines_of (rest ++ behind)) (refused number why) → TextRead (Err (Refused number why)) rest before after
+        → ReadsLines r stage number (lines_of (rest ++ behind)) (refused number why) → TextReadOf r (Err (Refused number why)) rest before after
     unfolding takes_still
-    refused_still behind why left few r =
-        let Q : List ℕ → Type 0 = λ b. TextAt b (refused number why) in
+    refused_still behind why left few here =
+        let Q : List ℕ → Type 0 = λ b. IsTextOf r (lines_of b) (refused number why) in
         record {
           bytes = text_of_lines lines ++ rest;
           rest = behind;
           taken = still;
           left = left;
-          reads = subst Q (sym (append_assoc (text_of_lines lines) rest behind)) (so_far.text (rest ++ behind) (refused number why) r);
+          reads = subst Q (sym (append_assoc (text_of_lines lines) rest behind)) (so_far.text (rest ++ behind) (refused number why) here);
           takes = takes_still few;
         }
 
-  pub is_missing : length rest ≤ 256 → Takes (Ok End) pending line rest mid after → TextRead (Err (Refused number Missing)) rest before after
+  pub is_missing : length rest ≤ 256 → Takes (Ok End) pending line rest mid after → TextReadOf r (Err (Refused number refusals.Missing)) rest before after
   is_missing few took =
-      let P : Lines → Type 0 = λ l. ReadsLines stage number l (refused number Missing) in
-      refused_still took.bytes took.taken took.keeps [] Missing (no_rest after took.reads.0) few
+      let P : Lines → Type 0 = λ l. ReadsLines r stage number l (refused number refusals.Missing) in
+      refused_still took.bytes took.taken took.keeps [] refusals.Missing (no_rest after took.reads.0) few
       (subst P (sym (ap lines_of (append-nil rest ∙ took.keeps) ∙ took.reads.1)) refl)
 
-  pub is_cut : length rest ≤ 256 → Takes (Err fails.Cut) pending line rest mid after → TextRead (Err (Refused number Cut)) rest before after
+  pub is_cut : length rest ≤ 256 → Takes (Err fails.Cut) pending line rest mid after → TextReadOf r (Err (Refused number refusals.Cut)) rest before after
   is_cut few took =
-      let P : Lines → Type 0 = λ l. ReadsLines stage number l (refused number Cut) in
-      refused_still took.bytes took.taken took.keeps [] Cut (no_rest after took.reads.0) few
+      let P : Lines → Type 0 = λ l. ReadsLines r stage number l (refused number refusals.Cut) in
+      refused_still took.bytes took.taken took.keeps [] refusals.Cut (no_rest after took.reads.0) few
       (subst P (sym (ap lines_of (append-nil rest ∙ took.keeps) ∙ took.reads.1)) refl)
 
-  pub is_long : length rest ≤ 256 → Takes (Err fails.TooLong) pending line rest mid after → TextRead (Err (Refused number Long)) rest before after
+  pub is_long : length rest ≤ 256 → Takes (Err fails.TooLong) pending line rest mid after → TextReadOf r (Err (Refused number refusals.Long)) rest before after
   is_long few took =
       let behind = unwrap_or after [] in
-      let P : Lines → Type 0 = λ l. ReadsLines stage number l (refused number Long) in
-      refused_still took.bytes took.taken took.keeps behind Long (known_rest after) few
+      let P : Lines → Type 0 = λ l. ReadsLines r stage number l (refused number refusals.Long) in
+      refused_still took.bytes took.taken took.keeps behind refusals.Long (known_rest after) few
       (subst P (sym (ap (λ b. lines_of (b ++ behind)) took.keeps ∙ ap lines_of (append_assoc pending took.bytes behind) ∙ took.reads behind)) refl)
 
   -- a text whose lines are a part of one ends because its input does
-  part_ends : (bytes : List ℕ) → (why : LineWhy) × ReadsLines stage number (part_of bytes) (refused number why) × IsTrue (is_end why)
-  part_ends [] = (Missing, refl, refl)
-  part_ends (b ∷ bytes) = (Cut, refl, refl)
+  part_ends : (bytes : List ℕ) → (why : LineWhy) × ReadsLines r stage number (part_of bytes) (refused number why) × IsTrue (is_end why)
+  part_ends [] = (refusals.Missing, refl, refl)
+  part_ends (b ∷ bytes) = (refusals.Cut, refl, refl)
 
-  pub is_fault : length rest ≤ 256 → Takes (Err fails.Read) pending line rest mid after → TextRead (Err Fault) rest before after
+  pub is_fault : length rest ≤ 256 → Takes (Err fails.Read) pending line rest mid after → TextReadOf r (Err Fault) rest before after
   unfolding takes_still
   is_fault few took =
       let part = part_ends (pending ++ took.bytes) in
-      let P : Lines → Type 0 = λ l. ReadsLines stage number l (refused number part.0) in
+      let P : Lines → Type 0 = λ l. ReadsLines r stage number l (refused number part.0) in
       record {
         bytes = text_of_lines lines ++ rest;
         rest = unwrap_or after [];

@@ -1,53 +1,72 @@
 -- The text at the front of an input, line by line.
-use Rattle.std.specs.Prelude.{◌≡◌, ℕ, ◌+◌, ◌++◌, Bool, true, false, List, Option, Some, None, codes}
+use Rattle.std.specs.Prelude.{◌≡◌, ℕ, ◌+◌, ◌++◌, Bool, true, false, List, codes}
 use Rattle.std.specs.Fmt.{decimal}
 use Rattle.desk_base.specs.Lines.{Lines, full, ended, cut, long, lines_of}
 use Rattle.chess_text.specs.Draft.{Draft}
-use Rattle.chess_text.specs.Grammar.{positions}
-use Rattle.chess_text.specs.PositionText.{Feeds, Turnout, draft_of, drafted}
+use Rattle.chess_text.specs.Grammar.{crowds, positions}
+use Rattle.chess_text.specs.PositionText.{Feeds, Turnout, drafted}
 use Rattle.chess_text.specs.PositionText as turnouts
 use Rattle.chess_text.specs.declared.man_line.TextWhy.TheVariants as grammar
-use Rattle.chess_text.specs.declared.positions.Fed.{Fed}
-use Rattle.chess_text.specs.declared.positions.Fed.TheVariants as feds
+use Rattle.chess_text.specs.declared.grammar.Grammar as kinds
 use Rattle.chess_text.specs.declared.reader.Stage.{Stage}
 use Rattle.chess_text.specs.declared.reader.Stage.TheVariants.{Header}
 use Rattle.desk_text.specs.declared.problem.Problem.{Problem}
+use Rattle.desk_text.specs.declared.problem.WholeText.{WholeText}
 use Rattle.desk_text.specs.declared.text.LineWhy.{LineWhy}
 use Rattle.desk_text.specs.declared.text.LineWhy.TheVariants.{Grammar, Long, Cut, Missing}
 
--- What an input begins with: the text of a problem, and the lines that come after it, or the first line that is
--- refused.
-pub data Text : Type 0 where
-  whole : Problem → Lines → Text
-  refused : ℕ → LineWhy → Text
+-- What an input begins with: a text that says this, and the lines that come after it, or the first line that is refused.
+pub data Text (A : Type 0) : Type 0 where
+  whole : A → Lines → Text A
+  refused : ℕ → LineWhy → Text A
+
+-- How the texts of a kind are read: their grammar, and what one says that has so many lines.
+pub record Reading (A : Type 0) : Type 0 where
+  pub grammar : kinds.Grammar
+  pub says : Draft → ℕ → A
 
 -- the problem that a text of so many lines says
 abbrev pub problem_of : Draft → ℕ → Problem
 problem_of d lines = record { position = drafted d; winner = d.winner; lines = lines }
 
--- the problem of a text of so many lines, where it is whole
-abbrev pub problem_at : Fed → ℕ → Option Problem
-problem_at feds.More lines = None
-problem_at (feds.Whole p winner) lines = Some (problem_of (draft_of p winner) lines)
+-- what a text of so many lines says, as it stands there
+abbrev pub text_of : Draft → ℕ → WholeText
+text_of d lines = record { draft = d; lines = lines }
+
+-- position texts say problems
+abbrev pub problems : Reading Problem
+problems = record { grammar = positions; says = problem_of }
+
+-- texts of a kind, as they stand there
+abbrev pub texts_of : kinds.Grammar → Reading WholeText
+texts_of g = record { grammar = g; says = text_of }
 
 -- the text, after a line of this number of which the text makes that
-abbrev pub AfterLine : Turnout → ℕ → Lines → Text → (Stage → Type 0) → Type 0
-AfterLine (turnouts.more next) number rest text go_on = go_on next
-AfterLine (turnouts.complete d) number rest text go_on = text ≡ whole (problem_of d number) rest
-AfterLine (turnouts.wrong why) number rest text go_on = text ≡ refused number (Grammar why)
+abbrev pub AfterLine : {A : Type 0} → Reading A → Turnout → ℕ → Lines → Text A → (Stage → Type 0) → Type 0
+AfterLine r (turnouts.more next) number rest text go_on = go_on next
+AfterLine r (turnouts.complete d) number rest text go_on = text ≡ whole (r.says d number) rest
+AfterLine r (turnouts.wrong why) number rest text go_on = text ≡ refused number (Grammar why)
 
 -- the text that the lines are from this stage on, of which the first has this number
-abbrev pub ReadsLines : Stage → ℕ → Lines → Text → Type 0
-ReadsLines stage number (full line rest) text =
-    (turnout : Turnout) × Feeds positions stage line turnout
-    × AfterLine turnout number rest text (λ next. ReadsLines next (number + 1) rest text)
-ReadsLines stage number ended text = text ≡ refused number Missing
-ReadsLines stage number (cut front) text = text ≡ refused number Cut
-ReadsLines stage number long text = text ≡ refused number Long
+abbrev pub ReadsLines : {A : Type 0} → Reading A → Stage → ℕ → Lines → Text A → Type 0
+ReadsLines r stage number (full line rest) text =
+    (turnout : Turnout) × Feeds r.grammar stage line turnout
+    × AfterLine r turnout number rest text (λ next. ReadsLines r next (number + 1) rest text)
+ReadsLines r stage number ended text = text ≡ refused number Missing
+ReadsLines r stage number (cut front) text = text ≡ refused number Cut
+ReadsLines r stage number long text = text ≡ refused number Long
+
+-- the text that the lines are from the first on
+abbrev pub IsTextOf : {A : Type 0} → Reading A → Lines → Text A → Type 0
+IsTextOf r lines text = ReadsLines r Header 1 lines text
 
 -- the text at the front of an input
-abbrev pub TextAt : List ℕ → Text → Type 0
-TextAt bytes text = ReadsLines Header 1 (lines_of bytes) text
+abbrev pub TextAt : List ℕ → Text Problem → Type 0
+TextAt bytes text = IsTextOf problems (lines_of bytes) text
+
+-- the crowd's text that the lines are from the first on
+abbrev pub IsCrowdText : Lines → Text WholeText → Type 0
+IsCrowdText lines text = IsTextOf (texts_of crowds) lines text
 
 -- the line is refused because the input ends
 abbrev pub is_end : LineWhy → Bool

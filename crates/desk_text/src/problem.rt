@@ -1,9 +1,17 @@
-//! Problems, and what is asked of one; files of a name, and what is asked of one.
+//! Texts and problems, and what is asked of one; files of a name, and what is asked of one.
 
 ghost use Rattle.std.specs.Prelude.{◌≡◌};
 
 use chess_game::{Position, Side};
+use chess_text::Draft;
 use limits::Budget;
+
+/// A text that was read whole: what it says, and how many lines it has.
+#[derive(Drop)]
+pub struct WholeText {
+    pub draft: Draft,
+    pub lines: u32,
+}
 
 /// What a text says that was read whole: a position, and the side that is to mate. The text has so many lines.
 #[derive(Clone, Copy)]

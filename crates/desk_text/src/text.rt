@@ -1,12 +1,18 @@
-//! The position text at the front of an input.
+//! The text at the front of an input.
 
-ghost use Rattle.std.specs.Prelude.{◌≡◌, ℕ, ◌+◌, ◌≤◌, [], length, IsErrOf, IfOk, None};
+ghost use Rattle.std.specs.Prelude.{◌≡◌, ℕ, ◌+◌, ◌≤◌, [], length, IsErrOf, IfOk, None, Some};
+ghost use Rattle.chess_text.specs.Grammar.{positions};
+ghost use Rattle.chess_text.specs.PositionText.{IsDraftOf};
+ghost use Rattle.chess_text.specs.Progress.{IsWhole};
+ghost use Rattle.chess_text.specs.declared.draft.TheConstants.{MOST_READ};
+ghost use Rattle.chess_text.specs.declared.reader.End.TheVariants as End;
 ghost use Rattle.desk_base.specs.Faults.{HasRisen};
-ghost use Rattle.desk_text.specs.Text.{problem_at, why_word};
-ghost use Rattle.desk_text.specs.TextRead.{TextRead};
+ghost use Rattle.desk_text.specs.Text.{problem_of, texts_of, why_word};
+ghost use Rattle.desk_text.specs.TextRead.{TextRead, TextReadOf};
 
-use crate::problem::Problem;
-use chess_text::{Fed, PositionReader, TextWhy};
+use crate::problem::{Problem, WholeText};
+use chess_game::Position;
+use chess_text::{Grammar, Step, TextReader, TextWhy};
 use desk_base::{Line, LineError, LineReader, Source};
 
 /// Why a line is refused.
@@ -49,16 +55,20 @@ pub enum TextEnd {
     Refused(u32, LineWhy),
 }
 
-/// The problem of a text of so many lines, where it is whole.
-fn problem_at(fed: Fed, lines: u32) -> Option<Problem>
-    ensures { result ≡ problem_at fed lines }
+/// The problem that a position text says.
+fn problem_of(text: &WholeText) -> Problem
+    requires { IsDraftOf positions text.now.draft }
+    ensures { result ≡ problem_of text.now.draft text.now.lines }
 {
-    let (position, winner) = fed.whole()?;
-    Some(Problem {
-        position,
-        winner,
-        lines,
-    })
+    let draft = &text.draft;
+    match Position::new(draft.men(), draft.turn()) {
+        Some(position) => Problem {
+            position,
+            winner: draft.winner(),
+            lines: text.lines,
+        },
+        None => unreachable!(),
+    }
 }
 
 /// Reads the text of a problem at the front of an input. What comes after it is not read, but for the bytes that the reader holds.
@@ -71,16 +81,47 @@ pub fn read_problem<S: Source>(reader: &mut LineReader, source: &mut S) -> Resul
     ensures failed { IsErrOf result TextEnd.Fault → HasRisen (S.faults source.old) (S.faults source.new) }
     ensures never_falls { S.faults source.old ≤ S.faults source.new }
 {
-    let mut text = PositionReader::new();
+    match read_text(Grammar::positions(), reader, source) {
+        Ok(text) => Ok(problem_of(&text)),
+        Err(end) => Err(end),
+    }
+}
+
+/// What a text says that is whole, and has so many lines.
+fn whole_text(text: TextReader, lines: u32) -> WholeText
+    requires { text.end ≡ Some End.Whole }
+    ensures draft { IsWhole text result.draft }
+    ensures lines { result.lines ≡ lines }
+{
+    match text.into_whole() {
+        Some(draft) => WholeText { draft, lines },
+        None => unreachable!(),
+    }
+}
+
+/// Reads a text of a kind at the front of an input. What comes after it is not read, but for the bytes that the reader holds.
+pub fn read_text<S: Source>(
+    grammar: Grammar,
+    reader: &mut LineReader,
+    source: &mut S,
+) -> Result<WholeText, TextEnd>
+    requires few { grammar.most_men ≤ MOST_READ }
+    requires fresh { (reader.old.pending ≡ []) × (reader.old.stopped ≡ None) }
+    ensures reads { TextReadOf (texts_of grammar) result reader.new.pending (S.left source.old) (S.left source.new) }
+    ensures draft { IfOk result (λ text. IsDraftOf grammar text.draft) }
+    ensures lines { IfOk result (λ text. text.lines ≡ length text.draft.men + 3) }
+    ensures goes_on { IfOk result (λ text. reader.new.stopped ≡ None) }
+    ensures held { length reader.new.pending ≤ 256 }
+    ensures failed { IsErrOf result TextEnd.Fault → HasRisen (S.faults source.old) (S.faults source.new) }
+    ensures never_falls { S.faults source.old ≤ S.faults source.new }
+{
+    let mut text = TextReader::new(grammar);
     loop {
         let number = text.line_due();
         match reader.next_line(source) {
             Ok(Line::Full(_)) => match text.feed_line(reader.line()) {
-                Ok(fed) => {
-                    if let Some(problem) = problem_at(fed, number) {
-                        return Ok(problem);
-                    }
-                }
+                Ok(Step::More) => {}
+                Ok(Step::Whole) => return Ok(whole_text(text, number)),
                 Err(error) => {
                     return Err(TextEnd::Refused(error.line, LineWhy::Grammar(error.why)));
                 }
