@@ -1,2 +1,5 @@
+pub mod FirstFault
 pub mod One
+pub mod TextEnds
+pub mod TextRows
 pub mod Writing
