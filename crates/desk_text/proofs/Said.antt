@@ -1,7 +1,7 @@
 -- What a text says is made of the text as it stands. Crates above cite these lemmas.
-use Rattle.std.proofs.Common.{ℕ, ◌+◌, List, Option, Result, Ok, Err, ◌≡◌, ap, sym, subst}
-use Rattle.desk_base.specs.Lines.{Lines, full, ended, cut, long, lines_of}
-use Rattle.chess_text.specs.PositionText.{Turnout}
+use Rattle.std.proofs.Common.{ℕ, ◌+◌, List, Option, Result, Ok, Err, ap, take}
+use Rattle.desk_base.specs.Lines.{Lines, full, ended, cut, long}
+use Rattle.chess_text.specs.PositionText.{Turnout, text_of_lines}
 use Rattle.chess_text.specs.PositionText as turnouts
 use Rattle.chess_text.specs.declared.reader.Stage.{Stage}
 use Rattle.chess_text.specs.declared.reader.Stage.TheVariants.{Header}
@@ -20,7 +20,7 @@ module _ {A : Type 0} (r : Reading A) where
   abbrev pub says_of : WholeText → A
   says_of text = r.says text.draft text.lines
 
-  said : Text WholeText → Text A
+  abbrev said : Text WholeText → Text A
   said (whole text rest) = whole (says_of text) rest
   said (refused number why) = refused number why
 
@@ -59,8 +59,8 @@ module _ {A : Type 0} (r : Reading A) where
       let takes : TakesLines (IsMissingOf r) t.bytes pending = record {
         lines = t.takes.lines;
         are_lines = t.takes.are_lines;
-        due = λ k below. missing_said _ (t.takes.due k below);
+        due = λ k below. missing_said (take k t.takes.lines) (t.takes.due k below);
         bytes = t.takes.bytes;
         few = t.takes.few;
       } in
-      record { bytes = t.bytes; rest = t.rest; taken = t.taken; left = t.left; takes = takes; reads = reads_said answer _ pending t.rest t.reads }
+      record { bytes = t.bytes; rest = t.rest; taken = t.taken; left = t.left; takes = takes; reads = reads_said answer (text_of_lines t.takes.lines) pending t.rest t.reads }

@@ -14,13 +14,15 @@ use Rattle.desk_base.specs.declared.line.Line.TheVariants.{Full, End}
 use Rattle.desk_base.specs.declared.line.LineError.TheVariants as fails
 use Rattle.chess_text.specs.Draft.{Draft, nobody, with_man}
 use Rattle.chess_text.specs.Grammar.{IsPlaceOf}
-use Rattle.chess_text.specs.PositionText.{Feeds, IsDraftOf, Turnout, text_of_lines}
+use Rattle.chess_text.specs.PositionText.{Feeds, Turnout, text_of_lines}
 use Rattle.chess_text.specs.declared.grammar.Grammar.{Grammar}
 use Rattle.chess_text.specs.PositionText as turnouts
-use Rattle.chess_text.specs.Progress.{line_due}
+use Rattle.chess_text.specs.Progress.{IsFed, Progress, Reads, line_due}
 use Rattle.chess_text.specs.declared.man_line.TextWhy.{TextWhy}
 use Rattle.chess_text.specs.declared.reader.Stage.{Stage}
 use Rattle.chess_text.specs.declared.reader.Stage.TheVariants as stages
+use Rattle.chess_text.specs.declared.reader.Step.{Step}
+use Rattle.chess_text.specs.declared.reader.Step.TheVariants as steps
 use Rattle.desk_text.specs.Taken.{TakesLines}
 use Rattle.desk_text.specs.Text.{Text, Reading, whole, refused, AfterLine, IsTextOf, ReadsLines, is_end}
 use Rattle.desk_text.specs.TextRead.{IsMissingOf, TextReadOf}
@@ -69,29 +71,22 @@ fed_more g (stages.Men d) next line are (inr (inr (inr (a, e, inl (m, is, i)))))
     })
 fed_more g (stages.Men d) next line are (inr (inr (inr (a, e, inr (reason, r, i))))) = absurd (cc)
 
--- what the last line of a text is behind, and what the text says then
-pub record IsLast (g : Grammar) (stage : Stage) (line : List ℕ) (d : Draft) : Type 0 where
-  pub feeds : Feeds g stage line (turnouts.complete d)
-  pub says : IsDraftOf g d
-  pub lines : line_due stage ≡ length d.men + 3
+-- what the reader of a text has answered
+module _ (g kind : Grammar) (stage : Stage) (line : List ℕ) (same : kind ≡ g) where
+  abbrev Fed : Turnout → Grammar → Type 0
+  Fed turnout k = Feeds k stage line turnout
 
-pub fed_last : (g : Grammar) (stage : Stage) (line : List ℕ) (d : Draft) → AreMen g stage → Feeds g stage line (turnouts.complete d) → IsLast g stage line d
-fed_last g stages.Header line d are (inl (e, i)) = absurd (cc)
-fed_last g stages.Header line d are (inr (e, i)) = absurd (cc)
-fed_last g stages.Turn line d are (inl (s, w, e, i)) = absurd (cc)
-fed_last g stages.Turn line d are (inr (e, i)) = absurd (cc)
-fed_last g (stages.Men so_far) line d are (inl (a, e, i)) = absurd (cc)
-fed_last g (stages.Men so_far) line d are (inr (inl (low, e, i))) =
-    let same : d ≡ so_far = cc in
-    let P : Draft → Type 0 = λ k. IsLast g (stages.Men so_far) line k in
-    subst P (sym same) (record {
-      feeds = inr (inl (low, e, refl));
-      says = record { low = low; high = are.0; fit = are.1 };
-      lines = refl;
-    })
-fed_last g (stages.Men so_far) line d are (inr (inr (inl (a, e, i)))) = absurd (cc)
-fed_last g (stages.Men so_far) line d are (inr (inr (inr (a, e, inl (m, is, i))))) = absurd (cc)
-fed_last g (stages.Men so_far) line d are (inr (inr (inr (a, e, inr (reason, r, i))))) = absurd (cc)
+  pub answer_more : (to : Step) (reader : Progress) → to ≡ steps.More → Reads kind stage line (Ok to) reader
+      → Feeds g stage line (turnouts.more reader.stage) × (reader.end ≡ None)
+  answer_more steps.More reader is reads = (subst (Fed (turnouts.more reader.stage)) same reads.0, reads.1)
+  answer_more steps.Whole reader is reads = absurd (cc)
+
+  pub answer_whole : (to : Step) (reader : Progress) (d : Draft) → to ≡ steps.Whole → reader.stage ≡ stages.Men d → Reads kind stage line (Ok to) reader
+      → Feeds g stage line (turnouts.complete d)
+  answer_whole steps.More reader d is says reads = absurd (cc)
+  answer_whole steps.Whole reader d is says reads =
+      let At : Stage → Type 0 = λ s. IsFed kind stage line (Ok steps.Whole) s in
+      subst (Fed (turnouts.complete d)) same (subst At says reads.0)
 
 -- what is known of the bytes behind those taken, or nothing
 pub known_rest : (after : Option (List ℕ)) → IfSome after (λ told. told ≡ unwrap_or after [])

@@ -1,7 +1,7 @@
-use Rattle.std.proofs.Common.{◌≡◌, None, sym, ◌∙◌, arith}
+use Rattle.std.proofs.Common.{◌≡◌, None, ◌∙◌, arith}
 use Rattle.chess_text.specs.PositionText.{Feeds}
 use Rattle.chess_text.specs.PositionText as turnouts
-use Rattle.desk_text.proofs.TextSteps.{fed_more, line_read, goes_on, is_whole, is_wrong, is_missing, is_cut, is_long, is_fault}
+use Rattle.desk_text.proofs.TextSteps.{answer_more, answer_whole, fed_more, line_read, goes_on, is_whole, is_wrong, is_missing, is_cut, is_long, is_fault}
 use Rattle.desk_text.proofs.text.read_text.Goals as goal
 
 pub loop-text-preserved : goal.loop-text-preserved
@@ -9,7 +9,8 @@ loop-text-preserved g c =
     let inv = c.loop-text.invariant in
     let call = c.in-Ok-Full.ensures in
     let more : Feeds c.args.grammar c.loop-text.text.stage c.line.result.now (turnouts.more c.feed_line.new.self.stage) × (c.feed_line.new.self.end ≡ None) =
-    rw (inv.grammar, c.in-Ok-More.field-0-is) at (c.in-Ok-More.ensures.reads inv.goes_on_text) in
+    answer_more c.args.grammar _ c.loop-text.text.stage c.line.result.now inv.grammar c.in-Ok-More.field-0 c.feed_line.new.self c.in-Ok-More.field-0-is
+    (c.in-Ok-More.ensures.reads inv.goes_on_text) in
     let step = fed_more c.args.grammar c.loop-text.text.stage c.feed_line.new.self.stage c.line.result.now inv.men more.0 in
     record {
       goes_on = rw c.in-Ok-Full.field-0-is at (call.stops inv.goes_on);
@@ -27,8 +28,9 @@ pub returns-in-Ok-Whole-clause-reads : goal.returns-in-Ok-Whole-clause-reads
 returns-in-Ok-Whole-clause-reads g c =
     let inv = c.loop-text.invariant in
     let call = c.in-Ok-Full.ensures in
-    let fed = rw (inv.grammar, c.in-Ok-Whole.field-0-is, c.whole_text.ensures.draft.says) at (c.in-Ok-Whole.ensures.reads inv.goes_on_text) in
-    let last : Feeds c.args.grammar c.loop-text.text.stage c.line.result.now (turnouts.complete c.whole_text.result.draft) = fed.0 in
+    let last : Feeds c.args.grammar c.loop-text.text.stage c.line.result.now (turnouts.complete c.whole_text.result.draft) =
+    answer_whole c.args.grammar _ c.loop-text.text.stage c.line.result.now inv.grammar c.in-Ok-Whole.field-0 c.feed_line.new.self c.whole_text.result.draft
+    c.in-Ok-Whole.field-0-is c.whole_text.ensures.draft.says (c.in-Ok-Whole.ensures.reads inv.goes_on_text) in
     is_whole _ _ _ _ _ _ _ _ _ (rw (← c.line_due-number.ensures, ← c.whole_text.ensures.lines) at inv.so_far) _ (rw c.in-Ok-Full.field-0-is at (call.lines inv.goes_on))
     (line_read _ c.loop-text.reader.line _ (rw c.in-Ok-Full.field-0-is at (call.line inv.goes_on))) c.whole_text.result.draft call.within
     (rw c.line.ensures at last)
