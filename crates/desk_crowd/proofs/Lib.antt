@@ -1,0 +1,3 @@
+mod Drafted
+mod NoText
+pub mod Rows
