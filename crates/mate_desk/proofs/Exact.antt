@@ -2,7 +2,7 @@
 use Rattle.std.proofs.Common.{◌≡◌, ◌↔◌, ◌⊎◌, ℕ, List, Result, Ok, inl, inr, refl, ap, sym, subst, ◌∙◌, get_or, arith}
 use Rattle.desk_base.specs.Files.{Files}
 use Rattle.desk_base.specs.Lines.{Lines, lines_of}
-use Rattle.game_rules.specs.Game.{Sound, Value}
+use Rattle.game_rules.specs.Game.{Position, Sound, Value}
 use Rattle.chess_game.proofs.UnsoundnessLemmas.{unsound_refuted}
 use Rattle.chess_text.specs.declared.reader.Stage.TheVariants.{Header}
 use Rattle.lin_formula.specs.Tree.{Tree}
@@ -14,9 +14,11 @@ use Rattle.desk_solve.specs.Decide.{DecideReports, IsExact}
 use Rattle.mate_desk.specs.Laws.{AnswersExactly, DecidesExactly, ReportsAnswer}
 use Rattle.desk_words.specs.Order.{Ordered}
 use Rattle.desk_report.specs.Outcome.{Report}
-use Rattle.mate_desk.specs.Command.{OfRead, OfSound, OfText}
+use Rattle.desk_report.specs.declared.status.Status.TheVariants as is
+use Rattle.desk_report.specs.OfText.{OfLines, OfRead, OfSound}
+use Rattle.mate_desk.specs.Command.{OfText}
 use Rattle.mate_desk.specs.Report.{Reports, ReportsOrder, ReportsWords}
-use Rattle.desk_text.specs.Text.{Text, TextAt, whole}
+use Rattle.desk_text.specs.Text.{IsTextOf, Reading, Text, TextAt, problems, whole}
 use Rattle.desk_verdict.specs.Verdict.{IsVerdict, mate_line, no_mate_line}
 use Rattle.desk_words.specs.declared.order.Order.{Order}
 use Rattle.desk_words.specs.declared.order.Order.TheVariants.{Decide, Arith}
@@ -27,14 +29,31 @@ use Rattle.desk_text.proofs.OneText.{once_text}
 
 -- what is reported of the text of a sound problem is what its order says
 pub of_sound : (says : Report → Type 0) (files : Files) (problem : Problem) (report : Report) → Sound problem.position → OfSound says files problem.position report → says report
-of_sound says files problem report sound (inl (why, fault, is)) = absurd (unsound_refuted why problem.position fault sound)
+of_sound says files problem report sound (inl (why, fault, is')) = absurd (unsound_refuted why problem.position fault sound)
 of_sound says files problem report sound (inr (also, right)) = right
+
+done_sound : (says : Report → Type 0) (files : Files) (p : Position) (report : Report) → report.status ≡ is.Done → OfSound says files p report → says report
+done_sound says files p report done (inl (why, fault, is')) = absurd (let other : is.Unsound ≡ is.Done = sym (ap (λ r. r.status) is') ∙ done in cc)
+done_sound says files p report done (inr (sound, right)) = right
+
+-- what is reported of the lines that begin with a text is what is reported of the problem that it says
+module _ (r : Reading Problem) (says : Problem → Lines → Report → Type 0) (files : Files) (lines : Lines) (problem : Problem) (rest : Lines) (report : Report)
+    (at : IsTextOf r lines (whole problem rest)) where
+  as_read : OfLines r says files lines report → OfSound (says problem rest) files problem.position report
+  as_read read =
+      let Q : Text Problem → Type 0 = λ t. OfRead says files t report in
+      subst Q (once_text r Header 1 lines read.0 (whole problem rest) read.1 at) read.2
+
+  pub of_lines : Sound problem.position → OfLines r says files lines report → says problem rest report
+  of_lines sound read = of_sound (says problem rest) files problem report sound (as_read read)
+
+  -- and where it is done, its position is sound
+  pub done_text : report.status ≡ is.Done → OfLines r says files lines report → says problem rest report
+  done_text done read = done_sound (says problem rest) files problem.position report done (as_read read)
 
 pub of_text : (says : Problem → Lines → Report → Type 0) (files : Files) (bytes : List ℕ) (problem : Problem) (rest : Lines) (report : Report)
     → TextAt bytes (whole problem rest) → Sound problem.position → OfText says files bytes report → says problem rest report
-of_text says files bytes problem rest report at sound read =
-    let Q : Text → Type 0 = λ t. OfRead says files t report in
-    of_sound (says problem rest) files problem report sound (subst Q (once_text Header 1 (lines_of bytes) read.0 (whole problem rest) read.1 at) read.2)
+of_text says files bytes problem rest report at sound read = of_lines problems says files (lines_of bytes) problem rest report at sound read
 
 -- what is reported of words is what is reported of the order that they are
 pub of_words : (words : List (List ℕ)) (bytes : List ℕ) (files : Files) (order : Order) (report : Report) → Ordered words (Ok order)

@@ -29,7 +29,8 @@ use Rattle.desk_files.specs.Keeping.{FileReports}
 use Rattle.desk_files.specs.Migrate.{IsMigrated, MigrateReports, migrated_file}
 use Rattle.mate_desk.specs.Laws.{CheckedAfterKeep, HasKept, IsCarried, MigrateCarries, NamesCheckStep, ResumeKeeps, ResumesGame}
 use Rattle.desk_report.specs.Outcome.{Report, Seen, done_with}
-use Rattle.mate_desk.specs.Command.{OfName, OfRead, OfSound}
+use Rattle.desk_report.specs.OfText.{OfRead, OfSound}
+use Rattle.mate_desk.specs.Command.{OfName}
 use Rattle.desk_games.specs.Resume.{GameReports, ResumeReports}
 use Rattle.desk_text.specs.Text.{Text, whole, refused}
 use Rattle.desk_verdict.specs.Verdict.{mate_line}
@@ -101,7 +102,7 @@ module _ (n budget : ℕ) (name : List ℕ) (files given : Files) (report : Repo
   sound_leaves problem rest (inl (why, fault, is')) = let e : is.Done ≡ is.Unsound = sym done ∙ ap (λ r. r.status) is' in absurd (cc)
   sound_leaves problem rest (inr (sound, right)) = keep_leaves problem sound right
 
-  text_leaves : (text : Text) → OfRead Says given text report → Leaves n name files given
+  text_leaves : (text : Text Problem) → OfRead Says given text report → Leaves n name files given
   text_leaves (refused number why) is' = let e : is.Done ≡ is.Text = sym done ∙ ap (λ r. r.status) is' in absurd (cc)
   text_leaves (whole problem rest) right = sound_leaves problem rest right
 

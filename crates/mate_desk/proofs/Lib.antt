@@ -1,7 +1,7 @@
+pub mod Crowds
 pub mod Defended
 pub mod Exact
 pub mod Faultless
-pub mod FirstFault
 pub mod Following
 pub mod Headline
 pub mod KeptLaws

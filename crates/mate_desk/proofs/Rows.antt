@@ -4,59 +4,37 @@ use Rattle.std.proofs.Common.{◌≡◌, ℕ, List, false, Option, Some, None, R
 use Rattle.std.specs.Prelude.{slice_get}
 use Rattle.desk_base.specs.Files.{Files}
 use Rattle.desk_base.specs.Lines.{Lines, lines_of}
-use Rattle.game_rules.specs.Game.{Position, Sound}
 use Rattle.chess_game.specs.Unsoundness.{IsFirstUnsoundness}
 use Rattle.chess_game.specs.declared.unsoundness.Unsound.{Unsound}
-use Rattle.chess_game.proofs.UnsoundnessLemmas.{unsound_refuted}
-use Rattle.chess_text.specs.declared.reader.Stage.TheVariants.{Header}
 use Rattle.desk_arith.proofs.Once.{arith_row}
+use Rattle.desk_crowd.proofs.Rows.{crowd_row}
 use Rattle.desk_describe.proofs.Rows.{describe_row}
 use Rattle.desk_files.proofs.Rows.{check_row, keep_row, migrate_row}
 use Rattle.desk_games.proofs.Rows.{defend_row, play_row, resume_row}
 use Rattle.desk_report.specs.FaultLines.{unsound_line}
 use Rattle.desk_report.specs.Outcome.{Report, refusal_as}
 use Rattle.desk_report.specs.declared.status.Status.TheVariants as is
-use Rattle.desk_report.proofs.One.{IsNotUsage, IsOne, and_row, due_of_row, due_row, either_row, said_row}
+use Rattle.desk_report.proofs.One.{IsNotUsage, IsOne}
+use Rattle.desk_report.proofs.TextRows.{text_row as one_text}
 use Rattle.desk_solve.proofs.Drilled.{drill_row}
 use Rattle.desk_solve.proofs.Listing.{first_row}
 use Rattle.desk_solve.proofs.Rows.{decide_row, least_row}
-use Rattle.desk_text.specs.Text.{Text, TextAt, whole, refused, is_end, refusal_line}
+use Rattle.desk_text.specs.Text.{TextAt, is_end, problems, refusal_line, refused, whole}
 use Rattle.desk_text.specs.declared.problem.Problem.{Problem}
 use Rattle.desk_text.specs.declared.text.LineWhy.{LineWhy}
-use Rattle.desk_text.proofs.OneText.{once_text}
 use Rattle.desk_words.specs.Order.{as_order}
 use Rattle.desk_words.specs.declared.order.Order.{Order}
-use Rattle.desk_words.specs.declared.order.Order.TheVariants.{Decide, Least, First, Describe, Play, Defend, Keep, Check, Resume, Migrate, Show, Drill, Arith}
+use Rattle.desk_words.specs.declared.order.Order.TheVariants.{Decide, Least, First, Describe, Play, Defend, Keep, Crowd, Check, Resume, Migrate, Show, Drill, Arith}
 use Rattle.desk_words.specs.declared.order.TextOrder.{TextOrder}
 use Rattle.desk_words.specs.declared.order.TextOrder.TheVariants as text_orders
 use Rattle.desk_words.specs.declared.order.UsageWhy.{UsageWhy}
 use Rattle.desk_words.proofs.OneOrder.{once_words}
-use Rattle.mate_desk.specs.Command.{Command, IsBehindText, OfName, OfRead, OfSound, OfText, of_file, of_files, of_lines, of_text, of_text_to_keep, of_words}
+use Rattle.mate_desk.specs.Command.{Command, IsBehindText, OfName, OfText, of_file, of_files, of_lines, of_text, of_text_to_keep, of_words}
 use Rattle.mate_desk.specs.Laws.{OneReport}
 use Rattle.mate_desk.specs.Report.{IsOfText, ReadsNoText, ReportsOrder, ReportsWords, command_of}
-use Rattle.mate_desk.proofs.FirstFault.{once_fault}
 use Rattle.mate_desk.proofs.Shown.{show_row}
 
--- what is reported of a text is one report, where it is so of each problem
-sound_row : (says : Report → Type 0) (files : Files) (p : Position) → IsOne says → IsOne (OfSound says files p)
-sound_row says files p one =
-    either_row
-    (due_of_row (IsFirstUnsoundness p) (λ why. refusal_as files is.Unsound (unsound_line why) false) (λ why e. absurd (cc))
-    (λ e f a b. ap (λ why. refusal_as files is.Unsound (unsound_line why) false) (once_fault a b)))
-    (and_row (Sound p) one)
-    (λ r s fault sound. unsound_refuted fault.0 p fault.1 sound.0)
-
-read_row : (says : Problem → Lines → Report → Type 0) (files : Files) → ((problem : Problem) (rest : Lines) → IsOne (says problem rest))
-    → (text : Text) → IsOne (OfRead says files text)
-read_row says files one (refused number why) = due_row (refusal_as files is.Text (refusal_line number why) (is_end why)) (λ e. absurd (cc))
-read_row says files one (whole problem rest) = sound_row (says problem rest) files problem.position (one problem rest)
-
-bytes_row : (says : Problem → Lines → Report → Type 0) (files : Files) → ((problem : Problem) (rest : Lines) → IsOne (says problem rest))
-    → (bytes : List ℕ) → IsOne (OfText says files bytes)
-bytes_row says files one bytes =
-    said_row (TextAt bytes) (OfRead says files) (λ a b h k. once_text Header 1 (lines_of bytes) a b h k) (read_row says files one)
-
--- so it is with what is reported of a name, where it is so of each
+-- what is reported of a name is one report, where it is so of each
 name_row : (name : Option (List ℕ)) (says : List ℕ → Report → Type 0) → ((n : List ℕ) → IsOne (says n)) → IsOne (OfName name says)
 name_row (Some n) says one = one n
 name_row None says one = record { not_usage = λ report none. absurd none; once = λ r s none. absurd none }
@@ -88,7 +66,7 @@ pub record IsInOrder (c : Command) : Type 0 where
 text_row : {says : Problem → Lines → Files → Report → Type 0} {takes : Problem → Type 0}
     → ((problem : Problem) (rest : Lines) (files : Files) → IsOne (says problem rest files)) → IsInOrder (of_text says takes)
 text_row {says} {takes} one = record {
-  one = λ words bytes files. bytes_row (λ problem rest. says problem rest files) files (λ problem rest. one problem rest files) bytes;
+  one = λ words bytes files. one_text problems (λ problem rest. says problem rest files) files (λ problem rest. one problem rest files) (lines_of bytes);
   no_shelf = λ words taken files keeping none misses. misses;
   behind = λ taken of lack. lack;
   refuses = λ of words. refuses_as says ((of_text says takes).reports words) (λ bytes files report right. right);
@@ -99,8 +77,8 @@ text_to_keep_row : {says : Problem → List ℕ → Files → Report → Type 0}
     → ((problem : Problem) (name : List ℕ) (files : Files) → IsOne (says problem name files)) → IsInOrder (of_text_to_keep says takes has_file)
 text_to_keep_row {says} {takes} {has_file} one = record {
   one = λ words bytes files.
-      bytes_row (λ problem rest. OfName (slice_get words 2) (λ n. says problem n files)) files
-      (λ problem rest. name_row (slice_get words 2) (λ n. says problem n files) (λ n. one problem n files)) bytes;
+      one_text problems (λ problem rest. OfName (slice_get words 2) (λ n. says problem n files)) files
+      (λ problem rest. name_row (slice_get words 2) (λ n. says problem n files) (λ n. one problem n files)) (lines_of bytes);
   no_shelf = λ words taken files keeping none misses. absurd none;
   behind = λ taken of lack. lack;
   refuses = λ of words.
@@ -159,6 +137,7 @@ in_order (Describe n budget) = text_row (λ problem rest files. describe_row n b
 in_order (Play n budget) = text_row (λ problem rest files. play_row n budget problem rest files)
 in_order (Defend n budget) = text_row (λ problem rest files. defend_row n budget problem rest files)
 in_order (Keep n budget) = text_to_keep_row (λ problem name files. keep_row n budget problem name files)
+in_order (Crowd n budget) = lines_row (λ lines files. crowd_row n budget lines files)
 in_order (Check budget) = file_row (λ lines name files. check_row budget name files)
 in_order (Resume budget) = file_row (λ lines name files. resume_row budget lines name files)
 in_order Migrate = files_row (λ from to files. migrate_row from to files)

@@ -17,7 +17,7 @@ use Rattle.desk_report.specs.declared.status.Status.{Status}
 use Rattle.desk_report.specs.declared.status.Status.TheVariants as is
 use Rattle.std.proofs.Common.{append_assoc}
 use Rattle.chess_text.specs.declared.reader.Stage.TheVariants.{Header}
-use Rattle.desk_text.specs.Text.{TextAt}
+use Rattle.desk_text.specs.Text.{TextAt, problems}
 use Rattle.desk_text.proofs.OneText.{once_text}
 use Rattle.game_rules.specs.Game.{Sound}
 use Rattle.desk_words.proofs.OneOrder.{once_words}
@@ -96,12 +96,12 @@ ordered_not_usage words order status old new ordered run usage =
 same_problem : (problem : Problem) (rest : Lines) (input taken more : List ℕ) (Holds : Problem → Type 0) → TextAt input (whole problem rest) → input ≡ taken ++ more
     → IsBehindText Holds taken → Sound problem.position × Holds problem
 same_problem problem rest input taken more Holds at is lack =
-    let before = text_more lack.problem ended lack.front lack.text in
+    let before = text_more problems lack.problem ended lack.front lack.text in
     let behind = before.behind ++ (lack.pending ++ more) in
     let Q : List ℕ → Type 0 = λ b. TextAt b (whole lack.problem (lines_of behind)) in
     let bytes : lack.front ++ (lack.pending ++ more) ≡ input = sym (append_assoc lack.front lack.pending more) ∙ ap (λ b. b ++ more) (sym lack.bytes) ∙ sym is in
     let told : TextAt input (whole lack.problem (lines_of behind)) = subst Q bytes (before.reads (lack.pending ++ more)) in
-    let texts = once_text Header 1 (lines_of input) (whole lack.problem (lines_of behind)) (whole problem rest) told at in
+    let texts = once_text problems Header 1 (lines_of input) (whole lack.problem (lines_of behind)) (whole problem rest) told at in
     let same : lack.problem ≡ problem = cc in
     let IsSound : Problem → Type 0 = λ p. Sound p.position in
     (subst IsSound same lack.sound, subst Holds same lack.holds)

@@ -9,7 +9,7 @@ use Rattle.game_rules.specs.Game.{Position}
 use Rattle.game_rules.specs.declared.men.Side.{Side}
 use Rattle.chess_text.specs.PositionText.{position_text}
 use Rattle.chess_text.specs.declared.reader.Stage.TheVariants.{Header}
-use Rattle.desk_text.specs.Text.{Text, TextAt, refused, whole}
+use Rattle.desk_text.specs.Text.{Text, TextAt, problems, refused, whole}
 use Rattle.desk_text.specs.TextLaws.{text_problem}
 use Rattle.desk_text.specs.declared.problem.Problem.{Problem}
 use Rattle.desk_text.proofs.MoreLines.{text_more}
@@ -23,7 +23,8 @@ use Rattle.desk_words.specs.declared.order.Order.{Order}
 use Rattle.desk_words.specs.declared.order.Order.TheVariants as orders
 use Rattle.desk_games.specs.Defend.{DefendReports}
 use Rattle.desk_games.specs.Play.{PlayReports}
-use Rattle.mate_desk.specs.Command.{OfRead, OfSound, OfText}
+use Rattle.desk_report.specs.OfText.{OfRead, OfSound}
+use Rattle.mate_desk.specs.Command.{OfText}
 use Rattle.mate_desk.specs.Laws.{Causes, DecideEnds, DefendsGame, DefendWrites, GameWrites, IsTold, IsWritten, PlaysGame, PlaysTaken, PlayWrites, WritesGame, WritesTaken}
 use Rattle.mate_desk.specs.Report.{Reports, ReportsOrder, UsesNoShelf}
 use Rattle.mate_desk.specs.Run.{RunEnds}
@@ -143,12 +144,12 @@ module _ (words : List (List ℕ)) (order : Order) (Says Plays : Problem → Lin
         let Right : Problem → Type 0 = λ q. OfSound (SaysHere q lines) files q.position report in
         inr (lines, subst At same at, plays first lines files report (of_sound (SaysHere first lines) files first report told.sound (subst Right same right)))
 
-    taken_plays : (text : Text) → TextAt taken text → OfRead SaysHere files text report → PlaysTaken Plays first taken files report
+    taken_plays : (text : Text Problem) → TextAt taken text → OfRead SaysHere files text report → PlaysTaken Plays first taken files report
     taken_plays (refused number why) at is' = inl (number, why, at, ap (λ r. r.text) is')
     taken_plays (whole problem lines) at right =
-        let more = text_more problem lines taken at in
+        let more = text_more problems problem lines taken at in
         let behind = lines_of (more.behind ++ rest) in
-        let texts = once_text Header 1 (lines_of (taken ++ rest)) (whole problem behind) (whole first (lines_of told.behind)) (more.reads rest) input in
+        let texts = once_text problems Header 1 (lines_of (taken ++ rest)) (whole problem behind) (whole first (lines_of told.behind)) (more.reads rest) input in
         let same : problem ≡ first = cc in
         as_first problem lines same at right
 

@@ -1,44 +1,20 @@
 -- What a run of an order comes to, by what the order is of.
-use Rattle.std.specs.Prelude.{◌≡◌, ◌⊎◌, ℕ, ◌≤◌, List, [], ◌++◌, length, false, Option, Some, IsSomeAnd, slice_get}
+use Rattle.std.specs.Prelude.{◌≡◌, ℕ, List, [], Option, Some, IsSomeAnd, slice_get}
 use Rattle.desk_base.specs.Files.{Files}
-use Rattle.desk_base.specs.Lines.{Lines, ended, lines_of}
-use Rattle.game_rules.specs.Game.{Position, Sound}
-use Rattle.chess_game.specs.Unsoundness.{IsFirstUnsoundness}
-use Rattle.chess_game.specs.declared.unsoundness.Unsound.{Unsound}
+use Rattle.desk_base.specs.Lines.{Lines, lines_of}
 use Rattle.desk_files.specs.FileClaim.{MissesFetch}
-use Rattle.desk_report.specs.FaultLines.{unsound_line}
-use Rattle.desk_report.specs.Outcome.{NeverMisses, Report, refusal_as}
-use Rattle.desk_text.specs.Text.{Text, TextAt, whole, refused, is_end, refusal_line}
+use Rattle.desk_report.specs.OfText.{IsBehindTextOf, OfLines}
+use Rattle.desk_report.specs.Outcome.{NeverMisses, Report}
+use Rattle.desk_text.specs.Text.{problems}
 use Rattle.desk_text.specs.declared.problem.Problem.{Problem}
-use Rattle.desk_report.specs.declared.status.Status.TheVariants as is
-
--- the report on a position is that it is not sound, or else what `reports` says
-abbrev pub OfSound : (Report → Type 0) → Files → Position → Report → Type 0
-OfSound reports files p report =
-    ((why : Unsound) × IsFirstUnsoundness p why × (report ≡ refusal_as files is.Unsound (unsound_line why) false))
-    ⊎ (Sound p × reports report)
-
--- the report on a text is that it is refused, or else what `reports` says of the problem, where it is sound, and of the
--- lines behind it
-abbrev pub OfRead : (Problem → Lines → Report → Type 0) → Files → Text → Report → Type 0
-OfRead reports files (refused number why) report =
-    report ≡ refusal_as files is.Text (refusal_line number why) (is_end why)
-OfRead reports files (whole problem rest) report = OfSound (reports problem rest) files problem.position report
 
 -- the report on the text at the front of these bytes
 abbrev pub OfText : (Problem → Lines → Report → Type 0) → Files → List ℕ → Report → Type 0
-OfText reports files bytes report = (text : Text) × TextAt bytes text × OfRead reports files text report
+OfText reports files bytes report = OfLines problems reports files (lines_of bytes) report
 
--- The bytes taken are the text of a sound position, of which this holds, and at most 256 behind it.
-pub record IsBehindText (Holds : Problem → Type 0) (taken : List ℕ) : Type 0 where
-  pub problem : Problem
-  pub sound : Sound problem.position
-  pub holds : Holds problem
-  pub front : List ℕ
-  pub pending : List ℕ
-  pub text : TextAt front (whole problem ended)
-  pub bytes : taken ≡ front ++ pending
-  pub few : length pending ≤ 256
+-- the bytes taken are the text of a sound position, of which this holds, and at most 256 behind it
+abbrev pub IsBehindText : (Holds : Problem → Type 0) → (taken : List ℕ) → Type 0
+IsBehindText Holds taken = IsBehindTextOf problems Holds taken
 
 -- where the shelf may fail while it keeps a file: the words name it, and there is a file to keep of the text that was
 -- taken

@@ -22,6 +22,7 @@ use Rattle.defence_report.specs.LoserRules.{loser_rules}
 use Rattle.mate_plan.specs.Claim.{Claim}
 use Rattle.winning_sets.specs.Reach.{Reach}
 use Rattle.winning_sets.specs.declared.names.StepName.{StepName}
+use Rattle.desk_crowd.specs.Crowd.{ExceedsPlan, crowd_texts, step_line as crowd_line}
 use Rattle.desk_solve.specs.Decide.{IsExact}
 use Rattle.claim_plan.specs.CheckPlan.{check_plan}
 use Rattle.claim_plan.specs.SameClaims.{IsSameClaim}
@@ -39,7 +40,7 @@ use Rattle.desk_games.specs.Play.{as_played, first_match}
 use Rattle.mate_desk.specs.Report.{IsOfText, MayLackMemory, Reports, TakesMemory, UsesNoShelf}
 use Rattle.desk_games.specs.Resume.{claimed_match}
 use Rattle.mate_desk.specs.Run.{RunEnds}
-use Rattle.desk_text.specs.Text.{TextAt, refused, whole}
+use Rattle.desk_text.specs.Text.{IsTextOf, TextAt, refused, whole}
 use Rattle.desk_text.specs.TextLaws.{text_problem}
 use Rattle.desk_text.specs.declared.text.LineWhy.{LineWhy}
 use Rattle.desk_verdict.specs.Verdict.{ExceedsAt, mate_line, no_mate_line}
@@ -143,6 +144,50 @@ DecidesExactly =
     → Sound problem.position
     → Reports words bytes files report
     → IsExact n budget problem report
+
+-- What `crowd` reports of a sound crowd: the first step that exceeds the budget, or that the winner mates within n moves
+-- of his own, where he does, and that he does not, where he does not.
+abbrev pub DecidesCrowd : (n budget : ℕ) → Problem → Files → Report → Type 0
+DecidesCrowd n budget problem files =
+    FirstOver crowd_line (ExceedsPlan problem budget n)
+    (λ report.
+    (Value problem.winner n problem.position × (report ≡ done_with files (mate_line n)))
+    ⊎ ((Value problem.winner n problem.position → ⊥) × (report ≡ done_with files (no_mate_line n)))) files
+
+-- each report of `crowd` on the text of a sound crowd
+abbrev pub CrowdDecides : Type 0
+CrowdDecides =
+    (words : List (List ℕ)) (bytes : List ℕ) (files : Files) (n budget : ℕ) (problem : Problem) (rest : Lines)
+    (report : Report)
+    → Ordered words (Ok (orders.Crowd n budget))
+    → IsTextOf crowd_texts (lines_of bytes) (whole problem rest)
+    → Sound problem.position
+    → Reports words bytes files report
+    → DecidesCrowd n budget problem files report
+
+-- Two inputs begin with texts of one position and one winner: the one with a position text, the other with a crowd's.
+pub record AreOfOne (bytes input : List ℕ) : Type 0 where
+  pub problem : Problem
+  pub rest : Lines
+  pub text : TextAt bytes (whole problem rest)
+  pub crowd : Problem
+  pub behind : Lines
+  pub crowd_text : IsTextOf crowd_texts (lines_of input) (whole crowd behind)
+  pub position : crowd.position ≡ problem.position
+  pub winner : crowd.winner ≡ problem.winner
+
+-- what `decide` reports of the one and `crowd` of the other is one report, where both are done
+abbrev pub CrowdAgrees : Type 0
+CrowdAgrees =
+    (words later : List (List ℕ)) (bytes input : List ℕ) (files : Files) (n budget other : ℕ) (one two : Report)
+    → Ordered words (Ok (orders.Decide n budget))
+    → Ordered later (Ok (orders.Crowd n other))
+    → AreOfOne bytes input
+    → Reports words bytes files one
+    → Reports later input files two
+    → one.status ≡ is.Done
+    → two.status ≡ is.Done
+    → one ≡ two
 
 -- After the winner's move of this number, counted from 0, of a game that began with the problem: legal moves have led
 -- to the position, the move is one of his n, and the loser is mated within those that he has left.

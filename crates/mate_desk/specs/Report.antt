@@ -2,6 +2,7 @@
 use Rattle.std.specs.Prelude.{◌≡◌, ℕ, ◌<◌, List, false, Option, Result, Ok, Err}
 use Rattle.desk_base.specs.Files.{Files}
 use Rattle.desk_arith.specs.Arith.{ArithReports, IsBehindLine}
+use Rattle.desk_crowd.specs.Crowd.{CrowdSays, IsBehindCrowd}
 use Rattle.desk_describe.specs.Describe.{DescribeReports}
 use Rattle.desk_files.specs.Check.{CheckReports}
 use Rattle.desk_solve.specs.Decide.{DecideReports}
@@ -40,6 +41,7 @@ command_of (orders.Defend n budget) = of_text (λ problem rest. DefendReports n 
 command_of (orders.Keep n budget) =
     of_text_to_keep (λ problem name. KeepReports n budget problem name) (λ problem. ¬ HasNothingToPlay n problem)
     (HasFileToKeep n budget)
+command_of (orders.Crowd n budget) = of_lines (λ lines. CrowdSays n budget lines) IsBehindCrowd
 command_of (orders.Check budget) = of_file (λ lines name. CheckReports budget name) (Unit {0})
 command_of (orders.Resume budget) = of_file (λ lines name. ResumeReports budget lines name) ⊥
 command_of orders.Migrate = of_files MigrateReports MissesMigrate

@@ -9,6 +9,7 @@ use crate::show::show;
 use chess_game::soundness;
 use desk_arith::arith::arith;
 use desk_base::{LineReader, Shelf, Sink, Source};
+use desk_crowd::crowd::crowd;
 use desk_describe::describe::describe;
 use desk_files::check::check;
 use desk_files::keep::keep;
@@ -25,8 +26,8 @@ use desk_text::{FileTask, TextEnd, read_problem};
 use desk_words::{Asked, TextOrder, order_of};
 use std::alloc::Global;
 
-/// Does what the words say, with the position text at the front of the source and the replies behind it, with a file that was kept, or with a formula
-/// typed as a line, and writes the answer to the sink.
+/// Does what the words say, with the position text at the front of the source and the replies behind it, with a crowd's text, with a file that was
+/// kept, or with a formula typed as a line, and writes the answer to the sink.
 ///
 /// The words come first, then, where the order is of a text, the text line by line, then whether its position is sound, then the sets, the files and
 /// the answer; the first refusal ends the run with its one fault line. Where writing that line fails, the status stays the refusal's.
@@ -55,6 +56,7 @@ pub fn run<S: Source, K: Sink, H: Shelf>(
     };
     match order.asked(words) {
         Asked::Text(order) => answer(alloc, order, source, sink, shelf),
+        Asked::Crowd { moves, budget } => crowd(alloc, moves, budget, source, sink),
         Asked::Check { name, budget } => check(alloc, &FileTask { name, budget }, sink, shelf),
         Asked::Resume { name, budget } => {
             resume(alloc, &FileTask { name, budget }, source, sink, shelf)

@@ -2,7 +2,7 @@
 
 ghost use Rattle.desk_text.specs.TextLaws.{TextIsRead};
 ghost use Rattle.mate_desk.specs.Faultless.{ExactWhereNoneFails};
-ghost use Rattle.mate_desk.specs.Laws.{AnswersExactly, CheckedAfterKeep, DecideEnds, DecidesExactly, DecideWrites, Defends, DefendWrites, FaultsAreCounted, LeastWrites, MemoryLast, MigrateCarries, NoShelfFault, OneReport, PlayKeeps, PlayWrites, ResumeKeeps, UsageExactly};
+ghost use Rattle.mate_desk.specs.Laws.{AnswersExactly, CheckedAfterKeep, CrowdAgrees, CrowdDecides, DecideEnds, DecidesExactly, DecideWrites, Defends, DefendWrites, FaultsAreCounted, LeastWrites, MemoryLast, MigrateCarries, NoShelfFault, OneReport, PlayKeeps, PlayWrites, ResumeKeeps, UsageExactly};
 
 /// A run of `decide` that is done, on the text of a sound position and whatever comes behind it, writes `mate in n` exactly where the side
 /// that the text names as winner mates within n moves of its own, whatever is replied on the whole board, and `no mate in n` exactly where it does not.
@@ -51,6 +51,18 @@ pub fn reports_once()
 /// on the whole board, and `no mate in n` exactly where he does not; or it names the first step that exceeds the budget.
 pub fn decides_exactly()
     ensures { DecidesExactly }
+{}
+
+/// Of the text of a sound crowd `crowd` reports `mate in n` exactly where its winner mates within n moves of his own, whatever is replied on the whole
+/// board, and `no mate in n` exactly where he does not; or it names the first step that exceeds the budget.
+pub fn crowd_decides()
+    ensures { CrowdDecides }
+{}
+
+/// Of the texts of one position and one winner, the one a position text and the other a crowd's, `decide` and `crowd` report the same line for the same
+/// number of moves, where both are done.
+pub fn crowd_agrees()
+    ensures { CrowdAgrees }
 {}
 
 /// Of the text of a sound position whose winner mates within n moves of his own, `play` reports a game with the lines behind the text, and each

@@ -1,9 +1,10 @@
 use Rattle.std.proofs.Common.{◌<◌, map, string_bytes, refl, subst}
 use Rattle.desk_arith.specs.Arith.{ArithReports, IsBehindLine}
+use Rattle.desk_crowd.specs.Crowd.{CrowdSays, IsBehindCrowd}
 use Rattle.desk_solve.specs.Drill.{DrillReports}
 use Rattle.desk_words.specs.Order.{IsAsked, as_order}
 use Rattle.desk_words.specs.declared.order.Asked.{Asked}
-use Rattle.desk_words.specs.declared.order.Order.TheVariants.{Check, Resume, Migrate, Drill, Arith}
+use Rattle.desk_words.specs.declared.order.Order.TheVariants.{Crowd, Check, Resume, Migrate, Drill, Arith}
 use Rattle.mate_desk.proofs.Reporting.{check_ends, lines_ends, lines_not_usage, migrate_ends, resume_ends, usage_ends, words_ends}
 use Rattle.mate_desk.proofs.Rows.{text_order}
 use Rattle.mate_desk.proofs.StatusLaws.{no_textless, ordered_not_usage, unused}
@@ -39,6 +40,31 @@ returns-in-Text-clause-shelf_untouched g c = λ other also none.
     let Is : Asked → Type 0 = λ a. IsAsked a words in
     let o = subst Is c.in-Text.is c.asked.ensures.asked in
     c.answer.ensures.shelf_untouched (unused words _ o.ordered other also none)
+
+pub returns-in-Crowd-clause-ends : goal.returns-in-Crowd-clause-ends
+returns-in-Crowd-clause-ends g c =
+    let words = map string_bytes c.args.words.now.items in
+    let Is : Asked → Type 0 = λ a. IsAsked a words in
+    let o = subst Is c.in-Crowd.is c.asked.ensures.asked in
+    let moves = c.in-Crowd.moves in
+    let budget = c.in-Crowd.budget in
+    lines_ends words _ _ c.crowd.result (Crowd moves budget) (λ lines. CrowdSays moves budget lines) IsBehindCrowd o refl (λ bytes files report right. right) (λ taken some. some)
+    c.crowd.ensures.ends
+
+pub returns-in-Crowd-clause-nothing_read : goal.returns-in-Crowd-clause-nothing_read
+returns-in-Crowd-clause-nothing_read g c = λ usage.
+    let words = map string_bytes c.args.words.now.items in
+    let moves = c.in-Crowd.moves in
+    let budget = c.in-Crowd.budget in
+    absurd (lines_not_usage (Crowd moves budget) words (λ lines. CrowdSays moves budget lines) IsBehindCrowd c.crowd.result (λ bytes files report right. right)
+    _ _ _ _ _ _ _ _ c.crowd.ensures.ends usage)
+
+pub returns-in-Crowd-clause-no_text_read : goal.returns-in-Crowd-clause-no_text_read
+returns-in-Crowd-clause-no_text_read g c = λ other also none.
+    let words = map string_bytes c.args.words.now.items in
+    let Is : Asked → Type 0 = λ a. IsAsked a words in
+    let o = subst Is c.in-Crowd.is c.asked.ensures.asked in
+    absurd (no_textless words (Crowd c.in-Crowd.moves c.in-Crowd.budget) o (λ none. none) other also none)
 
 pub returns-in-Check-clause-ends : goal.returns-in-Check-clause-ends
 returns-in-Check-clause-ends g c =
