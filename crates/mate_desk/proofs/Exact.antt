@@ -67,15 +67,15 @@ pub one_line : (n : ℕ) → mate_line n ≡ no_mate_line n → ⊥
 one_line n same = let letters : ◌≡◌ {A = ℕ} 109 110 = ap (λ (line : List ℕ). get_or line 0 0) same in absurd (omega arith)
 
 module _ (n : ℕ) (problem : Problem) (text : List ℕ) where
-  mate_exact : IsVerdict n problem text → (text ≡ mate_line n) ↔ Value problem.winner n problem.position
+  pub mate_exact : IsVerdict n problem text → (text ≡ mate_line n) ↔ Value problem.winner n problem.position
   mate_exact (inl (is, value)) = (λ _. value, λ _. is)
   mate_exact (inr (is, none)) = (λ same. absurd (one_line n (sym same ∙ is)), λ value. absurd (none value))
 
-  no_mate_exact : IsVerdict n problem text → (text ≡ no_mate_line n) ↔ (¬ Value problem.winner n problem.position)
+  pub no_mate_exact : IsVerdict n problem text → (text ≡ no_mate_line n) ↔ (¬ Value problem.winner n problem.position)
   no_mate_exact (inl (is, value)) = (λ same. absurd (one_line n (sym is ∙ same)), λ none. absurd (none value))
   no_mate_exact (inr (is, none)) = (λ _. none, λ _. is)
 
-  one_of_two : IsVerdict n problem text → (text ≡ mate_line n) ⊎ (text ≡ no_mate_line n)
+  pub one_of_two : IsVerdict n problem text → (text ≡ mate_line n) ⊎ (text ≡ no_mate_line n)
   one_of_two (inl (is, value)) = inl is
   one_of_two (inr (is, none)) = inr is
 

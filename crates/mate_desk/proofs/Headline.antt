@@ -58,17 +58,17 @@ module _ (words : List (List ℕ)) (order : Order) (p : Position) (winner : Side
       let told = told_bytes old.written new.written out (reported.text ++ take written.count reported.fault) run.output written.front in
       (told.0, told.1, told.2 ∙ ap (λ l. out ++ l) (ap (λ l. reported.text ++ l) (take_none written.count reported.fault none) ∙ append-nil reported.text))
 
-same_text : (out text all line : List ℕ) → all ≡ out ++ text → (all ≡ out ++ line) ↔ (text ≡ line)
+pub same_text : (out text all line : List ℕ) → all ≡ out ++ text → (all ≡ out ++ line) ↔ (text ≡ line)
 same_text out text all line is = (λ e. append_cancel_left out text line (sym is ∙ e), λ e. is ∙ ap (λ l. out ++ l) e)
 
-through : {A B C : Type 0} → A ↔ B → B ↔ C → A ↔ C
+pub through : {A B C : Type 0} → A ↔ B → B ↔ C → A ↔ C
 through f g = (λ a. g.0 (f.0 a), λ c. f.1 (g.1 c))
 
 answered : (n budget : ℕ) (problem : Problem) (report : Report) → report.status ≡ is.Done → (IsAnswered n report) ⊎ (IsOverBudget n budget problem report) → IsAnswered n report
 answered n budget problem report done (inl a) = a
 answered n budget problem report done (inr b) = let other = b.status in absurd (cc)
 
-one_of : (n : ℕ) (out text all : List ℕ) → all ≡ out ++ text → (text ≡ mate_line n) ⊎ (text ≡ no_mate_line n) → (all ≡ out ++ mate_line n) ⊎ (all ≡ out ++ no_mate_line n)
+pub one_of : (n : ℕ) (out text all : List ℕ) → all ≡ out ++ text → (text ≡ mate_line n) ⊎ (text ≡ no_mate_line n) → (all ≡ out ++ mate_line n) ⊎ (all ≡ out ++ no_mate_line n)
 one_of n out text all is (inl e) = inl (is ∙ ap (λ l. out ++ l) e)
 one_of n out text all is (inr e) = inr (is ∙ ap (λ l. out ++ l) e)
 

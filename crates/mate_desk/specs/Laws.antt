@@ -165,6 +165,17 @@ CrowdDecides =
     → Reports words bytes files report
     → DecidesCrowd n budget problem files report
 
+-- A run of `crowd` that is done, on bytes that begin with a crowd's text, writes one of the two lines.
+abbrev pub CrowdWrites : Type 0
+CrowdWrites =
+    (words : List (List ℕ)) (n budget : ℕ) (input : List ℕ) (problem : Problem) (rest : Lines) (old new : Seen) (out : List ℕ)
+    → Ordered words (Ok (orders.Crowd n budget))
+    → old.left ≡ Some input
+    → IsTextOf crowd_texts (lines_of input) (whole problem rest)
+    → old.written ≡ Some out
+    → RunEnds words is.Done old new
+    → (all : List ℕ) × (new.written ≡ Some all) × WritesVerdict n problem.position problem.winner out all
+
 -- Two inputs begin with texts of one position and one winner: the one with a position text, the other with a crowd's.
 pub record AreOfOne (bytes input : List ℕ) : Type 0 where
   pub problem : Problem

@@ -2,7 +2,7 @@
 
 ghost use Rattle.desk_text.specs.TextLaws.{TextIsRead};
 ghost use Rattle.mate_desk.specs.Faultless.{ExactWhereNoneFails};
-ghost use Rattle.mate_desk.specs.Laws.{AnswersExactly, CheckedAfterKeep, CrowdAgrees, CrowdDecides, DecideEnds, DecidesExactly, DecideWrites, Defends, DefendWrites, FaultsAreCounted, LeastWrites, MemoryLast, MigrateCarries, NoShelfFault, OneReport, PlayKeeps, PlayWrites, ResumeKeeps, UsageExactly};
+ghost use Rattle.mate_desk.specs.Laws.{AnswersExactly, CheckedAfterKeep, CrowdAgrees, CrowdDecides, CrowdWrites, DecideEnds, DecidesExactly, DecideWrites, Defends, DefendWrites, FaultsAreCounted, LeastWrites, MemoryLast, MigrateCarries, NoShelfFault, OneReport, PlayKeeps, PlayWrites, ResumeKeeps, UsageExactly};
 
 /// A run of `decide` that is done, on the text of a sound position and whatever comes behind it, writes `mate in n` exactly where the side
 /// that the text names as winner mates within n moves of its own, whatever is replied on the whole board, and `no mate in n` exactly where it does not.
@@ -57,6 +57,12 @@ pub fn decides_exactly()
 /// board, and `no mate in n` exactly where he does not; or it names the first step that exceeds the budget.
 pub fn crowd_decides()
     ensures { CrowdDecides }
+{}
+
+/// A run of `crowd` that is done, on the text of a crowd and whatever comes behind it, writes `mate in n` exactly where the side that the text names as
+/// winner mates within n moves of its own, whatever is replied on the whole board, and `no mate in n` exactly where it does not.
+pub fn crowd_writes()
+    ensures { CrowdWrites }
 {}
 
 /// Of the texts of one position and one winner, the one a position text and the other a crowd's, `decide` and `crowd` report the same line for the same
