@@ -1,0 +1,4 @@
+pub mod NodeLemmas
+pub mod SetLemmas
+pub mod ItemLemmas
+pub mod AnswerLemmas

@@ -1,0 +1,52 @@
+//! Paths of options, with what stands after them.
+
+ghost use Rattle.line_engine.specs.Nodes.{IsAfterPath, position_of};
+ghost use Rattle.path_formula.specs.Paths.{leg_of};
+ghost use Rattle.std.specs.Prelude.{◌≡◌, ◌∷◌};
+
+use crate::crowd::Crowd;
+use path_formula::{Force, Leg, Scene};
+use rule_formula::Opt;
+
+/// A path of options, the last of which stands first, with its legs, and the men who are live after it and the side to move.
+#[derive(Clone, Copy)]
+pub(crate) struct Node<'a> {
+    pub(crate) crowd: Crowd<'a>,
+    pub(crate) path: &'a [Opt],
+    pub(crate) legs: &'a [Leg],
+    pub(crate) force: Force,
+    ghost is: { IsAfterPath (position_of crowd) path.now legs.now force },
+}
+
+/// A further move of a path: what stands before and after it, and the option by which it goes.
+#[derive(Clone, Copy)]
+pub(crate) struct Step<'a> {
+    pub(crate) before: Node<'a>,
+    pub(crate) after: Node<'a>,
+    pub(crate) option: Opt,
+    pub(crate) leg: Leg,
+    ghost men: { after.crowd.men.now ≡ before.crowd.men.now },
+    ghost turn: { after.crowd.turn ≡ before.crowd.turn },
+    ghost path: { after.path.now ≡ option ∷ before.path.now },
+    ghost leg_is: { leg ≡ leg_of before.crowd.men.now option },
+}
+
+impl<'a> Node<'a> {
+    /// How many moves the path has.
+    pub(crate) fn count(&self) -> u8 {
+        self.legs.len() as u8
+    }
+
+    /// The men on their first squares, and the legs after which they are looked at.
+    pub(crate) fn scene(&self) -> Scene<'a> {
+        Scene {
+            men: self.crowd.men,
+            legs: self.legs,
+        }
+    }
+
+    /// Whether the winner is to move.
+    pub(crate) fn is_winners(&self) -> bool {
+        self.force.side == self.crowd.winner
+    }
+}
