@@ -23,13 +23,14 @@ NAMES = [NAME, "OLD", "NEW"]
 # The words of each command; the budget may be left out.
 SHAPES = {
     "decide": [MOVES, BUDGET], "least": ["L", BUDGET], "first": [MOVES, BUDGET], "describe": [MOVES, BUDGET], "play": [MOVES, BUDGET], "defend": [MOVES, BUDGET],
-    "keep": [MOVES, NAME, BUDGET], "check": [NAME, BUDGET], "resume": [NAME, BUDGET], "migrate": ["OLD", "NEW"], "drill": [SEED, COUNT], "arith": [BUDGET], "show": [],
+    "crowd": [MOVES, BUDGET], "keep": [MOVES, NAME, BUDGET], "check": [NAME, BUDGET], "resume": [NAME, BUDGET], "migrate": ["OLD", "NEW"], "drill": [SEED, COUNT], "arith": [BUDGET], "show": [],
 }
 # The commands that play a game.
 GAMES = ("play", "resume", "defend")
 # The commands that are the script's own.
 OF_SCRIPT = ["help", "version", "cost", "unproved"]
 LIMITS = {MOVES: (0, 20), "L": (0, 20), BUDGET: (1, 200000), SEED: (0, 2**64 - 1), COUNT: (0, 100)}
+CROWD_MOVES = (0, 2)
 SAID = {MOVES: "the number of moves", "L": "the number of moves", BUDGET: "the budget", SEED: "the seed", COUNT: "the number of positions"}
 DEFAULT_BUDGET, MOST_BUDGET = 50000, 200000
 NATURAL = re.compile(r"0|[1-9][0-9]*")
@@ -71,6 +72,16 @@ def plain(line):
     return line.decode("utf-8", "backslashreplace")
 
 
+def grammar_of(words):
+    """Returns the form of text that a command reads."""
+    return chess.CROWDS if words[0] == "crowd" else chess.POSITIONS
+
+
+def limits_of(command, what):
+    """Returns the least and the greatest number that a command takes for a word."""
+    return CROWD_MOVES if (command, what) == ("crowd", MOVES) else LIMITS[what]
+
+
 def is_file(word):
     return os.path.isfile(word) or bool(re.search(r"[./]", word) and re.search(r"\.(txt|icsf|pos)$|/", word))
 
@@ -104,9 +115,13 @@ def of_words(why, words):
                 return of_name(word) if why == "name" else None
         elif not NATURAL.fullmatch(word):
             return of_number(command, behind, at, usage) if why == "number" else None
-        elif len(word) > 20 or not LIMITS[what][0] <= int(word) <= LIMITS[what][1]:
+        elif len(word) > 20 or not is_within(limits_of(command, what), word):
             return of_limit(command, behind, at, what) if why == "limit" else None
     return None
+
+
+def is_within(limits, word):
+    return limits[0] <= int(word) <= limits[1]
 
 
 def of_unknown(command, words):
@@ -147,11 +162,11 @@ def of_number(command, behind, at, usage):
 
 
 def of_limit(command, behind, at, what):
-    least, most = LIMITS[what]
+    least, most = limits_of(command, what)
     told = dict(word=behind[at], what=SAID[what], least=least, most=most)
     turned = [command, *behind]
     last = len(turned) - 1
-    if SHAPES[command][-1] == BUDGET and at == 0 and last > 1 and NATURAL.fullmatch(behind[-1]) and len(behind[-1]) <= 2 and int(behind[-1]) <= 20:
+    if SHAPES[command][-1] == BUDGET and at == 0 and last > 1 and NATURAL.fullmatch(behind[-1]) and len(behind[-1]) <= 2 and is_within((least, most), behind[-1]):
         turned[1], turned[last] = turned[last], turned[1]
         return said("limit / order", mended=" ".join(turned), **told)
     return said("limit", **told)
@@ -171,30 +186,33 @@ def of_name(word):
 
 # The position text
 
-def due_at(number, men):
+def due_at(number, men, grammar):
     """Returns what is due on a line of a text."""
     if number < 3:
-        return ["`infinite chess 1`", "who is to move, `turn W` or `turn B`"][number - 1]
-    return "a man's line" if men < chess.FEWEST_MEN else "`end`" if men == chess.MOST_MEN else "a man's line or `end`"
+        return [f"`{grammar.header}`", "who is to move, `turn W` or `turn B`"][number - 1]
+    return "a man's line" if men < chess.FEWEST_MEN else "`end`" if men == grammar.most_men else "a man's line or `end`"
 
 
-def refusal_of(text):
+def refusal_of(text, grammar):
     """Returns the refusal of a text, by this script's own reader, or None."""
     try:
-        chess.read_text(text)
+        chess.read_text(text, grammar)
     except chess.Refused as refused:
         return refused
     return None
 
 
 def of_text(number, why, words, text):
-    """Returns the sentence on a position text that is refused."""
-    refused = refusal_of(text) if isinstance(text, bytes) else None
+    """Returns the sentence on a text that is refused."""
+    grammar = grammar_of(words)
+    example = "crowd-in-one" if grammar is chess.CROWDS else "ladder-in-one"
+    about = dict(line=number, header=grammar.header, most=grammar.most_men, low=grammar.least, high=grammar.most, example=f"examples/{example}.txt")
+    refused = refusal_of(text, grammar) if isinstance(text, bytes) else None
     if refused is None or (refused.number, refused.why) != (number, why):
         generic = {"number": "number of 64 bits"}.get(why, why)
-        return said(generic, line=number, wanted=due_at(number, 0 if number == 3 else 3))
+        return said(generic, wanted=due_at(number, 0 if number == 3 else 3, grammar), **about)
     line, men = refused.line, len(refused.men)
-    told = dict(line=number, quote=quoted(line), wanted=due_at(number, men))
+    told = dict(quote=quoted(line), wanted=due_at(number, men, grammar), **about)
     if why == "missing":
         return of_missing(told, words, text, men)
     if why in ("long", "cut"):
@@ -232,11 +250,15 @@ def of_line(why, line, men, told):
 
 
 def of_header(line, _men, told):
-    if line.lower() == chess.HEADER:
+    due, text = told["header"], plain(line)
+    other = next((it.header for it in (chess.POSITIONS, chess.CROWDS) if it.header != due), None)
+    if text == other:
+        return said("header / crowd" if other == chess.CROWDS.header else "header / position", **told)
+    if text.lower() == due:
         return said("header / case", **told)
     if line.startswith(b"ICSF"):
         return said("header / strategy", **told)
-    if re.fullmatch(rb"infinite chess [0-9]+", line):
+    if re.fullmatch(due[:-1] + "[0-9]+", text):
         return said("header / version", **told)
     if re.match(rb"(ex|all|not|and|or|le|eq) ", line):
         return said("header / formula", **told)
@@ -275,7 +297,7 @@ def of_man(line, _men, told):
         return said("man / end", **told)
     if REPLY.fullmatch(text) or text == "quit":
         return said("man / reply", **told)
-    if line == chess.HEADER or text in chess.TURNS.values():
+    if text == told["header"] or text in chess.TURNS.values():
         return said("man / again", **told)
     if "," in text:
         return said("text / comma", mended=" ".join(re.sub(",", " ", text).split()), **told)
@@ -301,7 +323,8 @@ def is_shape(text):
 
 def of_field(line, _men, told):
     fields = plain(line).split(" ")
-    at = next(it for it in (2, 3) if chess.number_of(fields[it]) is None)
+    is_crowd = told["header"] == chess.CROWDS.header
+    at = next(it for it in (2, 3) if chess.number_of(fields[it], chess.CROWDS if is_crowd else chess.POSITIONS) is None)
     word = fields[at]
     mend = lambda it: " ".join([*fields[:at], it, *fields[at + 1 :]])
     reason = "number of 64 bits / "
@@ -315,7 +338,7 @@ def of_field(line, _men, told):
     if re.fullmatch(r"[−–—‐‑][0-9]+", word):
         return said(reason + "minus", **told)
     if chess.NUMBER.fullmatch(word):
-        return said(reason + "wide", **told)
+        return said(reason + ("wide, of a crowd" if is_crowd else "wide"), **told)
     if re.fullmatch(r"-?[0-9]+([.,'_][0-9]+)+|[0-9]+,|,[0-9]+", word):
         return said(reason + "comma", **told)
     if re.fullmatch(r"[a-zA-Z]", word):
@@ -384,7 +407,7 @@ def of_formula(number, text):
     formula, stopped = stop_of(line)
     if stopped is None or stopped.number != number:
         return said("formula", field=number)
-    if line.startswith("infinite chess"):
+    if line.startswith(("infinite chess", "infinite crowd")):
         return said("formula / text")
     if number > len(formula.fields):
         return said("formula / ends", field=number, wanted=stopped.wanted)
@@ -398,10 +421,10 @@ def of_formula(number, text):
 
 # Soundness
 
-def of_unsound(told, text):
+def of_unsound(told, words, text):
     """Returns the sentence on a position that is not sound; the fields of the told line are behind `unsound`."""
     try:
-        position = chess.read_text(text)[0] if isinstance(text, bytes) else None
+        position = chess.read_text(text, grammar_of(words))[0] if isinstance(text, bytes) else None
     except chess.Refused:
         position = None
     if told[:2] == ["no", "king"]:
@@ -460,8 +483,8 @@ def of_budget(told, words):
     budget = int(words[len(shape)]) if len(words) > len(shape) else DEFAULT_BUDGET
     values = dict(budget=budget, greatest=MOST_BUDGET, mended=" ".join([*words[: len(shape)], str(MOST_BUDGET)]))
     greatest = ", greatest" if budget == MOST_BUDGET else ""
-    if told[0] == "arith":
-        return said(f"over budget / arith{greatest}", step=told[1], **values)
+    if told[0] in ("arith", "crowd"):
+        return said(f"over budget / {told[0]}{greatest}", step=told[1], **values)
     if told[0] == "describe":
         return said(f"over budget / describe{greatest}", man=told[2], **values)
     moves = int(told[1])
@@ -640,7 +663,7 @@ def start_of(words, text, folder):
 def read_head(path):
     """Returns the number of moves and the position that a strategy file begins with; refuses another file by a ValueError that says why."""
     with open(path, "rb") as it:
-        data = it.read(8 + chess.MOST_MEN * 19)
+        data = it.read(8 + chess.POSITIONS.most_men * 19)
     if data[:4] != b"ICSF":
         raise ValueError("its first four bytes are not `ICSF`, so it is no strategy file")
     if len(data) < 8:
@@ -687,7 +710,7 @@ def of_end(code, fields, words, text, folder):
     if code == 3:
         return of_refused_text(int(fields[2]), fields[3:], words, text)
     if code == 4:
-        return of_unsound(fields[1:], text)
+        return of_unsound(fields[1:], words, text)
     if code == 5:
         return said(f"read fault / {text}" if text in (FOLDER, CLOSED) else "read fault")
     if code == 6:

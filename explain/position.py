@@ -5,15 +5,14 @@ import math
 import re
 from dataclasses import dataclass, replace
 
-HEADER = b"infinite chess 1"
 SIDES = {"W": "White", "B": "Black"}
 KINDS = {
     "K": "king", "Q": "queen", "R": "rook", "B": "bishop", "N": "knight", "P": "pawn",
     "C": "chancellor", "A": "archbishop", "Z": "amazon", "H": "nightrider",
 }
 NUMBER = re.compile(r"0|-?[1-9][0-9]*")
-# The most bytes of a line, the most men of a text, and the numbers of a text.
-LINE, FEWEST_MEN, MOST_MEN, LEAST, MOST = 200, 2, 8, -(2**63), 2**63 - 1
+# The most bytes of a line, and the fewest men of a text.
+LINE, FEWEST_MEN = 200, 2
 # The second line of a text, by the side to move and the side that is to mate.
 TURNS = {(turn, winner): f"turn {turn}" + " for B" * (winner == "B") for turn in "WB" for winner in "WB"}
 STRAIGHT = {(1, 0), (0, 1), (-1, 0), (0, -1)}
@@ -22,6 +21,25 @@ LEAPS = {(x, y) for x in (-2, -1, 1, 2) for y in (-2, -1, 1, 2) if abs(x) != abs
 # For each kind but the pawn the steps that it makes once, and those that it makes as often as it likes.
 ONCE = {"K": STRAIGHT | DIAGONAL, "N": LEAPS, "C": LEAPS, "A": LEAPS, "Z": LEAPS}
 FAR = {"Q": STRAIGHT | DIAGONAL, "R": STRAIGHT, "B": DIAGONAL, "C": STRAIGHT, "A": DIAGONAL, "Z": STRAIGHT | DIAGONAL, "H": LEAPS}
+
+
+@dataclass(frozen=True)
+class Grammar:
+    """A form of text: its first line, the most men that it has, and the least and the greatest number of a file or rank."""
+
+    header: str
+    most_men: int
+    least: int
+    most: int
+
+
+POSITIONS = Grammar("infinite chess 1", 8, -(2**63), 2**63 - 1)
+CROWDS = Grammar("infinite crowd 1", 32, -(2**60), 2**60)
+
+
+def grammar_of(data):
+    """Returns the form of text that bytes begin as."""
+    return CROWDS if data.startswith(f"{CROWDS.header}\n".encode()) else POSITIONS
 
 
 @dataclass(frozen=True)
@@ -54,8 +72,8 @@ class Position:
     def turn_line(self):
         return TURNS[self.turn, self.winner]
 
-    def text(self):
-        return "\n".join(["infinite chess 1", self.turn_line(), *[it.line() for it in self.men], "end", ""])
+    def text(self, grammar=POSITIONS):
+        return "\n".join([grammar.header, self.turn_line(), *[it.line() for it in self.men], "end", ""])
 
     def on(self, square):
         """Returns the number of a man on the square, or None."""
@@ -92,20 +110,20 @@ def next_line(data, at, number, men):
     return line, end + 1
 
 
-def number_of(field):
-    """Returns the number of 64 bits that a field spells, or None."""
+def number_of(field, grammar=POSITIONS):
+    """Returns the number that a field spells, where it is one of the text's, or None."""
     spelled = len(field) <= 20 and NUMBER.fullmatch(field)
-    return int(field) if spelled and LEAST <= int(field) <= MOST else None
+    return int(field) if spelled and grammar.least <= int(field) <= grammar.most else None
 
 
-def read_text(data):
+def read_text(data, grammar=POSITIONS):
     """Returns the position that bytes begin with, and what stands behind its text; or refuses the first line that may not stand where it stands."""
     at, men, sides = 0, [], None
-    for number in range(1, MOST_MEN + 4):
+    for number in range(1, grammar.most_men + 4):
         line, at = next_line(data, at, number, men)
         refuse = lambda why: Refused(number, line, why, tuple(men))
         if number == 1:
-            if line != HEADER:
+            if line != grammar.header.encode():
                 raise refuse("header")
         elif number == 2:
             sides = next((sides for sides, it in TURNS.items() if it.encode() == line), None)
@@ -115,13 +133,13 @@ def read_text(data):
             if len(men) < FEWEST_MEN:
                 raise refuse("few")
             return Position(sides[0], tuple(men), sides[1]), data[at:]
-        elif len(men) == MOST_MEN:
+        elif len(men) == grammar.most_men:
             raise refuse("many")
         else:
-            men.append(read_man(line, refuse))
+            men.append(read_man(line, grammar, refuse))
 
 
-def read_man(line, refuse):
+def read_man(line, grammar, refuse):
     """Returns the man of a line, or refuses it."""
     fields = line.decode("latin-1").split(" ")
     if len(fields[0]) != 1 or fields[0] not in SIDES or len(fields) < 2 or fields[1] not in KINDS:
@@ -130,7 +148,7 @@ def read_man(line, refuse):
         return Man(fields[0], fields[1], None)
     if len(fields) != 4 or "" in fields:
         raise refuse("man")
-    square = number_of(fields[2]), number_of(fields[3])
+    square = number_of(fields[2], grammar), number_of(fields[3], grammar)
     if None in square:
         raise refuse("number")
     return Man(fields[0], fields[1], square)

@@ -23,7 +23,8 @@ MOST_REFUSALS = 100
 REFUSALS = (b"illegal\n", b"unreadable\n")
 # Milliseconds without a word from either side, after which it is said what is waited for.
 SILENCE = 300
-TYPED = {"arith": "a formula, in one line", **dict.fromkeys(("decide", "least", "first", "keep", "show"), "a position, up to its line `end`")}
+POSED = ("decide", "least", "first", "describe", "keep", "show")
+TYPED = {"arith": "a formula, in one line", "crowd": "a crowd's text, up to its line `end`", **dict.fromkeys(POSED, "a position, up to its line `end`")}
 REPLIES = "the loser's replies, a line each: the man's number and the square that he goes to, as 4 0 0, or quit"
 MOVES = "the winner's moves, a line each: the man's number and the square that he goes to, as 3 5 0, or quit"
 WRITE_FAILED = 6

@@ -25,7 +25,7 @@ def refusal(explain, words):
         elif not explain.NATURAL.fullmatch(word):
             return "number"
         else:
-            least, most = explain.LIMITS[what]
+            least, most = explain.limits_of(command, what)
             if len(word) > len(str(most)) or not least <= int(word) <= most:
                 return "limit"
     return None
