@@ -5,7 +5,7 @@
     >>> side_by_side(lambda men: decide(men, "W", 1, seconds=60), many)
     [True, OverBudget('over budget at moves 1 ply 0 men 31 part image at 3'), False, ..]
 
-Men are lines of a position text, and "W" or "B" is to move. The first question has ./mate build the program where there is none of these
+Men are lines of a text, and "W" or "B" is to move; of crowd there are up to 32, and else up to eight. The first question has ./mate build the program where there is none of these
 sources. The text of an end is the last line that the program wrote, and its code is that of docs/FORMATS.md.
 """
 import concurrent.futures
@@ -49,7 +49,8 @@ def program():
 
 def run(words, men=(), turn="W", seconds=None, behind=()):
     """Returns the lines that the program writes of the position, with these lines behind it."""
-    text = "".join(f"{it}\n" for it in ["infinite chess 1", f"turn {turn}", *men, "end", *behind])
+    header = "infinite crowd 1" if words[0] == "crowd" else "infinite chess 1"
+    text = "".join(f"{it}\n" for it in [header, f"turn {turn}", *men, "end", *behind])
     words = [str(it) for it in words if it is not None]
     try:
         done = subprocess.run([program(), *words], input=text, stdout=subprocess.PIPE, text=True, timeout=seconds)
@@ -64,6 +65,11 @@ def run(words, men=(), turn="W", seconds=None, behind=()):
 def decide(men, turn, n, budget=None, seconds=None):
     """Returns whether the winner can force mate within n moves."""
     return run(["decide", n, budget], men, turn, seconds) == [f"mate in {n}"]
+
+
+def crowd(men, turn, n, budget=None, seconds=None):
+    """Returns what decide does, of up to 32 men and within at most two moves."""
+    return run(["crowd", n, budget], men, turn, seconds) == [f"mate in {n}"]
 
 
 def least(men, turn, most, budget=None, seconds=None):
