@@ -21,7 +21,7 @@ HERE = os.path.dirname(os.path.realpath(__file__))
 TOP = os.path.dirname(HERE)
 sys.path.insert(0, HERE)
 sys.dont_write_bytecode = True
-from positions import DEFENCES, ENTRIES, FAMILIES, MAPS, SEARCH, SOLUTIONS, TRIED  # noqa: E402
+from positions import CROWDS, DEFENCES, ENTRIES, FAMILIES, MAPS, SEARCH, SOLUTIONS, TRIED  # noqa: E402
 
 ANSWERS = f"{HERE}/answers.json"
 MOST_BUDGET = 200000
@@ -43,11 +43,11 @@ def module_of(name):
 board, maps, solve = (module_of(it) for it in ("board", "map", "solve"))
 
 
-def text_of(men, turn):
-    """Returns the position text of men as positions.py writes them."""
+def text_of(men, turn, grammar=board.chess.POSITIONS):
+    """Returns the text of men as positions.py writes them."""
     sides = zip("WB", men.split("/"))
     lines = [f"{side} {man.strip()}" for side, part in sides for man in part.split(",")]
-    return "\n".join(["infinite chess 1", f"turn {turn}", *lines, "end", ""])
+    return "\n".join([grammar.header, f"turn {turn}", *lines, "end", ""])
 
 
 def position_of(men, turn):
@@ -183,13 +183,18 @@ def answers_of(engine, entry):
     return {"text": text, "verdict": verdict, "rays": rays, "distances": distances, "states": states, "game": game, "budget": budget}
 
 
-def picture(engine, entry, text):
+def picture(entry, shown):
     """Writes the drawing of an entry, and returns its path from docs/ on."""
-    shown = engine.ask("show", text)["wrote"].splitlines()
     name = f"gallery/{entry.name}.svg"
     with open(f"{TOP}/docs/{name}", "w", encoding="utf-8") as it:
-        it.write(board.as_svg(board.Board(board.position_of(shown), [])))
+        it.write(board.as_svg(board.Board(shown, [])))
     return name
+
+
+def alt_of(entry):
+    """Returns what stands for the drawing of an entry where it is not seen."""
+    turn = board.chess.SIDES[entry.turn[0]]
+    return f"White: {entry.men.replace(' / ', '. Black: ')}. {turn} to move{', Black is to mate' * entry.turn.endswith('for B')}."
 
 
 def described(states):
@@ -209,8 +214,7 @@ def budget_told(small, enough):
 
 def entry_lines(engine, number, entry):
     told = answers_of(engine, entry)
-    path = picture(engine, entry, told["text"])
-    turn = board.chess.SIDES[entry.turn[0]]
+    path = picture(entry, board.position_of(engine.ask("show", told["text"])["wrote"].splitlines()))
     rows = [("Verdict", f"`{entry.claim}` (`{verdict_words(entry)}`)")]
     if told["distances"]:
         rows.append(("Winning first moves (`describe`)", "<br>".join(f"`{it}`" for it in told["distances"])))
@@ -224,9 +228,18 @@ def entry_lines(engine, number, entry):
     if told["game"]:
         replies = f", replies {', '.join(f'`{it}`' for it in entry.replies)}" * bool(entry.replies)
         rows.append(("Played", " ".join(f"`{it}`" for it in told["game"]) + replies))
-    alt = f"{entry.men.replace(' / ', '. Black: ')}. {turn} to move{', Black is to mate' * entry.turn.endswith('for B')}."
     table = [f"| {name} | {value} |" for name, value in rows]
-    return [f"### {number}. {entry.title}", "", f"![White: {alt}]({path})", "", entry.caption, "", "| | |", "|---|---|", *table, ""]
+    return [f"### {number}. {entry.title}", "", f"![{alt_of(entry)}]({path})", "", entry.caption, "", "| | |", "|---|---|", *table, ""]
+
+
+def crowd_lines(engine, crowd):
+    """Returns the section of a crowd, which is answered as it is claimed to be."""
+    text = text_of(crowd.men, crowd.turn, board.chess.CROWDS)
+    told = engine.ask(crowd.words(), text)
+    expect(crowd.name, crowd.claim + "\n", told["wrote"])
+    path = picture(crowd, board.read_alone(text.encode()))
+    rows = [f"| Verdict | `{crowd.claim}` (`{crowd.words()}`) |", f"| Time | {told['seconds']:.2f} s |"]
+    return [f"### {crowd.title}", "", f"![{alt_of(crowd)}]({path})", "", crowd.caption, "", "| | |", "|---|---|", *rows, ""]
 
 
 def map_lines(engine, drawn):
@@ -332,7 +345,10 @@ def collected(engine, only):
     for family in FAMILIES:
         if only in family.title:
             collect(families, wrong, left_out, family.title, lambda: family_lines(engine, family))
-    drawn, solved = [], []
+    crowds, drawn, solved = [], [], []
+    for it in CROWDS:
+        if only in it.name:
+            collect(crowds, wrong, left_out, it.name, lambda: crowd_lines(engine, it))
     for it in MAPS:
         if only in it.name:
             collect(drawn, wrong, left_out, it.name, lambda: map_lines(engine, it))
@@ -347,7 +363,7 @@ def collected(engine, only):
     if not only:
         collect(tried, wrong, left_out, "what passes every budget", lambda: tried_lines(engine))
         collect(search, wrong, left_out, "the longest least number", lambda: search_lines(engine))
-    return {"Positions": entries, "Maps": drawn, "Solutions": solved, "Defences": defended, "Families": families, "What the engine cannot decide": tried, "The longest least number": search}, wrong, left_out
+    return {"Positions": entries, "Crowds": crowds, "Maps": drawn, "Solutions": solved, "Defences": defended, "Families": families, "What the engine cannot decide": tried, "The longest least number": search}, wrong, left_out
 
 
 def collect(lines, wrong, left_out, name, made):
@@ -396,7 +412,7 @@ def main(words):
         with open(f"{TOP}/docs/GALLERY.md", "w", encoding="utf-8") as it:
             it.write(page_of(engine, sections, left_out))
     seconds = sum(it["seconds"] for it in engine.answers.values())
-    print(f"{len(ENTRIES)} positions, {len(MAPS)} maps, {len(SOLUTIONS)} solutions, {len(DEFENCES)} defences, {len(FAMILIES)} families, {len(wrong)} wrong; {engine.fresh} asked for, {seconds:.0f} s of the program in all")
+    print(f"{len(ENTRIES)} positions, {len(CROWDS)} crowds, {len(MAPS)} maps, {len(SOLUTIONS)} solutions, {len(DEFENCES)} defences, {len(FAMILIES)} families, {len(wrong)} wrong; {engine.fresh} asked for, {seconds:.0f} s of the program in all")
     return 1 if wrong else 0
 
 

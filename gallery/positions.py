@@ -214,6 +214,55 @@ ENTRIES = [
 
 
 @dataclass
+class Crowd:
+    """A position of up to 32 men, with what is asked of it and the answer that is claimed."""
+
+    name: str
+    title: str
+    men: str
+    moves: int
+    claim: str
+    caption: str
+    turn: str = "W"
+
+    def words(self):
+        return f"crowd {self.moves} 200000"
+
+
+def middle_game(knight):
+    """Returns a middle game of 32 men, with a black knight on this square."""
+    pawns = "P 1 2, P 2 2, P 3 3, P 4 3, P 5 4, P 6 2, P 7 2, P 8 3"
+    others = "P 1 7, P 2 7, P 3 7, P 4 6, P 5 5, P 6 7, P 7 7, P 8 7"
+    return f"K 7 1, Q 5 2, R 6 1, R -3 9, B 3 1, B 3 4, N 4 5, N 6 3, {pawns} / K 7 8, Q 2 6, R 1 8, R 6 8, B 3 8, B 3 5, N {knight}, N 8 8, {others}"
+
+
+def stopped_pawns(count, rank):
+    """Returns the ladder in two with so many pawns of either side, each before one of the other, but for Black's last, who stands on this rank."""
+    files = [12 + 2 * at for at in range(count)]
+    white, black = ", ".join(f"P {it} 20" for it in files), ", ".join(f"P {it} 21" for it in files[:-1])
+    return f"K 0 -2, R 10 1, R 7 7, {white} / K 1 0, {black}, P {files[-1]} {rank}"
+
+
+CROWDS = [
+    Crowd("crowd-smothered", "A middle game of 32 men, and a smothered mate", middle_game("1 5"), 1, "mate in 1",
+          "The knight goes from 4 5 to 5 7. On an endless board too the king is shut in: on 6 8, 8 8, 6 7, 7 7 and 8 7 stand his own men, and the rook on -3 9, which has gone round the crowd, has 6 9, 7 9 and 8 9. Nobody takes on 5 7: Black's knights stand on 1 5 and 8 8, "
+          "his queen on 2 6 and his bishop on 3 8 have no line to it, the bishop on 3 5 has his own pawn before him, the rooks have file 1, file 6 and rank 8, and his pawns take downward."),
+    Crowd("crowd-defended", "The knight one leap nearer", middle_game("3 6"), 1, "no mate in 1",
+          "Black's knight on 3 6 takes on 5 7. Only three moves give check, and each is answered. The knight may also go to 6 6, where the pawn on 7 7 takes him; and the rook to 7 9, where nobody guards it and the king takes. White's other men do not get to a line of the king: from below and from the sides "
+          "he is behind his own men, and of those above, on file 7 and the diagonals of 6 9 and 8 9, neither the queen, the rook on 6 1, a bishop nor a pawn reaches a square; the knight on 6 3 leaps to none that checks. Nor does a man of White's who goes away open a line to the king."),
+    Crowd("crowd-legacy", "Twelve men: the queen is given", "K 7 1, Q 3 4, R -3 9, R 9 1, N 8 6, P 7 2 / K 8 8, R 6 8, R 1 8, Q 2 4, P 7 7, P 8 7", 2, "mate in 2",
+          "The queen goes to 7 8 and checks. The knight guards her there, the pawns stand on 7 7 and 8 7, and White's rooks have rank 9 and file 9; so the rook on 6 8 has to take her, and now stands in his king's last way. The knight mates on 6 7, which neither rook nor Black's queen on 2 4 reaches."),
+    Crowd("crowd-stopped", "Twelve men: nobody can wait", stopped_pawns(4, 21), 2, "mate in 2",
+          "The ladder in two, with four pawns of each side far up. Each stands before one of the other side and none beside one, so no pawn moves or takes. The rook goes to 2 7 and takes file 2 from the king; rank 1 is the other rook's, 0 -1 and 1 -1 are the king's. Black has one move, to 0 0, and is mated from 2 0."),
+    Crowd("crowd-waiting", "One pawn can wait", stopped_pawns(4, 22), 2, "no mate in 2",
+          "Black's last pawn stands one rank higher and has a move. With the king on 1 0 and White's on 0 -2 there is no mate: a rook on file 2 has 2 -1, 2 0 and 2 1, and the other cannot give check and have both 0 0 and the squares of rank 1. So White's quiet first moves fail to the pawn's step, but for two: "
+          "king to 1 -2 threatens mate from rank 0, and Black's goes to 0 0 or 2 0; pawn to 18 21 stops the other, and Black's king goes to 2 -1. There are four checks: on 7 0, to 2 -1; on 1 7, to 0 0; on 10 0, to rank 1; and the rook on 1 1 is taken."),
+    Crowd("crowd-stopped-32", "The same with 32 men", stopped_pawns(14, 21), 2, "mate in 2", "Fourteen pawns of each side now stop each other. The mate is the same."),
+    Crowd("crowd-waiting-32", "And with one that can wait", stopped_pawns(14, 22), 2, "no mate in 2", "The last of the black pawns has a step, as above."),
+]
+
+
+@dataclass
 class Family:
     """Positions with a free parameter: the men for each value, the budget, and the answer that the sentence claims of it."""
 
