@@ -8,7 +8,7 @@ Runs the program `mate` at the limits of a machine, and prints each run with its
   closed   the output is closed before or after its first byte, or full; the input is closed, or a folder
   store    the files of the folder cannot be opened, written, synced or renamed
   signals  `keep` and `migrate` are ended by SIGTERM and SIGKILL at many moments, and before each call that they make for a file: the old file or
-           the new one is then there whole, and beside it at most NAME.new
+           the new one is then there whole, and beside it at most NAME.new; and commands that keep no file, which leave the folder as it was
 
 PROGRAM is ../crates/mate_main/out/mate_main if left out. The code is 0 where each run ended as it has to, and else 1.
 """
@@ -28,6 +28,7 @@ HEAD = b"infinite chess 1\n"
 LADDER = HEAD + b"turn W\nW K 0 -2\nW R 10 1\nW R 5 7\nB K 0 0\nend\n"
 MATED = HEAD + b"turn B\nW K 0 -2\nW R 10 0\nW R 10 1\nB K 0 0\nend\n"
 BLACK_FIRST = HEAD + b"turn B\nW K 0 -2\nW R 10 1\nW R 2 7\nB K 1 0\nend\n"
+CROWD = LADDER.replace(b"chess", b"crowd")
 GAME = BLACK_FIRST + b"4 2 0\n4 0 0\n"
 # The rook mates on 5 0 alone, seven squares down.
 DESCRIBED = b"man 3 step 0 -1 runs 7-7 from 8 every 1 rests none\nend\n"
@@ -78,7 +79,7 @@ def piped(trials, words, **more):
 
 def slow(trials):
     shown = LADDER + b"check no\nlive 4\n"
-    for words, text, wanted in [("show", LADDER, shown), ("decide 1", LADDER, b"mate in 1\n"), ("describe 1", LADDER, DESCRIBED), ("play 1", GAME, PLAYED), ("defend 1", DEFENCE, b"illegal\nheld\n")]:
+    for words, text, wanted in [("show", LADDER, shown), ("decide 1", LADDER, b"mate in 1\n"), ("describe 1", LADDER, DESCRIBED), ("play 1", GAME, PLAYED), ("defend 1", DEFENCE, b"illegal\nheld\n"), ("crowd 1", CROWD, b"mate in 1\n")]:
         process = piped(trials, words)
         for at in range(len(text)):
             process.stdin.write(text[at:at + 1])
@@ -130,9 +131,9 @@ def without_reader(trials, words, text):
 
 def closed(trials):
     for words, text, wanted in [
-        ("show", LADDER, 6), ("decide 1", LADDER, 6), ("least 1", LADDER, 6), ("first 1", LADDER, 6), ("describe 1", LADDER, 6), ("play 1", LADDER, 6), ("defend 1", LADDER, 6), ("defend 1", DEFENCE, 6), ("keep 1 a", LADDER, 6),
+        ("show", LADDER, 6), ("decide 1", LADDER, 6), ("least 1", LADDER, 6), ("first 1", LADDER, 6), ("describe 1", LADDER, 6), ("play 1", LADDER, 6), ("defend 1", LADDER, 6), ("defend 1", DEFENCE, 6), ("crowd 1", CROWD, 6), ("keep 1 a", LADDER, 6),
         ("drill 7 0", b"", 6), ("decide 21", b"", 2), ("show", b"", 3), ("decide 1 1", LADDER, 8), ("check a", b"", 11), ("migrate a b", b"", 11),
-        ("describe 1 1", LADDER, 8), ("play 1", BLACK_FIRST, 12),
+        ("describe 1 1", LADDER, 8), ("crowd 1 1", CROWD, 8), ("crowd 1", LADDER, 3), ("play 1", BLACK_FIRST, 12),
     ]:
         trials.want(f"{words}, nobody reads the output", without_reader(trials, words, text), wanted)
         with open("/dev/full", "wb") as full:
@@ -155,7 +156,7 @@ def closed(trials):
     with open("/dev/full", "wb") as full:
         ended = subprocess.run([trials.program, "migrate", "b", "a"], stdout=full, cwd=room)
     trials.want("migrate b a, the output is full", (ended.returncode, (room / "a").read_bytes() == (room / "b").read_bytes()), (6, True))
-    for words in ("show", "decide 1", "describe 1", "keep 1 a", "play 1", "defend 1"):
+    for words in ("show", "decide 1", "describe 1", "keep 1 a", "play 1", "defend 1", "crowd 1"):
         ended = subprocess.run([trials.program, *words.split()], stdout=subprocess.PIPE, cwd=trials.room(), preexec_fn=lambda: os.close(0))
         trials.want(f"{words}, the input is closed", (ended.stdout, ended.returncode), (b"read fault\n", 5))
         folder = os.open("/", os.O_RDONLY)
@@ -234,11 +235,36 @@ class Kept:
         return {self.old: "the old file", self.new: "the new file"}.get((room / "a").read_bytes())
 
 
+# Commands that keep no file, and take some tenths of a second.
+KEEPERS_OF_NONE = [("describe 2", LADDER), ("defend 2", DEFENCE), ("crowd 1", CROWD), ("crowd 2", CROWD)]
+
+
 def signals(trials):
     kept = Kept(trials)
     for words, text in MAKERS:
         at_moments(trials, kept, random.Random(1), words, text)
         before_calls(trials, kept, words, text)
+    for words, text in KEEPERS_OF_NONE:
+        without_files(trials, random.Random(2), words, text)
+
+
+def without_files(trials, draw, words, text):
+    """Ends a run of a command that keeps no file: the folder is then as it was."""
+    for number in (signal.SIGTERM, signal.SIGKILL):
+        room, _ = with_old(trials)
+        before, counts = {it.name: it.read_bytes() for it in room.iterdir()}, {}
+        for _ in range(50):
+            process = subprocess.Popen([trials.program, *words.split()], cwd=room, stdin=subprocess.PIPE, stdout=subprocess.PIPE)
+            process.stdin.write(text)
+            process.stdin.close()
+            time.sleep(draw.uniform(0, 0.3))
+            process.send_signal(number)
+            output, code = process.stdout.read(), process.wait()
+            process.stdout.close()
+            counts[code] = counts.get(code, 0) + 1
+            if code not in (0, -number) or {it.name: it.read_bytes() for it in room.iterdir()} != before:
+                trials.tell(f"{words}, {number.name}", (code, output), False)
+        trials.tell(f"{words}, {number.name} at 50 moments", ", ".join(f"code {code}: {count}" for code, count in sorted(counts.items())), True)
 
 
 def at_moments(trials, kept, draw, words, text):

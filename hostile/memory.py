@@ -21,6 +21,7 @@ BUILT = HERE.parent / "crates/mate_main/out/mate_main"
 LADDER = (HERE.parent / "examples/ladder-in-one.txt").read_bytes()
 BLACK_FIRST = b"infinite chess 1\nturn B\nW K 0 -2\nW R 10 1\nW R 2 7\nB K 1 0\nend\n"
 MATED = b"infinite chess 1\nturn B\nW K 0 -2\nW R 10 0\nW R 10 1\nB K 0 0\nend\n"
+CROWD = LADDER.replace(b"chess", b"crowd")
 GAME = BLACK_FIRST + b"4 2 0\n4 0 0\n"
 RUNNING = b"infinite chess 1\nturn W\nW K 0 0\nB K 10 0\nend\n1 1 0\n1 2 0\n"
 KEPT = ("keep 1 a", LADDER)
@@ -39,6 +40,9 @@ COMMANDS = {
     "play": ("play 1", GAME, []),
     "defend-held": ("defend 0", LADDER, []),
     "defend": ("defend 2", RUNNING, []),
+    "crowd0": ("crowd 0", CROWD, []),
+    "crowd-mated": ("crowd 0", MATED.replace(b"chess", b"crowd"), []),
+    "crowd": ("crowd 1", CROWD, []),
     "keep": ("keep 1 a", LADDER, []),
     "keep-again": ("keep 1 a", LADDER, [("keep 1 a", BLACK_FIRST)]),
     "check": ("check a", b"", [KEPT]),

@@ -38,7 +38,7 @@ OTHER_KINDS = HEAD + b"turn B for B\nB K 0 2\nB C 10 -1\nB Z 5 -7\nW K 0 0\nW P 
 GOOD = [LADDER, MATED, BLACK_FIRST, WHITE_FIRST, OTHER_KINDS, HEAD + b"turn W\nW K 0 0\nB K 10 0\nend\n", HEAD + b"turn B for B\nW K 5 5\nB P 1 2\nB K -3 -3\nW Q gone\nW N 7 7\nB C 2 9\nW H 40 -7\nend\n"]
 EDGES = [2**63 - 1, -2**63, 2**63, -2**63 - 1, 2**64, 10**19, 10**18, 2**31, 10**40, 0, -1, 20, 21, 100, 101, 200000, 200001]
 # What may come with each code where the reader does not say it. With the codes 3, 9, 12 and 13 the lines of a game may come before.
-NAMED = rb"over budget at (moves [0-9]+ ply [0-9]+ men [0-9]+ part [a-z]+ at|arith|describe man [1-8] ray [0-9]+ (line|period)) [0-9]+\n"
+NAMED = rb"over budget at (moves [0-9]+ ply [0-9]+ men [0-9]+ part [a-z]+ at|arith|crowd|describe man [1-8] ray [0-9]+ (line|period)) [0-9]+\n"
 DISTANCES = rb"(runs (none|[0-9]+-[0-9]+(,[0-9]+-[0-9]+)*) from [0-9]+ every [0-9]+ rests (none|[0-9]+(,[0-9]+)*)|no period up to 60|far|many)"
 GAME = rb"(((?:white|black) [1-8] \S+ \S+|illegal|unreadable)\n)*"
 WHYS = rb"(magic|version|moves|turn|count|side|kind|place|unsound|ply|men|states|entry|flag|nodes|track|ref)"
@@ -46,7 +46,7 @@ RULES = rb"(sign|same|guard|first|left|stale)"
 # What each command may write where it is done, N being the number of its first word.
 RAYS = rb"(man [1-8] step -?[012] -?[012] %s\n)*end\n"
 DONE = {
-    b"decide": rb"(no )?mate in N\n", b"keep": rb"(no )?mate in N\n", b"least": rb"least [0-9]+\n|none up to N\n",
+    b"decide": rb"(no )?mate in N\n", b"crowd": rb"(no )?mate in N\n", b"keep": rb"(no )?mate in N\n", b"least": rb"least [0-9]+\n|none up to N\n",
     b"first": RAYS % rb"least (wide|[0-9]+) (only|more)", b"describe": RAYS % DISTANCES,
     b"play": rb"no mate in N\n|" + GAME + rb"mate\n", b"defend": rb"mate in N\n|" + GAME + rb"(held|stuck)\n", b"resume": GAME + rb"mate\n",
     b"check": rb"mate in [0-9]+\n", b"migrate": rb"migrated\n", b"show": rb"(?s).*\ncheck (yes|no)\nlive [2-8]\n",
@@ -63,10 +63,11 @@ ANSWERS = {
 
 
 class Case:
-    """A run: its words, its input and the file `a` of its folder; the output and code that have to come, if they are known."""
+    """A run: its words, its input and the file `a` of its folder; the output and code that have to come, if they are known, and else the output that has
+    to come where the run is done, if that is known."""
 
-    def __init__(self, words, text=b"", file=None, wanted=None):
-        self.words, self.text, self.file, self.wanted = words, text, file, wanted
+    def __init__(self, words, text=b"", file=None, wanted=None, answer=None):
+        self.words, self.text, self.file, self.wanted, self.answer = words, text, file, wanted, answer
 
 
 def drawn_number(draw):
@@ -143,20 +144,24 @@ def words_case(draw):
     return Case(words, wanted=(b"text line 1 missing\n", 3))
 
 
-def drawn_text(draw):
+def drawn_text(draw, grammar):
     if draw.random() < 0.4:
-        return changed(draw, draw.choice(GOOD))
-    lines = [b"infinite chess 1", draw.choice([*reader.TURNS, b"turn W", b"turn B"])]
-    men = [b"W K", b"B K"] + [draw.choice([b"W", b"B"]) + b" " + draw.choice([b"Q", b"R", b"B", b"N", b"P", b"C", b"A", b"Z", b"H"]) for _ in range(draw.choice([0, 0, 1, 2, 2, 3, 3, 4, 6, 7]))]
+        text = draw.choice(GOOD)
+        return changed(draw, text if draw.random() < 0.05 else text.replace(reader.POSITIONS.header, grammar.header))
+    lines = [grammar.header, draw.choice([*reader.TURNS, b"turn W", b"turn B"])]
+    others = draw.choice([0, 0, 1, 2, 2, 3, 3, 4, 6, 7] + [10, 16, 29, 30, 31] * (grammar is reader.CROWDS))
+    men = [b"W K", b"B K"] + [draw.choice([b"W", b"B"]) + b" " + draw.choice([b"Q", b"R", b"B", b"N", b"P", b"C", b"A", b"Z", b"H"]) for _ in range(others)]
     if draw.random() < 0.1:
         men[draw.randrange(len(men))] = draw.choice([b"W K", b"B K", b"B R"])
     draw.shuffle(men)
     near = draw.random() < 0.8
+    # On so few squares as many men as a crowd has would mostly share one.
+    reach = 6 if others < 9 else 60
     for man in men:
         if draw.random() < 0.08:
             lines.append(man + b" gone")
         elif near:
-            lines.append(man + b" %d %d" % (draw.randrange(-6, 7), draw.randrange(-6, 7)))
+            lines.append(man + b" %d %d" % (draw.randrange(-reach, reach + 1), draw.randrange(-reach, reach + 1)))
         else:
             lines.append(man + b" " + drawn_number(draw) + b" " + drawn_number(draw))
     text = b"\n".join(lines + [b"end", b""])
@@ -167,13 +172,14 @@ def text_case(draw):
     """A text, with a command that takes one."""
     moves = draw.choice([0, 0, 0, 1, 1, 2])
     budget = draw.choice([1, 2, 5, 20, 100, 500]) if moves < 2 else draw.choice([1, 20, 60])
-    command = draw.choice(["show", "show", "decide", "least", "first", "describe", "play", "defend", "keep"])
+    command = draw.choice(["show", "show", "decide", "least", "first", "describe", "play", "defend", "keep", "crowd", "crowd"])
     words = [command] if command == "show" else [command, str(moves)] + ["a"] * (command == "keep") + [str(budget)]
     words = [word.encode() for word in words]
-    text = drawn_text(draw)
+    grammar = reader.CROWDS if command == "crowd" else reader.POSITIONS
+    text = drawn_text(draw, grammar)
     lines = Lines(text)
     try:
-        turn, winner, men = reader.read_text(lines)
+        turn, winner, men = reader.read_text(lines, grammar)
         reader.require_sound(turn, men)
     except Refused as why:
         return Case(words, text, wanted=(f"{why.line}\n".encode(), why.code))
@@ -184,6 +190,8 @@ def text_case(draw):
     if turn == winner and moves == 0:
         answers = {"least": b"none up to 0\n", "defend": b"held\n"}
         return Case(words, text, wanted=(answers.get(command, b"no mate in 0\n"), 0))
+    if moves == 0 and command in ("decide", "keep", "crowd"):
+        return Case(words, text, answer=b"mate in 0\n" if reader.is_mated(turn, men) else b"no mate in 0\n")
     return Case(words, text)
 
 
@@ -392,7 +400,7 @@ def fault(case, output, code, errors, files):
         answer = DONE[case.words[0]].replace(b"N", number) if code == 0 else ANSWERS.get(code)
         if answer is None:
             return "code"
-        if not re.fullmatch(answer, output):
+        if not re.fullmatch(answer, output) or (code == 0 and case.answer not in (None, output)):
             return "output"
     return files_fault(case, output, code, files)
 
@@ -429,7 +437,7 @@ def main():
             kinds[kind] += 1
             codes[code] += 1
             commands[case.words[0].decode() if case.words and case.words[0] in reader.SHAPES else "none"] += code != 2
-            known += case.wanted is not None
+            known += case.wanted is not None or (code == 0 and case.answer is not None)
             if why:
                 wrong += 1
                 file = None if case.file is None else case.file[:600].hex()

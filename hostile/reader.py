@@ -1,6 +1,8 @@
-"""A reader of words, texts, formulas and replies, written from docs/FORMATS.md; it shares nothing with the program. Files are read, and attacks found,
+"""A reader of words, texts, formulas and replies, and a referee of mates, written from docs/FORMATS.md; it shares nothing with the program. Files are read, and attacks found,
 by ../crates/file_trials/random_files.py, which is such a reader too. A man is (side, kind, place): side 0 White, 1 Black; the kinds
 king, queen, rook, bishop, knight, pawn, chancellor, archbishop, amazon, nightrider are 0 to 9; the place of a captured man is None."""
+import collections
+import math
 import pathlib
 import re
 import sys
@@ -17,11 +19,15 @@ NUMBER = re.compile(rb"0|-?[1-9][0-9]*")
 MAN = re.compile(rb"([WB]) ([KQRBNPCAZH]) (gone|([^ ]+) ([^ ]+))", re.DOTALL)
 REPLY = re.compile(rb"([1-8]) ([^ ]+) ([^ ]+)", re.DOTALL)
 NAME = re.compile(rb"[a-z0-9_]{1,32}")
+# The first line of a text, the most men, and the least and the greatest number.
+Grammar = collections.namedtuple("Grammar", "header men least most")
+POSITIONS = Grammar(b"infinite chess 1", 8, -2**63, 2**63 - 1)
+CROWDS = Grammar(b"infinite crowd 1", 32, -2**60, 2**60)
 # For each command the limits of its words; a name has none. The budget may be left out.
 MOVES, BUDGET = (0, 20), (1, 200000)
 SHAPES = {
     b"decide": [MOVES, BUDGET], b"least": [MOVES, BUDGET], b"first": [MOVES, BUDGET], b"describe": [MOVES, BUDGET],
-    b"play": [MOVES, BUDGET], b"defend": [MOVES, BUDGET],
+    b"play": [MOVES, BUDGET], b"defend": [MOVES, BUDGET], b"crowd": [(0, 2), BUDGET],
     b"keep": [MOVES, None, BUDGET], b"check": [None, BUDGET], b"resume": [None, BUDGET], b"migrate": [None, None],
     b"show": [], b"drill": [(0, 2**64 - 1), (0, 100)], b"arith": [BUDGET],
 }
@@ -85,22 +91,22 @@ class Lines:
         raise Refused(3, f"text line {self.number} {why}")
 
 
-def coordinate(field):
-    """The number of 64 bits that a field spells, or None."""
-    if len(field) <= 20 and NUMBER.fullmatch(field) and -2**63 <= int(field) < 2**63:
+def coordinate(field, grammar=POSITIONS):
+    """The number that a field spells, where a text may have it, or None."""
+    if len(field) <= 20 and NUMBER.fullmatch(field) and grammar.least <= int(field) <= grammar.most:
         return int(field)
     return None
 
 
-def read_text(lines):
-    """The side to move, the side that is to mate, and the men of a position text, or its refusal."""
+def read_text(lines, grammar=POSITIONS):
+    """The side to move, the side that is to mate, and the men of a text, or its refusal."""
     def due():
         line = lines.next()
         if line is None:
             lines.refuse("missing")
         return line
 
-    if due() != b"infinite chess 1":
+    if due() != grammar.header:
         lines.refuse("header")
     line = due()
     if line not in TURNS:
@@ -112,7 +118,7 @@ def read_text(lines):
             if len(men) < 2:
                 lines.refuse("few")
             return turn, winner, men
-        if len(men) == 8:
+        if len(men) == grammar.men:
             lines.refuse("many")
         shape = MAN.fullmatch(line)
         if not shape:
@@ -120,7 +126,7 @@ def read_text(lines):
         place = None
         # The two fields of the second shape may not be read as `gone`: there is one field then.
         if shape[4] is not None:
-            place = coordinate(shape[4]), coordinate(shape[5])
+            place = coordinate(shape[4], grammar), coordinate(shape[5], grammar)
             if None in place:
                 lines.refuse("number")
         men.append((SIDES.index(shape[1]), KINDS.index(shape[2]), place))
@@ -152,6 +158,49 @@ def require_sound(turn, men):
 def is_attacked(side, square, men):
     """Whether a man of the side bears on the square."""
     return any(man[0] == side and man[2] is not None and bears(man, square, men) for man in men)
+
+
+DIRECTIONS = [(x, y) for x in range(-2, 3) for y in range(-2, 3) if math.gcd(x, y) == 1]
+
+
+def goes(man, square, men):
+    """Whether a man may go to a square, where check is not looked at."""
+    there = next((it for it in men if it[2] == square), None)
+    if there and there[0] == man[0]:
+        return False
+    if man[1] == KINDS.index(b"P") and not there:
+        return square == (man[2][0], man[2][1] + (1 if man[0] == 0 else -1))
+    return (man[1] != KINDS.index(b"P") or there is not None) and bears(man, square, men)
+
+
+def stops(man, checker, king):
+    """Squares to which a man who is no king may go against a check: that of the checker, and those before him on a way of the man."""
+    (x, y), (from_x, from_y) = man[2], checker[2]
+    dx, dy = king[2][0] - from_x, king[2][1] - from_y
+    length = math.gcd(dx, dy)
+    yield checker[2]
+    for to_x, to_y in DIRECTIONS:
+        across = dx // length * to_y - dy // length * to_x
+        far = (x - from_x) * to_y - (y - from_y) * to_x
+        if across and far % across == 0 and 0 < far // across < length:
+            yield from_x + dx // length * (far // across), from_y + dy // length * (far // across)
+
+
+def is_mated(turn, men):
+    """Whether the side to move is in check and has no legal move, on the whole board."""
+    king = next(man for man in men if man[0] == turn and man[1] == 0)
+    checker = next((man for man in men if man[0] != turn and man[2] is not None and bears(man, king[2], men)), None)
+    if checker is None:
+        return False
+    for man in (man for man in men if man[0] == turn and man[2] is not None):
+        around = [(king[2][0] + x, king[2][1] + y) for x, y in DIRECTIONS if abs(x) < 2 and abs(y) < 2]
+        for square in around if man is king else stops(man, checker, king):
+            if goes(man, square, men):
+                moved = (*man[:2], square)
+                left = [moved if it is man else it for it in men if it is man or it[2] != square]
+                if not is_attacked(1 - turn, square if man is king else king[2], left):
+                    return False
+    return True
 
 
 def shown(turn, winner, men):
