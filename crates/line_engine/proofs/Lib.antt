@@ -2,3 +2,14 @@ pub mod NodeLemmas
 pub mod SetLemmas
 pub mod ItemLemmas
 pub mod AnswerLemmas
+pub mod EachLemmas
+pub mod PartLemmas
+pub mod StepLemmas
+pub mod BearingLemmas
+pub mod CrowdLemmas
+pub mod ReachLemmas
+pub mod LeadLemmas
+pub mod CycleLemmas
+pub mod PathLemmas
+pub mod RoomLemmas
+pub mod StartLemmas

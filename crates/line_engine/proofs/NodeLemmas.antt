@@ -1,5 +1,10 @@
--- The variables of distances, one after the other.
-use Rattle.std.proofs.Common.{◌≡◌, ℕ, zero, suc, ◌+◌, [], ◌∷◌, ◌++◌, sym, ap, ◌∙◌, arith}
+-- The variables of distances, one after the other, and the masks of men.
+use Rattle.std.proofs.Common.{◌≡◌, ℕ, zero, suc, ◌+◌, ◌^◌, ◌<◌, ◌≤◌, List, [], ◌∷◌, ◌++◌, length, Option, Some, None, sym, ap, ◌∙◌, arith}
+use Rattle.std.proofs.Math.Pow.{pow_mono}
+use Rattle.game_rules.specs.declared.men.Man.{Man}
+use Rattle.game_rules.specs.declared.men.Square.{Square}
+use Rattle.mask_sets.specs.Stock.{live_bit, mask_of_men}
+use Rattle.mask_sets.proofs.Masks.{mask_small}
 use Rattle.rule_formula.specs.Seats.{var}
 use Rattle.line_plan.specs.Plan.{distances, distances_from}
 
@@ -16,3 +21,15 @@ distances-more n =
     ∙ sym (from-last 0 n) ∙ ap (λ m. distances_from 0 m) (let next : suc n ≡ n + 1 = omega arith in next)
 
 pub ruleset distance_lists = (distances-more)
+
+-- the mask of all men but one is half as large as a mask may be
+pub mask_half : (men : List Man) → length men ≤ 31 → mask_of_men men < 2 ^ 31
+mask_half men few =
+    let small = mask_small men in
+    let power : 2 ^ length men ≤ 2 ^ 31 = pow_mono few in omega (arith, small, power)
+
+pub bit_small : (z : Option Square) → live_bit z ≤ 1
+bit_small None = omega arith
+bit_small (Some z) = omega arith
+
+pub ruleset masks = (mask_half, bit_small)

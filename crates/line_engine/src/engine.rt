@@ -3,7 +3,7 @@
 ghost use Rattle.std.specs.Prelude.{◌≡◌, ◌↔◌, ◌<◌, ◌≤◌, ◌+◌, ◌^◌, ◌∷◌, [], suc, true, Contains, IfErr, IfOk, IsTrue, Some, length};
 ghost use Rattle.auto_core.specs.Automaton.{Automaton};
 ghost use Rattle.game_rules.specs.Game.{Sound, Value, other};
-ghost use Rattle.lin_formula.specs.SetOf.{Table, as_set};
+ghost use Rattle.lin_formula.specs.SetOf.{Nothing, Table, as_set};
 ghost use Rattle.path_formula.specs.Paths.{options_at};
 ghost use Rattle.rule_formula.specs.Fits.{target_of};
 ghost use Rattle.rule_formula.specs.Placed.{is_live};
@@ -229,8 +229,7 @@ fn force_after(force: Force, option: Opt) -> Force
     }
 }
 
-/// What is found with an option by which this is reached, of which this is kept. Where nothing is kept, he escapes wherever he can
-/// move: the set is made once and counts twice.
+/// What is found with an option by which this is reached, of which this is kept.
 fn escaped(
     work: &mut Work,
     count: u8,
@@ -249,19 +248,61 @@ fn escaped(
     ensures room { IfOk result (λ _. work.new.at ≤ work.old.at + 4000) }
     ensures budget { work.new.memo.budget ≡ work.old.memo.budget }
 {
-    let Losing { escape, moves } = lost;
-    let Some(kept) = kept else {
-        let item = shortened(work, count, reached)?;
-        let again = copied(&item)?;
-        let escape = join(work, count, escape, item)?;
-        work.at += 1;
-        let moves = join(work, count, moves, again)?;
-        return Ok(Losing { escape, moves });
-    };
-    let rest = shortened_rest(work, count, reached.copy()?, kept)?;
-    let escape = join(work, count, escape, rest)?;
+    match kept {
+        None => always_escaped(work, count, reached, lost),
+        Some(kept) => escaped_unless(work, count, reached, kept, lost),
+    }
+}
+
+/// The same where nothing is kept. He escapes wherever he can move: the set is made once and counts twice.
+fn always_escaped(
+    work: &mut Work,
+    count: u8,
+    reached: Auto,
+    lost: Losing,
+) -> Result<Losing, CrowdError>
+    requires few { count ≤ 5 }
+    requires reached { IsFilledOn (plan.distances (suc count)) reached }
+    requires lost { IsFilledLosing count lost }
+    requires room { work.old.at + 4000 ≤ 2 ^ 127 }
+    ensures answers { Answers (escape_by count (Table reached) Nothing (losing_at work.old.at lost))
+        work.old.memo.budget (losing_at work.new.at) result }
+    ensures sets { IfOk result (IsFilledLosing count) }
+    ensures room { IfOk result (λ _. work.new.at ≤ work.old.at + 4000) }
+    ensures budget { work.new.memo.budget ≡ work.old.memo.budget }
+{
+    let first = shortened(work, count, reached)?;
+    let second = copied(&first)?;
+    let escape = join(work, count, lost.escape, first)?;
+    work.at += 1;
+    let moves = join(work, count, lost.moves, second)?;
+    Ok(Losing { escape, moves })
+}
+
+/// The same where this is kept.
+fn escaped_unless(
+    work: &mut Work,
+    count: u8,
+    reached: Auto,
+    kept: Auto,
+    lost: Losing,
+) -> Result<Losing, CrowdError>
+    requires few { count ≤ 5 }
+    requires reached { IsFilledOn (plan.distances (suc count)) reached }
+    requires kept { IsFilledOn (plan.distances (suc count)) kept }
+    requires lost { IsFilledLosing count lost }
+    requires room { work.old.at + 4000 ≤ 2 ^ 127 }
+    ensures answers { Answers (escape_by count (Table reached) (Table kept) (losing_at work.old.at lost))
+        work.old.memo.budget (losing_at work.new.at) result }
+    ensures sets { IfOk result (IsFilledLosing count) }
+    ensures room { IfOk result (λ _. work.new.at ≤ work.old.at + 4000) }
+    ensures budget { work.new.memo.budget ≡ work.old.memo.budget }
+{
+    let again = reached.copy()?;
+    let rest = shortened_rest(work, count, again, kept)?;
+    let escape = join(work, count, lost.escape, rest)?;
     let item = shortened(work, count, reached)?;
-    let moves = join(work, count, moves, item)?;
+    let moves = join(work, count, lost.moves, item)?;
     Ok(Losing { escape, moves })
 }
 
@@ -275,7 +316,8 @@ fn no_distance(alloc: Global) -> Result<Auto, AllocError>
     next.push(0)?;
     let mut accept = Vec::new(alloc);
     accept.push(true)?;
-    Auto::from_rows(alloc, Vec::new(alloc), first, next, accept)
+    let one = Auto::from_rows(alloc, Vec::new(alloc), first, next, accept)?;
+    Ok(one)
 }
 
 /// How many moves of both sides there are until the winner has made so many.

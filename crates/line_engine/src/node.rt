@@ -63,6 +63,7 @@ pub(crate) fn with_first<T: Copy>(alloc: Global, first: T, rest: &[T]) -> Result
 }
 
 /// The mask of the live men.
+#[tactic(auto, using(crate::proofs::NodeLemmas::masks))]
 pub(crate) fn mask_of(men: &[Man]) -> u32
     requires { length men.now ≤ 32 }
     ensures { result ≡ mask_of_men men.now }

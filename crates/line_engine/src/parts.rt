@@ -1,12 +1,15 @@
 //! Where one more move of a path is legal: part by part.
 
-ghost use Rattle.std.specs.Prelude.{◌≡◌, ◌≤◌, ◌<◌, ◌+◌, ◌^◌, ◌∷◌, [], Contains, IfOk, length, map, suc};
+ghost use Rattle.std.specs.Prelude.{◌≡◌, ◌≤◌, ◌<◌, ◌+◌, ◌*◌, ◌^◌, ◌∷◌, [], All, Contains, IfOk, if◌then◌else◌, length, map, suc};
 ghost use Rattle.game_rules.specs.Game.{Sound};
 ghost use Rattle.lin_formula.specs.SetOf.{Nothing, Table, as_set};
-ghost use Rattle.path_formula.specs.Paths.{bear_after, first_part, further_parts, legs_at, options_at, threats_at};
+ghost use Rattle.lin_formula.specs.Tree.{Not};
+ghost use Rattle.path_formula.specs.Paths.{bear_after, first_part, options_at, threats_at};
 ghost use Rattle.path_formula.specs.Places.{home};
-ghost use Rattle.path_formula.specs.Rules.{capture_parts, clear_parts, safe_parts};
+ghost use Rattle.path_formula.specs.Rules.{capture_parts, clear_parts, on_way as on_way_tree};
+ghost use Rattle.path_formula.specs.Small.{AreTwo};
 ghost use Rattle.rule_formula.specs.Placed.{is_live};
+ghost use Rattle.rule_formula.specs.Trees.{is_other as other_than};
 ghost use Rattle.set_plan.specs.Program.{each};
 ghost use Rattle.set_plan.specs.Unite as unite;
 ghost use Rattle.line_plan.specs.Plan as plan;
@@ -20,6 +23,7 @@ use crate::work::Work;
 use auto_core::Auto;
 use formula_auto::SetTable;
 use path_formula::{Force, bear, bearings, captures, distance, is_other, not, on_way};
+use rule_formula::Bearing;
 use track_word::Var;
 
 /// The distances at which the moves before are legal, with one for the further move: any that its ray has.
@@ -52,12 +56,16 @@ fn captured(work: &mut Work, step: &Step, so_far: Option<Auto>) -> Result<Option
     ensures room { IfOk result (λ _. work.new.at ≤ work.old.at + 2000) }
     ensures budget { work.new.memo.budget ≡ work.old.memo.budget }
 {
-    if step.option.taken == 0 || so_far.is_none() {
+    if so_far.is_none() {
+        return Ok(None);
+    }
+    if step.option.taken == 0 {
         return Ok(so_far);
     }
     let count = step.after.count();
     let scene = step.after.scene();
-    let (right, up) = captures(work.alloc, scene, step.option.man, step.option.taken)?;
+    let parts = captures(work.alloc, scene, step.leg.man, step.option.taken)?;
+    let (right, up) = parts;
     let aside = narrow(work, count, so_far, right)?;
     narrow(work, count, aside, up)
 }
@@ -68,11 +76,52 @@ fn off_way(
     step: &Step,
     so_far: Option<Auto>,
     number: u8,
-) -> Result<Option<Auto>, CrowdError> {
-    let (before, after) = (step.before.scene(), step.after.scene());
+) -> Result<Option<Auto>, CrowdError>
+    requires two { AreTwo step.now.before.crowd.men.now step.now.leg.man number }
+    requires set { IsFilled (length step.now.after.path.now) so_far }
+    requires room { work.old.at + 1000 ≤ 2 ^ 127 }
+    ensures answers { Answers (plan.narrow (length step.now.after.path.now)
+        (Not (on_way_tree (home step.now.before.crowd.men.now) step.now.before.legs.now step.now.leg number))
+        (as_set so_far, work.old.at))
+        work.old.memo.budget (made_at work.new.at) result }
+    ensures set { IfOk result (IsFilled (length step.now.after.path.now)) }
+    ensures room { IfOk result (λ _. work.new.at ≤ work.old.at + 1000) }
+    ensures budget { work.new.memo.budget ≡ work.old.memo.budget }
+{
+    let before = step.before.scene();
+    let after = step.after.scene();
     let hit = on_way(work.alloc, before, after, step.leg, number)?;
     let off = not(work.alloc, hit)?;
     narrow(work, step.after.count(), so_far, off)
+}
+
+/// The same, if he is a live man other than the mover and the man that is taken.
+fn off_way_if_other(
+    work: &mut Work,
+    step: &Step,
+    so_far: Option<Auto>,
+    number: u8,
+) -> Result<Option<Auto>, CrowdError>
+    requires two { AreTwo step.now.before.crowd.men.now step.now.leg.man number }
+    requires set { IsFilled (length step.now.after.path.now) so_far }
+    requires room { work.old.at + 1000 ≤ 2 ^ 127 }
+    ensures answers { Answers
+        (each (if other_than (is_live step.now.before.force.mask) step.now.leg.man step.now.option.taken number
+        then Not (on_way_tree (home step.now.before.crowd.men.now) step.now.before.legs.now step.now.leg number) ∷ []
+        else []) (plan.narrow (length step.now.after.path.now)) (as_set so_far, work.old.at))
+        work.old.memo.budget (made_at work.new.at) result }
+    ensures set { IfOk result (IsFilled (length step.now.after.path.now)) }
+    ensures room { IfOk result (λ _. work.new.at ≤ work.old.at + 1000) }
+    ensures budget { work.new.memo.budget ≡ work.old.memo.budget }
+{
+    if so_far.is_none() {
+        return Ok(None);
+    }
+    let mask = step.before.force.mask;
+    if is_other(mask, step.leg.man, step.option.taken, number) {
+        return off_way(work, step, so_far, number);
+    }
+    Ok(so_far)
 }
 
 /// Those of them at which no other man is on the way.
@@ -89,16 +138,59 @@ fn cleared(work: &mut Work, step: &Step, so_far: Option<Auto>) -> Result<Option<
     ensures room { IfOk result (λ _. work.new.at ≤ work.old.at + 32000) }
     ensures budget { work.new.memo.budget ≡ work.old.memo.budget }
 {
-    let Step { before, option, .. } = *step;
     let mut left = so_far;
-    for n in 0..before.crowd.men.len() as u8 {
-        let number = n + 1;
-        if left.is_none() {
-            return Ok(None);
-        }
-        if is_other(before.force.mask, option.man, option.taken, number) {
-            left = off_way(work, step, left, number)?;
-        }
+    for n in 0..step.before.crowd.men.len() as u8 {
+        left = off_way_if_other(work, step, left, n + 1)?;
+    }
+    Ok(left)
+}
+
+/// Those of them at which a man does not bear on a king.
+fn without_bearing(
+    work: &mut Work,
+    node: &Node,
+    so_far: Option<Auto>,
+    bearing: Bearing,
+) -> Result<Option<Auto>, CrowdError>
+    requires two { AreTwo node.now.crowd.men.now bearing.man bearing.king }
+    requires set { IsFilled (length node.now.path.now) so_far }
+    requires room { work.old.at + 1000 ≤ 2 ^ 127 }
+    ensures answers { Answers (plan.narrow (length node.now.path.now)
+        (Not (bear_after (position_of node.now.crowd) node.now.path.now bearing)) (as_set so_far, work.old.at))
+        work.old.memo.budget (made_at work.new.at) result }
+    ensures set { IfOk result (IsFilled (length node.now.path.now)) }
+    ensures room { IfOk result (λ _. work.new.at ≤ work.old.at + 1000) }
+    ensures budget { work.new.memo.budget ≡ work.old.memo.budget }
+{
+    if so_far.is_none() {
+        return Ok(None);
+    }
+    let bears = bear(work.alloc, node.scene(), node.force.mask, bearing)?;
+    let off = not(work.alloc, bears)?;
+    narrow(work, node.count(), so_far, off)
+}
+
+/// Those of them at which none of some men bears on a king.
+fn without_bearings(
+    work: &mut Work,
+    node: &Node,
+    so_far: Option<Auto>,
+    bearings: &[Bearing],
+) -> Result<Option<Auto>, CrowdError>
+    requires men { All (λ b. AreTwo node.now.crowd.men.now b.man b.king) bearings.now }
+    requires set { IsFilled (length node.now.path.now) so_far }
+    requires room { work.old.at + 1000 * length bearings.now ≤ 2 ^ 127 }
+    ensures answers { Answers
+        (each bearings.now (λ b. plan.narrow (length node.now.path.now)
+        (Not (bear_after (position_of node.now.crowd) node.now.path.now b))) (as_set so_far, work.old.at))
+        work.old.memo.budget (made_at work.new.at) result }
+    ensures set { IfOk result (IsFilled (length node.now.path.now)) }
+    ensures room { IfOk result (λ _. work.new.at ≤ work.old.at + 1000 * length bearings.now) }
+    ensures budget { work.new.memo.budget ≡ work.old.memo.budget }
+{
+    let mut left = so_far;
+    for bearing in bearings {
+        left = without_bearing(work, node, left, *bearing)?;
     }
     Ok(left)
 }
@@ -119,17 +211,8 @@ fn safe(work: &mut Work, after: &Node, so_far: Option<Auto>) -> Result<Option<Au
     if so_far.is_none() {
         return Ok(None);
     }
-    let mut left = so_far;
     let dangers = bearings(work.alloc, after.crowd.men, after.force)?;
-    for bearing in dangers.as_slice() {
-        if left.is_none() {
-            return Ok(None);
-        }
-        let bears = bear(work.alloc, after.scene(), after.force.mask, *bearing)?;
-        let off = not(work.alloc, bears)?;
-        left = narrow(work, after.count(), left, off)?;
-    }
-    Ok(left)
+    without_bearings(work, after, so_far, dangers.as_slice())
 }
 
 /// The distances at which the moves before and the further move are legal, one after the other. The table has the set of those at
@@ -150,10 +233,61 @@ pub(crate) fn reach(
     ensures room { IfOk result (λ _. work.new.at ≤ work.old.at + 2 ^ 20) }
     ensures budget { work.new.memo.budget ≡ work.old.memo.budget }
 {
-    let begun = begun(work, step, reached)?;
-    let captured = captured(work, step, begun)?;
-    let cleared = cleared(work, step, captured)?;
-    safe(work, &step.after, cleared)
+    let first = begun(work, step, reached)?;
+    let second = captured(work, step, first)?;
+    let third = cleared(work, step, second)?;
+    safe(work, &step.after, third)
+}
+
+/// What there is so far, with those of the table at which a man bears on a king.
+fn with_bearing(
+    work: &mut Work,
+    node: &Node,
+    reached: &SetTable,
+    so_far: Option<Auto>,
+    bearing: Bearing,
+) -> Result<Option<Auto>, CrowdError>
+    requires two { AreTwo node.now.crowd.men.now bearing.man bearing.king }
+    requires set { IsOneSet (length node.now.path.now) reached.now }
+    requires so_far { IsFilled (length node.now.path.now) so_far }
+    requires room { work.old.at + 2000 ≤ 2 ^ 127 }
+    ensures answers { (a : _) → reached.now ≡ a ∷ []
+        → Answers (unite.with_item (plan.distances (length node.now.path.now)) tt
+        (plan.narrowed (length node.now.path.now) (bear_after (position_of node.now.crowd) node.now.path.now bearing) (Table a))
+        (as_set so_far, work.old.at)) work.old.memo.budget (made_at work.new.at) result }
+    ensures set { IfOk result (IsFilled (length node.now.path.now)) }
+    ensures room { IfOk result (λ _. work.new.at ≤ work.old.at + 2000) }
+    ensures budget { work.new.memo.budget ≡ work.old.memo.budget }
+{
+    let count = node.count();
+    let bears = bear(work.alloc, node.scene(), node.force.mask, bearing)?;
+    let next = narrowed(work, count, reached, bears)?;
+    join(work, count, so_far, next)
+}
+
+/// Those of the table at which one of some men bears on a king.
+fn with_bearings(
+    work: &mut Work,
+    node: &Node,
+    reached: &SetTable,
+    bearings: &[Bearing],
+) -> Result<Option<Auto>, CrowdError>
+    requires men { All (λ b. AreTwo node.now.crowd.men.now b.man b.king) bearings.now }
+    requires set { IsOneSet (length node.now.path.now) reached.now }
+    requires room { work.old.at + 2000 * length bearings.now ≤ 2 ^ 127 }
+    ensures answers { (a : _) → reached.now ≡ a ∷ []
+        → Answers (each bearings.now (λ b. unite.with_item (plan.distances (length node.now.path.now)) tt
+        (plan.narrowed (length node.now.path.now) (bear_after (position_of node.now.crowd) node.now.path.now b) (Table a)))
+        (Nothing, work.old.at)) work.old.memo.budget (made_at work.new.at) result }
+    ensures set { IfOk result (IsFilled (length node.now.path.now)) }
+    ensures room { IfOk result (λ _. work.new.at ≤ work.old.at + 2000 * length bearings.now) }
+    ensures budget { work.new.memo.budget ≡ work.old.memo.budget }
+{
+    let mut so_far = None;
+    for bearing in bearings {
+        so_far = with_bearing(work, node, reached, so_far, *bearing)?;
+    }
+    Ok(so_far)
 }
 
 /// The distances at which the side that is to move is in check. The table has the set of those at which the moves are legal.
@@ -173,17 +307,10 @@ pub(crate) fn checked(
     ensures room { IfOk result (λ _. work.new.at ≤ work.old.at + 2 ^ 20) }
     ensures budget { work.new.memo.budget ≡ work.old.memo.budget }
 {
-    let count = node.count();
     let others = Force {
         mask: node.force.mask,
         side: node.force.side.other(),
     };
     let threats = bearings(work.alloc, node.crowd.men, others)?;
-    let mut so_far = None;
-    for bearing in threats.as_slice() {
-        let bears = bear(work.alloc, node.scene(), node.force.mask, *bearing)?;
-        let next = narrowed(work, count, reached, bears)?;
-        so_far = join(work, count, so_far, next)?;
-    }
-    Ok(so_far)
+    with_bearings(work, node, reached, threats.as_slice())
 }

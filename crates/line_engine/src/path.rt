@@ -2,7 +2,8 @@
 
 ghost use Rattle.line_engine.specs.Nodes.{IsAfterPath, position_of};
 ghost use Rattle.path_formula.specs.Paths.{leg_of};
-ghost use Rattle.std.specs.Prelude.{◌≡◌, ◌∷◌};
+ghost use Rattle.rule_formula.specs.Options.{is_side};
+ghost use Rattle.std.specs.Prelude.{◌≡◌, ◌∷◌, length};
 
 use crate::crowd::Crowd;
 use path_formula::{Force, Leg, Scene};
@@ -33,12 +34,17 @@ pub(crate) struct Step<'a> {
 
 impl<'a> Node<'a> {
     /// How many moves the path has.
-    pub(crate) fn count(&self) -> u8 {
+    pub(crate) fn count(&self) -> u8
+        ensures { result ≡ length self.now.path.now }
+    {
         self.legs.len() as u8
     }
 
     /// The men on their first squares, and the legs after which they are looked at.
-    pub(crate) fn scene(&self) -> Scene<'a> {
+    pub(crate) fn scene(&self) -> Scene<'a>
+        ensures men { result.men.now ≡ self.now.crowd.men.now }
+        ensures legs { result.legs.now ≡ self.now.legs.now }
+    {
         Scene {
             men: self.crowd.men,
             legs: self.legs,
@@ -46,7 +52,9 @@ impl<'a> Node<'a> {
     }
 
     /// Whether the winner is to move.
-    pub(crate) fn is_winners(&self) -> bool {
+    pub(crate) fn is_winners(&self) -> bool
+        ensures { result ≡ is_side self.now.force.side self.now.crowd.winner }
+    {
         self.force.side == self.crowd.winner
     }
 }
