@@ -4,7 +4,7 @@ ghost use Rattle.std.specs.Prelude.{◌<◌, IfOk};
 
 use desk_base::{FetchError, KeepError, MemShelf, MemSink, Shelf, Sink, put_all};
 use std::alloc::Global;
-use trial_rows::{Fields, RowError, separate, write_bytes, written};
+use trial_rows::{Fields, RowError, Rows, answer_steps, write_bytes, written};
 
 /// A sink: the calls that are to fail, the most that a call writes, and the room.
 fn sink_of(alloc: Global, fields: &mut Fields) -> Result<MemSink, RowError> {
@@ -96,40 +96,33 @@ fn file_step(shelf: &MemShelf, fields: &mut Fields, out: &mut String) -> Result<
     }
 }
 
-/// A call of the store, or a look at one of its files.
-fn shelf_step(
-    alloc: Global,
-    shelf: &mut MemShelf,
-    fields: &mut Fields,
-    out: &mut String,
-) -> Result<(), RowError> {
-    match fields.word()? {
-        "keep" => keep_step(alloc, shelf, fields, out),
-        "fetch" => fetch_step(alloc, shelf, fields, out),
-        "file" => file_step(shelf, fields, out),
-        _ => Err(RowError::Word),
-    }
+/// The store of a row.
+#[derive(Drop)]
+struct Store {
+    shelf: MemShelf,
 }
 
-/// Does steps, and writes what they answer.
-fn shelf_steps(
-    alloc: Global,
-    shelf: &mut MemShelf,
-    steps: &str,
-    out: &mut String,
-) -> Result<(), RowError> {
-    for (place, text) in steps.split('/').enumerate() {
-        separate(out, place, '/')?;
-        let mut fields = Fields::new(text);
-        shelf_step(alloc, shelf, &mut fields, out)?;
-        fields.end()?;
+impl Rows for Store {
+    /// A call of the store, or a look at one of its files.
+    fn answer(
+        &mut self,
+        alloc: Global,
+        kind: &str,
+        fields: &mut Fields,
+        out: &mut String,
+    ) -> Result<(), RowError> {
+        match kind {
+            "keep" => keep_step(alloc, &mut self.shelf, fields, out),
+            "fetch" => fetch_step(alloc, &mut self.shelf, fields, out),
+            "file" => file_step(&self.shelf, fields, out),
+            _ => Err(RowError::Word),
+        }
     }
-    Ok(())
 }
 
 /// `shelf FAIL STEP/STEP ..`: what the steps answer, over a store in memory that begins without files, parted by `/`.
 pub fn shelf_row(alloc: Global, fields: &mut Fields, out: &mut String) -> Result<(), RowError> {
     let fail = fields.numbers::<u32>(alloc)?;
-    let mut shelf = MemShelf::new(alloc, fail);
-    shelf_steps(alloc, &mut shelf, fields.rest(), out)
+    let shelf = MemShelf::new(alloc, fail);
+    answer_steps(alloc, &mut Store { shelf }, fields.rest(), '/', out)
 }

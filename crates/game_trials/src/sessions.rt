@@ -7,7 +7,7 @@ use chess_game::{Frame, Move, Position, Side};
 use chess_text::position_bytes;
 use game_session::{Session, TooWide};
 use std::alloc::Global;
-use trial_rows::{Fields, Named, RowError, separate, write_truth, written, yes_or_no};
+use trial_rows::{Fields, Named, RowError, Rows, answer_steps, write_truth, written, yes_or_no};
 use winning_sets::{SolveError, Solved, solve};
 
 /// A solved position, where the budget sufficed.
@@ -30,13 +30,19 @@ fn solved(
     }
 }
 
-/// A session of a position that is won.
-fn session_of(alloc: Global, solved: Solved, frame: Frame) -> Result<Session, RowError> {
+/// A game that a row plays.
+#[derive(Drop)]
+struct Game {
+    session: Session,
+}
+
+/// The game of a position that is won.
+fn game_of(alloc: Global, solved: Solved, frame: Frame) -> Result<Game, RowError> {
     if !solved.verdict() {
         return Err(RowError::Condition);
     }
     match Session::begin(alloc, solved, frame) {
-        Ok(session) => Ok(session),
+        Ok(session) => Ok(Game { session }),
         Err(_) => Err(RowError::Memory),
     }
 }
@@ -94,36 +100,23 @@ fn write_position(alloc: Global, position: &Position, out: &mut String) -> Resul
     Ok(())
 }
 
-fn step(
-    alloc: Global,
-    session: &mut Session,
-    fields: &mut Fields,
-    out: &mut String,
-) -> Result<(), RowError> {
-    match fields.word()? {
-        "win" => win_step(session, out),
-        "other" => other_step(session, fields, out),
-        "left" => written(write!(out, "{}", session.moves_left())),
-        "over" => write_truth(out, session.over()),
-        "position" => write_position(alloc, &session.position(), out),
-        _ => Err(RowError::Word),
+impl Rows for Game {
+    fn answer(
+        &mut self,
+        alloc: Global,
+        kind: &str,
+        fields: &mut Fields,
+        out: &mut String,
+    ) -> Result<(), RowError> {
+        match kind {
+            "win" => win_step(&mut self.session, out),
+            "other" => other_step(&mut self.session, fields, out),
+            "left" => written(write!(out, "{}", self.session.moves_left())),
+            "over" => write_truth(out, self.session.over()),
+            "position" => write_position(alloc, &self.session.position(), out),
+            _ => Err(RowError::Word),
+        }
     }
-}
-
-/// Does steps, and writes what they answer.
-fn do_steps(
-    alloc: Global,
-    session: &mut Session,
-    steps: &str,
-    out: &mut String,
-) -> Result<(), RowError> {
-    for (place, text) in steps.split('/').enumerate() {
-        separate(out, place, '/')?;
-        let mut fields = Fields::new(text);
-        step(alloc, session, &mut fields, out)?;
-        fields.end()?;
-    }
-    Ok(())
 }
 
 /// `game NAME WINNER MOVES BUDGET FRAME STEP/STEP ..`: what the steps answer, parted by `/`.
@@ -135,6 +128,6 @@ pub fn game_row(
 ) -> Result<(), RowError> {
     let solved = solved(alloc, positions, fields)?;
     let frame = frame(alloc, fields)?;
-    let mut session = session_of(alloc, solved, frame)?;
-    do_steps(alloc, &mut session, fields.rest(), out)
+    let mut game = game_of(alloc, solved, frame)?;
+    answer_steps(alloc, &mut game, fields.rest(), '/', out)
 }

@@ -7,17 +7,18 @@ use auto_core::Auto;
 use auto_reduce::sign_stable;
 use chess_game::Position;
 use std::alloc::Global;
-use trial_rows::{Fields, Named, RowError, numbers, separate, write_truth, written};
+use trial_rows::{Fields, Named, RowError, Rows, answer_steps, numbers, write_truth, written};
 use winning_sets::{SolveError, Solved, Solver};
 
-/// A solver of a row, and what it has solved last.
+/// A solver of a row, what it has solved last, and the positions that steps may name.
 #[derive(Drop)]
-struct Bench {
+struct Bench<'a> {
+    positions: &'a Named<Position>,
     solver: Solver,
     last: Option<Solved>,
 }
 
-impl Bench {
+impl<'a> Bench<'a> {
     /// Whether the winner mates within so many moves.
     fn solve(&mut self, moves: u8) -> Result<bool, RowError>
         requires { moves ≤ 20 }
@@ -108,49 +109,33 @@ fn keeps_step(
     write_truth(out, solved.keeps(ply, &position))
 }
 
-/// A question, and the positions that it may name.
-fn step(
-    alloc: Global,
-    positions: &Named<Position>,
-    bench: &mut Bench,
-    fields: &mut Fields,
-    out: &mut String,
-) -> Result<(), RowError> {
-    match fields.word()? {
-        "solve" => solve_step(bench, fields, out),
-        "plies" => written(write!(out, "{}", bench.solver.plies())),
-        "reach" => {
-            let (ply, mask) = place(fields)?;
-            write_is_in(alloc, bench.solver.reach(ply, mask), fields, out)
+impl<'a> Rows for Bench<'a> {
+    fn answer(
+        &mut self,
+        alloc: Global,
+        kind: &str,
+        fields: &mut Fields,
+        out: &mut String,
+    ) -> Result<(), RowError> {
+        match kind {
+            "solve" => solve_step(self, fields, out),
+            "plies" => written(write!(out, "{}", self.solver.plies())),
+            "reach" => {
+                let (ply, mask) = place(fields)?;
+                write_is_in(alloc, self.solver.reach(ply, mask), fields, out)
+            }
+            "reached" => {
+                let (ply, mask) = place(fields)?;
+                write_is_in(alloc, self.solved()?.reach(ply, mask), fields, out)
+            }
+            "kept" => {
+                let (ply, mask) = place(fields)?;
+                write_is_in(alloc, self.solved()?.set(ply, mask), fields, out)
+            }
+            "keeps" => keeps_step(self.positions, self.solved()?, fields, out),
+            word => write_solved(self.solved()?, word, out),
         }
-        "reached" => {
-            let (ply, mask) = place(fields)?;
-            write_is_in(alloc, bench.solved()?.reach(ply, mask), fields, out)
-        }
-        "kept" => {
-            let (ply, mask) = place(fields)?;
-            write_is_in(alloc, bench.solved()?.set(ply, mask), fields, out)
-        }
-        "keeps" => keeps_step(positions, bench.solved()?, fields, out),
-        word => write_solved(bench.solved()?, word, out),
     }
-}
-
-/// Does steps, and writes what they answer.
-fn do_steps(
-    alloc: Global,
-    positions: &Named<Position>,
-    bench: &mut Bench,
-    steps: &str,
-    out: &mut String,
-) -> Result<(), RowError> {
-    for (place, text) in steps.split('/').enumerate() {
-        separate(out, place, ' ')?;
-        let mut fields = Fields::new(text);
-        step(alloc, positions, bench, &mut fields, out)?;
-        fields.end()?;
-    }
-    Ok(())
 }
 
 /// A solver of a sound position.
@@ -173,6 +158,10 @@ pub fn solver_row(
     out: &mut String,
 ) -> Result<(), RowError> {
     let solver = solver_of(alloc, positions, fields)?;
-    let mut bench = Bench { solver, last: None };
-    do_steps(alloc, positions, &mut bench, fields.rest(), out)
+    let mut bench = Bench {
+        positions,
+        solver,
+        last: None,
+    };
+    answer_steps(alloc, &mut bench, fields.rest(), ' ', out)
 }

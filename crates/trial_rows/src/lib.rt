@@ -11,5 +11,5 @@ mod writing;
 pub use errors::RowError;
 pub use fields::{Fields, number, numbers};
 pub use named::Named;
-pub use script::{Rows, answer_script};
+pub use script::{Rows, answer_script, answer_steps};
 pub use writing::{separate, write_bytes, write_truth, written, yes_or_no};

@@ -2,6 +2,7 @@
 
 use crate::errors::RowError;
 use crate::fields::Fields;
+use crate::writing::separate;
 use std::alloc::Global;
 use std::io;
 use std::io::Write;
@@ -29,6 +30,34 @@ fn answer<R: Rows>(alloc: Global, rows: &mut R, row: &str) -> Result<String, Row
         answered => answered?,
     }
     Ok(out)
+}
+
+/// Writes what the call of a step answers, a step being spelled as a row is.
+fn answer_step<R: Rows>(
+    alloc: Global,
+    rows: &mut R,
+    step: &str,
+    out: &mut String,
+) -> Result<(), RowError> {
+    let mut fields = Fields::new(step);
+    let kind = fields.word()?;
+    rows.answer(alloc, kind, &mut fields, out)?;
+    fields.end()
+}
+
+/// Writes what the steps of a text answer, which are parted by `/`, with a mark between any two answers.
+pub fn answer_steps<R: Rows>(
+    alloc: Global,
+    rows: &mut R,
+    steps: &str,
+    mark: char,
+    out: &mut String,
+) -> Result<(), RowError> {
+    for (place, step) in steps.split('/').enumerate() {
+        separate(out, place, mark)?;
+        answer_step(alloc, rows, step, out)?;
+    }
+    Ok(())
 }
 
 /// Whether a line has a row.
