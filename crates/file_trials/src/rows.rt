@@ -26,6 +26,11 @@ pub fn file_row(
     files.put(alloc, name, bytes)
 }
 
+/// Writes what comes of bytes that are read.
+fn write_read(alloc: Global, bytes: &[u8], out: &mut String) -> Result<(), RowError> {
+    write_outcome(out, &read_file(alloc, bytes))
+}
+
 /// `read NAME`: what comes of a file.
 pub fn read_row(
     alloc: Global,
@@ -35,7 +40,7 @@ pub fn read_row(
 ) -> Result<(), RowError> {
     let bytes = files.get(fields.word()?)?.as_slice();
     fields.end()?;
-    write_outcome(out, &read_file(alloc, bytes))
+    write_read(alloc, bytes, out)
 }
 
 /// The bytes with others from a place on.
@@ -60,7 +65,7 @@ pub fn change_row(
     let at = fields.number::<usize>()?;
     let piece = spelled(alloc, fields.rest())?;
     let changed = changed(alloc, bytes, at, piece.as_slice())?;
-    write_outcome(out, &read_file(alloc, changed.as_slice()))
+    write_read(alloc, changed.as_slice(), out)
 }
 
 /// `more NAME WORDS`: what comes of a file with more bytes behind it.
@@ -73,7 +78,7 @@ pub fn more_row(
     let mut bytes = Vec::from_slice(alloc, files.get(fields.word()?)?.as_slice())?;
     let piece = spelled(alloc, fields.rest())?;
     bytes.extend_from_slice(piece.as_slice())?;
-    write_outcome(out, &read_file(alloc, bytes.as_slice()))
+    write_read(alloc, bytes.as_slice(), out)
 }
 
 /// Whether what comes of the first bytes of a file is that it is cut where they end.
@@ -183,6 +188,25 @@ fn solved_of(alloc: Global, claim: &Claim) -> Result<Solved, RowError>
     }
 }
 
+/// The same for the claim of a file that is one.
+fn solved_in(alloc: Global, bytes: &[u8]) -> Result<Solved, RowError>
+    ensures { IfOk result (λ solved. solved.origin ≡ Plan) }
+{
+    let claim = claim_in(alloc, bytes)?;
+    solved_of(alloc, &claim)
+}
+
+/// The bytes of the files that the last two fields name.
+fn two_files<'f>(
+    files: &'f Named<Vec<u8>>,
+    fields: &mut Fields,
+) -> Result<(&'f [u8], &'f [u8]), RowError> {
+    let bytes = files.get(fields.word()?)?.as_slice();
+    let other = files.get(fields.word()?)?.as_slice();
+    fields.end()?;
+    Ok((bytes, other))
+}
+
 /// Writes how many bytes there are, and whether they are those of the other file.
 fn write_bytes(out: &mut String, bytes: &[u8], other: &[u8]) -> Result<(), RowError> {
     let word = if bytes == other { "same" } else { "other" };
@@ -210,10 +234,8 @@ pub fn write_row(
     fields: &mut Fields,
     out: &mut String,
 ) -> Result<(), RowError> {
-    let claim = claim_in(alloc, files.get(fields.word()?)?.as_slice())?;
-    let other = files.get(fields.word()?)?.as_slice();
-    fields.end()?;
-    let solved = solved_of(alloc, &claim)?;
+    let (bytes, other) = two_files(files, fields)?;
+    let solved = solved_in(alloc, bytes)?;
     write_result(out, write_file(alloc, &solved), other)
 }
 
@@ -224,10 +246,8 @@ pub fn write_1_row(
     fields: &mut Fields,
     out: &mut String,
 ) -> Result<(), RowError> {
-    let claim = claim_in(alloc, files.get(fields.word()?)?.as_slice())?;
-    let other = files.get(fields.word()?)?.as_slice();
-    fields.end()?;
-    let solved = solved_of(alloc, &claim)?;
+    let (bytes, other) = two_files(files, fields)?;
+    let solved = solved_in(alloc, bytes)?;
     if !Version::Dense.fits(solved.winner(), &solved.position()) {
         return Err(RowError::Condition);
     }
@@ -241,9 +261,8 @@ pub fn migrate_row(
     fields: &mut Fields,
     out: &mut String,
 ) -> Result<(), RowError> {
-    let claim = claim_in(alloc, files.get(fields.word()?)?.as_slice())?;
-    let other = files.get(fields.word()?)?.as_slice();
-    fields.end()?;
+    let (bytes, other) = two_files(files, fields)?;
+    let claim = claim_in(alloc, bytes)?;
     write_result(out, write_claim(alloc, &claim), other)
 }
 
