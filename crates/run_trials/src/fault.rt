@@ -84,12 +84,12 @@ pub fn at_line(line: u64, done: Result<(), ScriptWhy>) -> Result<(), Refusal> {
 }
 
 /// Why a script is not performed to its end.
-#[derive(Drop)]
+#[derive(Clone, Copy)]
 pub enum Stop {
     /// One of its lines is refused.
     Script(Refusal),
     /// It cannot be read, nothing more can be written, or there is no memory for a run.
-    Host(io::Error),
+    Host,
 }
 
 impl From<Refusal> for Stop {
@@ -99,13 +99,13 @@ impl From<Refusal> for Stop {
 }
 
 impl From<AllocError> for Stop {
-    fn from(error: AllocError) -> Self {
-        Stop::Host(io::Error::from(error))
+    fn from(_error: AllocError) -> Self {
+        Stop::Host
     }
 }
 
 impl From<io::Error> for Stop {
-    fn from(error: io::Error) -> Self {
-        Stop::Host(error)
+    fn from(_error: io::Error) -> Self {
+        Stop::Host
     }
 }

@@ -25,8 +25,21 @@ use std::io;
 use std::io::{Read, Write};
 use std::process::ExitCode;
 
-/// Performs the runs of the script, line by line.
+/// Performs the runs of the script, line by line, and writes which line is refused.
 fn perform<W: Write + Drop>(
+    alloc: Global,
+    source: &mut MemSource,
+    runner: &mut Runner<W>,
+) -> Result<(), Stop> {
+    let ended = perform_lines(alloc, source, runner);
+    if let Err(Stop::Script(refusal)) = ended {
+        runner.refuse(refusal)?;
+    }
+    ended
+}
+
+/// Performs the runs of the script, line by line.
+fn perform_lines<W: Write + Drop>(
     alloc: Global,
     source: &mut MemSource,
     runner: &mut Runner<W>,
@@ -62,13 +75,7 @@ fn perform_input(rt: &HostRuntime) -> Result<(), Stop> {
     rt.stdin().read_to_end(&mut script)?;
     let mut source = MemSource::new(script, Vec::new(rt.alloc()), usize::MAX);
     let mut runner = Runner::new(rt.alloc(), io::writer(rt));
-    match perform(rt.alloc(), &mut source, &mut runner) {
-        Err(Stop::Script(refusal)) => {
-            runner.refuse(refusal)?;
-            Err(Stop::Script(refusal))
-        }
-        ended => ended,
-    }
+    perform(rt.alloc(), &mut source, &mut runner)
 }
 
 fn main(rt: HostRuntime) -> ExitCode {
