@@ -22,7 +22,7 @@ BUILT = pathlib.Path(__file__).resolve().parent.parent / "crates/mate_main/out/m
 HEADERS = {"crowd": "infinite crowd 1", "decide": "infinite chess 1"}
 STRONG, ANY = "QQZZCARRH", "QRBNPCAZH"
 # The number of moves, and whether the winner is to move, as often as it stands here; and up to how many men of the number.
-ASKED = [(0, False)] * 3 + [(1, True)] * 10 + [(1, False)] * 2 + [(2, True)] * 4 + [(2, False)]
+ASKED = [(0, False)] * 8 + [(1, True)] * 24 + [(1, False)] * 6 + [(2, True)]
 MOST_MEN = {0: 8, 1: 8, 2: 4}
 # The codes of runs without an answer: past the budget, no memory, no time.
 NO_ANSWER = (8, 10, -signal.SIGKILL, -signal.SIGXCPU)
