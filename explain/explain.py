@@ -493,6 +493,12 @@ def of_budget(told, words):
     return said("over budget / greatest" if greatest else "over budget", **values)
 
 
+def of_memory(command):
+    """Returns the sentence on want of memory."""
+    shape = SHAPES[command]
+    return said("memory" if {MOVES, "L"} & set(shape) else "memory / no moves" if BUDGET in shape else "memory / no budget")
+
+
 # Files
 
 def names_of(words):
@@ -587,10 +593,10 @@ def replies_of(told, position, rest):
     return game
 
 
-def of_reply(number, why, reply, position):
-    """Returns the sentence on a reply that is refused."""
+def of_reply(noun, number, why, reply, position):
+    """Returns the sentence on a reply, or on a move of the winner, that is refused."""
     text = plain(reply)
-    told = dict(line=number, quote=quoted(reply))
+    told = dict(what=noun.capitalize(), noun=noun, line=number, quote=quoted(reply))
     fields = text.split(" ")
     if why == "unreadable":
         return of_unreadable(told, text, fields, position)
@@ -639,7 +645,8 @@ def of_game(code, lines, words, text, folder):
     """Returns the sentences on the replies of a game, and on its end."""
     position, rest = start_of(words, text, folder)
     game = replies_of([it for it in lines if it not in ("mate", "held", "stuck")], position, rest) if position else Replies()
-    made = [of_reply(*it) for it in game.refused[-MOST_REPLIES:]]
+    noun = "move" if words[0] == "defend" else "reply"
+    made = [of_reply(noun, *it) for it in game.refused[-MOST_REPLIES:]]
     if code == 12:
         by = f" / {words[0]}" if words[0] in ("resume", "defend") else ""
         made.append(said(f"ended{by}" if game.last != "quit" else "ended / defend quit" if words[0] == "defend" else "ended / quit", mended=" ".join(words)))
@@ -722,11 +729,11 @@ def of_end(code, fields, words, text, folder):
     if code == 9:
         return said(f"wide / {words[0]}" if words[0] in ("resume", "defend") else "wide")
     if code == 10:
-        return said("memory" if fields[-1:] == ["memory"] else "memory / words")
+        return of_memory(words[0]) if fields[-1:] == ["memory"] else said("memory / words")
     if code == 11:
         return of_file(fields[1:], words, folder)
     if code == 13:
-        return said("too many lines")
+        return said("too many lines / defend" if words[0] == "defend" else "too many lines")
     return None
 
 

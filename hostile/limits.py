@@ -236,7 +236,7 @@ class Kept:
 
 
 # Commands that keep no file, and take some tenths of a second.
-KEEPERS_OF_NONE = [("describe 2", LADDER), ("defend 2", DEFENCE), ("crowd 1", CROWD), ("crowd 2", CROWD)]
+KEEPERS_OF_NONE = [("describe 2", LADDER), ("defend 1", DEFENCE), ("crowd 1", CROWD), ("crowd 2", CROWD)]
 
 
 def signals(trials):
