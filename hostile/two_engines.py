@@ -20,10 +20,10 @@ import reader
 
 BUILT = pathlib.Path(__file__).resolve().parent.parent / "crates/mate_main/out/mate_main"
 HEADERS = {"crowd": "infinite crowd 1", "decide": "infinite chess 1"}
-STRONG, ANY = "QQZZCARRH", "QRBNPCAZH"
-# The number of moves, and whether the winner is to move, as often as it stands here; and up to how many men of the number.
-ASKED = [(0, False)] * 8 + [(1, True)] * 24 + [(1, False)] * 6 + [(2, True)]
-MOST_MEN = {0: 8, 1: 8, 2: 4}
+STRONG, ANY = "QQRRRRCAZH", "QRBNPCAZH"
+# The number of moves, and whether the winner is to move, as often as it stands here; and up to how many men there are then: a run takes longer with both.
+ASKED = [(0, False)] * 12 + [(1, True)] * 60 + [(1, False)] * 8 + [(2, True)]
+MOST_MEN = {(0, False): 8, (1, True): 8, (1, False): 4, (2, True): 4}
 # The codes of runs without an answer: past the budget, no memory, no time.
 NO_ANSWER = (8, 10, -signal.SIGKILL, -signal.SIGXCPU)
 
@@ -44,12 +44,12 @@ def squares(draw, count, is_tight):
 def drawn(draw):
     """A sound position, with who is to move, who is to mate and within how many moves."""
     moves, is_winners = draw.choice(ASKED)
-    most = MOST_MEN[moves]
+    most = MOST_MEN[moves, is_winners]
     winner = draw.randrange(2)
     turn = winner if is_winners else 1 - winner
     is_tight = draw.random() < 0.8
     strong = min(draw.choice([1, 2, 2, 3]), most - 2) if is_tight else 0
-    others = min(draw.choice([0, 0, 1, 1, 2, 3, 4, 6]), most - 2 - strong)
+    others = min(draw.choice([0] * 10 + [1] * 8 + [2] * 4 + [3, 6]), most - 2 - strong)
     kinds = [(winner, draw.choice(STRONG)) for _ in range(strong)] + [(draw.randrange(2), draw.choice(ANY)) for _ in range(others)]
     men = [(1 - winner, "K"), (winner, "K"), *kinds]
     places = squares(draw, len(kinds), is_tight)
@@ -112,7 +112,7 @@ def main():
             print(f"{ends}\n{text_of(HEADERS['crowd'], sides, men)}", flush=True)
     mates = sum(count for (_, _, is_mate), count in counts.items() if is_mate)
     print(f"seed {given.seed}: {sum(counts.values())} positions answered by both, {mates} of them with a mate; {differ} differ")
-    for moves in MOST_MEN:
+    for moves in range(3):
         told = [f"{men} men {counts[moves, men, True]} and {counts[moves, men, False]}" for men in range(2, 9) if counts[moves, men, True] + counts[moves, men, False]]
         print(f"  {moves} moves, with a mate and without: {', '.join(told)}")
     print("not answered, by the command and its code: " + ", ".join(f"{what}: {count}" for what, count in sorted(left_out.items())))
