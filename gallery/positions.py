@@ -250,8 +250,6 @@ CROWDS = [
     Crowd("crowd-defended", "The knight one leap nearer", middle_game("3 6"), 1, "no mate in 1",
           "Black's knight on 3 6 takes on 5 7. Only three moves give check, and each is answered. The knight may also go to 6 6, where the pawn on 7 7 takes him; and the rook to 7 9, where nobody guards it and the king takes. White's other men do not get to a line of the king: from below and from the sides "
           "he is behind his own men, and of those above, on file 7 and the diagonals of 6 9 and 8 9, neither the queen, the rook on 6 1, a bishop nor a pawn reaches a square; the knight on 6 3 leaps to none that checks. Nor does a man of White's who goes away open a line to the king."),
-    Crowd("crowd-legacy", "Twelve men: the queen is given", "K 7 1, Q 3 4, R -3 9, R 9 1, N 8 6, P 7 2 / K 8 8, R 6 8, R 1 8, Q 2 4, P 7 7, P 8 7", 2, "mate in 2",
-          "The queen goes to 7 8 and checks. The knight guards her there, the pawns stand on 7 7 and 8 7, and White's rooks have rank 9 and file 9; so the rook on 6 8 has to take her, and now stands in his king's last way. The knight mates on 6 7, which neither rook nor Black's queen on 2 4 reaches."),
     Crowd("crowd-stopped", "Twelve men: nobody can wait", stopped_pawns(4, 21), 2, "mate in 2",
           "The ladder in two, with four pawns of each side far up. Each stands before one of the other side and none beside one, so no pawn moves or takes. The rook goes to 2 7 and takes file 2 from the king; rank 1 is the other rook's, 0 -1 and 1 -1 are the king's. Black has one move, to 0 0, and is mated from 2 0."),
     Crowd("crowd-waiting", "One pawn can wait", stopped_pawns(4, 22), 2, "no mate in 2",
