@@ -1,0 +1,13 @@
+-- Pairs of nodes in the order in which they are met.
+use Rattle.std.specs.Prelude.{◌≡◌, ◌⊎◌, ℕ, List, slice_get, Some}
+use Rattle.letter_diagram.specs.Numbering.{PairsKept}
+
+-- the pair was met
+abbrev pub IsMetIn : List (ℕ × ℕ) → ℕ × ℕ → Type 0
+IsMetIn met pair = (number : ℕ) × (slice_get met number ≡ Some pair)
+
+-- one pair is met, and those that were met keep their places
+pub record Adds (old new : List (ℕ × ℕ)) (pair : ℕ × ℕ) : Type 0 where
+  pub kept : PairsKept old new
+  pub there : IsMetIn new pair
+  pub only : (other : ℕ × ℕ) → IsMetIn new other → IsMetIn old other ⊎ (other ≡ pair)
