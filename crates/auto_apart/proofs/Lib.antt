@@ -1,0 +1,3 @@
+mod MetPairs
+mod MetNodes
+mod Apartness

@@ -2,7 +2,6 @@
 ghost use Rattle.std.specs.Prelude.{◌≡◌, ◌≤◌, ◌∷◌, [], length, true, false, IsTrue, IfOk, OnOk};
 ghost use Rattle.track_word.specs.Tracks.{with_vars};
 ghost use Rattle.letter_diagram.specs.Numbering.{PairsKept};
-ghost use Rattle.diagram_product.specs.Shapes.{IsPairTest};
 ghost use Rattle.auto_walk.specs.Walker.{IsReached};
 ghost use Rattle.auto_apart.specs.Apart.{AreApart, HaveCommonWord};
 ghost use Rattle.auto_apart.specs.Met.{IsMetIn};
@@ -11,7 +10,7 @@ ghost use Rattle.auto_apart.specs.Meetings.{walker_of, IsMet, AreMet, AreFirstNo
 use crate::meeting::Meeting;
 use crate::met::Met;
 use auto_core::Auto;
-use diagram_product::{PairShape, PairTest};
+use diagram_product::PairShape;
 use letter_diagram::Node;
 use limits::MOST_TRACKS;
 use std::alloc::{AllocError, Global};
@@ -57,29 +56,11 @@ fn settle(meeting: &Meeting, met: &mut Met, nodes: (Node, Node)) -> Result<bool,
     match meeting.look(nodes) {
         PairShape::Pair(left, right) => settle_states(meeting, met, left, right),
         PairShape::Test(test) => {
-            settle_test(meeting, met, nodes, test)?;
+            met.add(test.low)?;
+            met.add(test.high)?;
             Ok(true)
         }
     }
-}
-
-/// The nodes of either part of a test are met.
-fn settle_test(
-    meeting: &Meeting,
-    met: &mut Met,
-    nodes: (Node, Node),
-    test: PairTest,
-) -> Result<(), AllocError>
-    requires met { AreMet meeting.now met.old }
-    requires nodes { IsMet meeting.now nodes }
-    requires test { IsPairTest meeting.now.sides meeting.now.none nodes.0 nodes.1 test }
-    ensures settled { OnOk result (AreSettled meeting.now met.new nodes) }
-    ensures met { OnOk result (AreMet meeting.now met.new) }
-    ensures kept { OnOk result (PairsKept met.old met.new) }
-{
-    met.add(test.low)?;
-    met.add(test.high)?;
-    Ok(())
 }
 
 /// Whether not both of two states accept; then the nodes of their rows are met, unless one of them rejects for good.
