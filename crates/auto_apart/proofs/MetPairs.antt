@@ -1,5 +1,5 @@
 -- Pairs of nodes, as more are met.
-use Rattle.std.proofs.Common.{◌≡◌, ◌⊎◌, ℕ, ◌<◌, Bool, true, false, List, [], ◌∷◌, ◌++◌, length, slice_get, get_or, Some, if◌then◌else◌, arith, refl, sym, ap, ◌∙◌, subst, inl, inr}
+use Rattle.std.proofs.Common.{◌≡◌, ◌⊎◌, ℕ, ◌<◌, ◌≤◌, ◌+◌, None, Bool, true, false, List, [], ◌∷◌, ◌++◌, length, slice_get, get_or, Some, if◌then◌else◌, arith, refl, sym, ap, ◌∙◌, subst, inl, inr}
 use Rattle.std.specs.List.{list_any}
 use Rattle.std.proofs.lemmas.Bool.{cases_lt}
 use Rattle.std.proofs.lemmas.List.{length_push, get_or_push, get_or_append_left}
@@ -38,3 +38,21 @@ Adds-insert old new pair stored number keys at same = record {
 
 pub IsMetIn-kept : {old new : List (ℕ × ℕ)} {pair : ℕ × ℕ} → PairsKept old new → IsMetIn old pair → IsMetIn new pair
 IsMetIn-kept {pair} kept (number, at) = (number, kept.at number pair at)
+
+pub none-met : {pair : ℕ × ℕ} → IsMetIn [] pair → ⊥
+none-met {pair} (number, at) = let below = slice_get_within [] number pair at in omega (arith, below)
+
+none-some : (pair : ℕ × ℕ) → None ≡ Some pair → ⊥
+none-some pair e = cc
+
+-- past the last place all were visited
+pub all_visited : (seen : List (ℕ × ℕ)) (visited number : ℕ) (pair : ℕ × ℕ) → slice_get seen visited ≡ None → slice_get seen number ≡ Some pair → number < visited
+all_visited seen visited number pair past at = elim (cases_lt number visited) [
+  | inl below ↦ below
+  | inr later ↦
+      let within = slice_get_within seen number pair at in
+      absurd (none-some (get_or seen visited pair) (sym past ∙ slice_get-get_or seen visited pair (omega (arith, later, within))))
+]
+
+pub places_more : {old new : List (ℕ × ℕ)} (visited : ℕ) {pair : ℕ × ℕ} → PairsKept old new → slice_get old visited ≡ Some pair → visited + 1 ≤ length new
+places_more {old} visited {pair} kept at = let within = slice_get_within old visited pair at in let longer = kept.longer in omega (arith, within, longer)
