@@ -5,17 +5,17 @@ use Rattle.std.proofs.lemmas.Grind.{common_steps}
 use Rattle.std.proofs.lemmas.List.Elements.{All-head, All-tail}
 use Rattle.track_word.specs.declared.tracks.Var.{Var}
 use Rattle.track_word.specs.Word.{IsWord}
-use Rattle.track_word.specs.Tracks.{with_vars, restrict, part_of}
+use Rattle.track_word.specs.Tracks.{restrict, part_of}
 use Rattle.diagram_product.specs.declared.absorbing.Absorbing.{Absorbing}
 use Rattle.diagram_product.specs.Absorbed.{absorbs, absorbed}
 use Rattle.diagram_product.proofs.Absorptions.{absorbed-neither}
-use Rattle.auto_core.specs.Automaton.{Automaton, first_state, next_state, run, state_of, is_final, Accepts}
+use Rattle.auto_core.specs.Automaton.{Automaton, run, is_final, Accepts}
 use Rattle.auto_core.proofs.Restricted.{restrict-below}
 use Rattle.auto_bool.specs.Absorbed.{IsSink}
 use Rattle.auto_apart.specs.declared.meeting.Meeting.{Meeting}
 use Rattle.auto_apart.specs.Apart.{AreApart}
 use Rattle.auto_apart.specs.Met.{IsMetIn}
-use Rattle.auto_apart.specs.Meetings.{states_at, AreFirstNodes, Rejects, GoesOn, AreStatesSettled, AreSettled}
+use Rattle.auto_apart.specs.Meetings.{states_at, AreFirstNodes, AreStatesSettled, AreSettled}
 
 nat_eq-true : (x y : ℕ) → nat_eq x y ≡ true → x ≡ y
 nat_eq-true x y e = grind (arith, common_steps, e)

@@ -1,24 +1,23 @@
 -- The nodes that are met, and the states to which words lead.
-use Rattle.std.proofs.Common.{◌≡◌, ◌⊎◌, ℕ, ◌<◌, ◌≤◌, ◌+◌, ◌%◌, ◌^◌, min, slice_get, get_or, Some, Bool, true, false, true≢false, IsTrue, ◌&&◌, nat_eq, if◌then◌else◌, List, [], ◌∷◌, length, arith, refl, sym, ap, ◌∙◌, subst, inl, inr}
+use Rattle.std.proofs.Common.{◌≡◌, ◌⊎◌, ℕ, ◌<◌, ◌≤◌, ◌+◌, ◌%◌, ◌^◌, min, slice_get, get_or, Some, Bool, true, false, true≢false, ◌&&◌, nat_eq, if◌then◌else◌, List, [], ◌∷◌, length, arith, refl, sym, ap, ◌∙◌, subst, inl, inr}
 use Rattle.std.specs.Int.{bit_at}
 use Rattle.std.proofs.lemmas.Bool.{cases_lt, cases_eq}
 use Rattle.std.proofs.lemmas.Option.{slice_get-get_or, same_Some}
 use Rattle.std.proofs.lemmas.Nat.{mod_below, pow_pos}
 use Rattle.track_word.specs.declared.tracks.Var.{Var}
 use Rattle.track_word.specs.Word.{IsWord}
-use Rattle.track_word.specs.Tracks.{with_vars, restrict, part_of}
+use Rattle.track_word.specs.Tracks.{restrict, part_of}
 use Rattle.track_word.proofs.LetterBits.{low_bits}
 use Rattle.letter_diagram.specs.Numbering.{PairsKept}
 use Rattle.diagram_product.specs.declared.sides.PairTest.{PairTest}
 use Rattle.diagram_product.specs.Absorbed.{absorbed}
-use Rattle.diagram_product.specs.Sided.{CanBePaired, pair_at}
 use Rattle.diagram_product.specs.Shapes.{IsPairTest}
 use Rattle.diagram_product.proofs.SidedPairs.{CanBePaired-low, CanBePaired-high, pair_at-split, low_answer, high_answer}
-use Rattle.auto_core.specs.Automaton.{Automaton, first_state, next_state, state_of, is_final, Accepts}
-use Rattle.auto_walk.specs.Walker.{place_of, IsReached}
+use Rattle.auto_core.specs.Automaton.{first_state, next_state, state_of, is_final, Accepts}
+use Rattle.auto_walk.specs.Walker.{IsReached}
 use Rattle.auto_walk.proofs.WalkLemmas.{IsReached-first, IsReached-next}
 use Rattle.auto_bool.specs.declared.connective.Connective.TheVariants.{And}
-use Rattle.auto_bool.specs.Both.{place_of_pair, final_pair, walker_over}
+use Rattle.auto_bool.specs.Both.{place_of_pair, final_pair}
 use Rattle.auto_bool.proofs.SideLemmas.{CanBeRead-side, Reads-side}
 use Rattle.auto_bool.proofs.AbsorbedPairs.{same-flag, place-pair_of}
 use Rattle.auto_bool.proofs.PairLemmas.{first_of_two, second_of_two, place_of-pair}
@@ -26,7 +25,7 @@ use Rattle.auto_apart.specs.declared.meeting.Meeting.{Meeting}
 use Rattle.auto_apart.specs.Apart.{HaveCommonWord}
 use Rattle.auto_apart.specs.Rows.{IsRowNode}
 use Rattle.auto_apart.specs.Met.{IsMetIn, Adds}
-use Rattle.auto_apart.specs.Meetings.{walker_of, states_at, IsMet, AreMet, AreRowNodes, AreFirstNodes, GoesOn, AreStatesSettled, HasSmaller, AreSettled}
+use Rattle.auto_apart.specs.Meetings.{walker_of, states_at, IsMet, AreMet, AreRowNodes, AreFirstNodes, AreStatesSettled, HasSmaller, AreSettled}
 use Rattle.auto_apart.proofs.MetPairs.{IsMetIn-kept}
 
 pub AreMet-add : {m : Meeting} {old new : List (ℕ × ℕ)} {pair : ℕ × ℕ} → Adds old new pair → IsMet m pair → AreMet m old → AreMet m new

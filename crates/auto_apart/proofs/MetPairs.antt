@@ -12,8 +12,11 @@ use Rattle.auto_apart.specs.Met.{IsMetIn, Adds}
 only-pushed : (old : List (ℕ × ℕ)) (pair other : ℕ × ℕ) → IsMetIn (old ++ pair ∷ []) other → IsMetIn old other ⊎ (other ≡ pair)
 only-pushed old pair other (number, at) = elim (cases_lt number (length old)) [
   | inl within ↦
-      inl (number, slice_get-get_or old number other within
-          ∙ ap Some (sym (get_or_append_left old (pair ∷ []) other number within) ∙ get_or_from_slice_get (old ++ pair ∷ []) number other other at))
+      inl (
+        number,
+        slice_get-get_or old number other within
+            ∙ ap Some (sym (get_or_append_left old (pair ∷ []) other number within) ∙ get_or_from_slice_get (old ++ pair ∷ []) number other other at),
+      )
   | inr past ↦
       let below = slice_get_within (old ++ pair ∷ []) number other at in
       let size = length_push old pair in

@@ -4,8 +4,7 @@ ghost use Rattle.track_word.specs.Tracks.{with_vars};
 ghost use Rattle.letter_diagram.specs.Numbering.{PairsKept};
 ghost use Rattle.auto_walk.specs.Walker.{IsReached};
 ghost use Rattle.auto_apart.specs.Apart.{AreApart, HaveCommonWord};
-ghost use Rattle.auto_apart.specs.Met.{IsMetIn};
-ghost use Rattle.auto_apart.specs.Meetings.{walker_of, IsMet, AreMet, AreFirstNodes, AreStatesSettled, AreSettled};
+ghost use Rattle.auto_apart.specs.Meetings.{walker_of, IsMet, AreMet, AreStatesSettled, AreSettled};
 
 use crate::meeting::Meeting;
 use crate::met::Met;
@@ -64,7 +63,12 @@ fn settle(meeting: &Meeting, met: &mut Met, nodes: (Node, Node)) -> Result<bool,
 }
 
 /// Whether not both of two states accept; then the nodes of their rows are met, unless one of them rejects for good.
-fn settle_states(meeting: &Meeting, met: &mut Met, left: u32, right: u32) -> Result<bool, AllocError>
+fn settle_states(
+    meeting: &Meeting,
+    met: &mut Met,
+    left: u32,
+    right: u32,
+) -> Result<bool, AllocError>
     requires met { AreMet meeting.now met.old }
     requires reached { IsReached (walker_of meeting.now) (left ∷ right ∷ []) }
     ensures settled { result ≡ Ok true → AreStatesSettled meeting.now met.new (left, right) }

@@ -1,5 +1,5 @@
 //! Pairs of nodes in the order in which they are met.
-ghost use Rattle.std.specs.Prelude.{◌≡◌, ◌≢◌, ◌<◌, ◌^◌, [], List, ℕ, length, slice_get, OnOk, AllPairs};
+ghost use Rattle.std.specs.Prelude.{◌≡◌, ◌<◌, ◌^◌, [], List, ℕ, length, slice_get, OnOk};
 ghost use Rattle.auto_apart.specs.Met.{Adds};
 
 use indexmap::IndexSet;

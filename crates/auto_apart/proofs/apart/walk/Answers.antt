@@ -1,5 +1,4 @@
-use Rattle.std.proofs.Common.{◌≡◌, ℕ, Bool, true, false, true≢false, not, Ok, arith, refl, sym, ap, ◌∙◌, subst}
-use Rattle.auto_apart.specs.Met.{IsMetIn}
+use Rattle.std.proofs.Common.{Ok, arith, sym, ap, ◌∙◌, subst}
 use Rattle.auto_apart.specs.Meetings.{AreMet}
 use Rattle.auto_apart.proofs.MetPairs.{IsMetIn-kept, none-met, all_visited, places_more}
 use Rattle.auto_apart.proofs.MetNodes.{AreMet-add, IsMet-first, AreFirstNodes-rows, settled_more}
