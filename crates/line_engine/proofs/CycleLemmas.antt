@@ -1,5 +1,5 @@
 -- What is answered at a path, option by option.
-use Rattle.std.proofs.Common.{◌≡◌, ◌⊎◌, ℕ, suc, Bool, true, false, ◌&&◌, List, [], ◌∷◌, map, length, Option, Some, None, IfSome, Ok, Err, ℤ, inl, inr, refl, sym, ap, ◌∙◌, subst}
+use Rattle.std.proofs.Common.{◌≡◌, ◌⊎◌, ℕ, suc, Bool, true, false, ◌&&◌, List, [], ◌∷◌, map, length, Option, Some, None, IfSome, ℤ, inl, inr, sym, ap, ◌∙◌, subst}
 use Rattle.std.specs.Prelude.{Result}
 use Rattle.game_rules.specs.Game.{Position}
 use Rattle.game_rules.specs.declared.men.Side.{Side}
@@ -13,8 +13,8 @@ use Rattle.path_formula.specs.Paths.{bear_after, options_at, threats_at, turn_at
 use Rattle.set_plan.specs.Outcome.{Ends}
 use Rattle.set_plan.specs.Program.{Ask, Empty, Give, Item, Within, bind, each}
 use Rattle.set_plan.specs.Sets.{DecidesOn}
-use Rattle.set_plan.specs.Unite.{Made, difference, join, make, unite, with_item}
-use Rattle.set_plan.proofs.Composition.{Ends-ask_yes, Ends-bind, Ends-give, Error-bind, LeadsTo, LeadsTo-later, LeadsTo-self}
+use Rattle.set_plan.specs.Unite.{Made, join, make, unite, with_item}
+use Rattle.set_plan.proofs.Composition.{Ends-give, Error-bind, LeadsTo, LeadsTo-later, LeadsTo-self}
 use Rattle.set_plan.proofs.Tables.{table_decided}
 use Rattle.line_plan.specs.Plan.{Found, Program, distances, is_known, kept, kept_by, known_of, lose, lose_option, lost_by, narrowed, reach, shorten_rest, shortened, shortened_rest, win, win_option, won_by}
 use Rattle.line_plan.specs.Plan.{Losing as Lost}

@@ -57,7 +57,7 @@ there n number sets a filled is =
       arity = ap (λ xs. length xs) filled.reached.decides.tracks_are;
     }
 
-any_fine : (V : Var → Type 0) (P : ℕ × List Var → Type 0) (f : Tree) → IsFine V NoSet f → IsFine V P f
+pub any_fine : (V : Var → Type 0) (P : ℕ × List Var → Type 0) (f : Tree) → IsFine V NoSet f → IsFine V P f
 any_fine V P (Lin terms rel bound) h = h
 any_fine V P (Value x n) h = h
 any_fine V P (Among s vars) h = absurd h.0

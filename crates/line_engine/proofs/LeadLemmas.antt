@@ -1,10 +1,9 @@
 -- What is left of a program, where parts of it have come to their ends.
-use Rattle.std.proofs.Common.{◌≡◌, ◌⊎◌, ℕ, suc, ◌+◌, List, [], ◌∷◌, ◌++◌, map, length, Some, None, Ok, Err, inl, inr, refl, sym, ap, subst}
+use Rattle.std.proofs.Common.{◌≡◌, ℕ, suc, ◌+◌, List, [], ◌∷◌, Some, None, Ok, Err, inl, inr, refl, sym, ap, subst}
 use Rattle.std.specs.Prelude.{Result}
 use Rattle.track_word.specs.declared.tracks.Var.{Var}
-use Rattle.lin_formula.specs.SetOf.{IsEmpty, Nothing, SetOf, members}
+use Rattle.lin_formula.specs.SetOf.{IsEmpty, Nothing, SetOf}
 use Rattle.lin_formula.specs.Tree.{Tree, Among, Ex}
-use Rattle.formula_auto.specs.Step.{Exceeds}
 use Rattle.rule_formula.specs.Seats.{var}
 use Rattle.set_plan.specs.Outcome.{Ends}
 use Rattle.set_plan.specs.Past.{Past}

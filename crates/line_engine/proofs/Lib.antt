@@ -13,3 +13,5 @@ pub mod CycleLemmas
 pub mod PathLemmas
 pub mod RoomLemmas
 pub mod StartLemmas
+pub mod SizeLemmas
+pub mod MissLemmas

@@ -1,5 +1,5 @@
 -- How many steps there are by all options together.
-use Rattle.std.proofs.Common.{◌≡◌, ℕ, suc, ◌+◌, ◌*◌, ◌^◌, ◌<◌, ◌≤◌, Bool, true, false, Ok, Err, ap, ◌∙◌, arith}
+use Rattle.std.proofs.Common.{◌≡◌, ℕ, suc, ◌+◌, ◌*◌, ◌^◌, ◌≤◌, Bool, true, false, Ok, Err, ap, ◌∙◌, arith}
 use Rattle.std.specs.Prelude.{IfOk, Result, if◌then◌else◌}
 use Rattle.game_rules.specs.declared.men.Side.{Side}
 use Rattle.rule_formula.specs.Options.{is_side}

@@ -1,7 +1,6 @@
 -- The set of the empty tuple as an automaton, and the verdict that follows from what is kept from there.
-use Rattle.std.proofs.Common.{◌≡◌, ◌↔◌, ◌⊎◌, ℕ, zero, ◌+◌, ◌*◌, ◌^◌, ◌<◌, ◌≤◌, Bool, true, false, IsTrue, List, [], ◌∷◌, length, Option, Some, None, IfSome, ℤ, pos, inl, inr, refl, sym, ap, ◌∙◌, subst, arith}
+use Rattle.std.proofs.Common.{◌≡◌, ◌↔◌, ℕ, ◌^◌, ◌<◌, ◌≤◌, Bool, true, false, IsTrue, List, [], ◌∷◌, length, Option, Some, None, IfSome, ℤ, pos, inl, inr, refl, sym, ap, ◌∙◌, subst, arith}
 use Rattle.std.specs.Prelude.{is_some, slice_index_or}
-use Rattle.std.specs.List.{All}
 use Rattle.std.proofs.lemmas.List.Elements.{All-cons, All-nil}
 use Rattle.std.proofs.lemmas.Nat.{pow_pos}
 use Rattle.game_rules.specs.Game.{Position, Sound, Value}
@@ -10,7 +9,6 @@ use Rattle.track_word.specs.declared.tracks.Var.{Var}
 use Rattle.track_word.specs.Tracks.{IsAscending, values_at, word_values}
 use Rattle.track_word.specs.Word.{IsWord, repeat_first}
 use Rattle.auto_core.specs.Automaton.{Accepts, Automaton, IsAutomaton, state_of}
-use Rattle.auto_core.specs.Integers.{IsAccepted}
 use Rattle.auto_core.proofs.States.{state_within}
 use Rattle.lin_formula.specs.SetOf.{Member, Table}
 use Rattle.set_plan.specs.Outcome.{Ends}

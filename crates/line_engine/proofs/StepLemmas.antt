@@ -87,11 +87,10 @@ step_off step number =
     (off_way_is (home step.before.crowd.men.now) step.before.legs.now step.leg after before.small (step_small step) number)
 
 -- the code's formula of it
-pub off_tree : (step : Step) (number : ℕ) (men : List Man) (legs : List Leg) (hit t : Tree) → men ≡ step.before.crowd.men.now → legs ≡ step.before.legs.now
-    → hit ≡ on_way (home men) legs step.leg number → t ≡ Not hit → t ≡ Not (on_way (home step.before.crowd.men.now) step.before.legs.now step.leg number)
-off_tree step number men legs hit t men_is legs_is hit_is is =
-    is ∙ ap (λ f. Not f) hit_is ∙ ap (λ ms. Not (on_way (home ms) legs step.leg number)) men_is
-    ∙ ap (λ ls. Not (on_way (home step.before.crowd.men.now) ls step.leg number)) legs_is
+pub hit_tree : (step : Step) (number : ℕ) (men : List Man) (legs : List Leg) (hit : Tree) → men ≡ step.before.crowd.men.now → legs ≡ step.before.legs.now
+    → hit ≡ on_way (home men) legs step.leg number → hit ≡ on_way (home step.before.crowd.men.now) step.before.legs.now step.leg number
+hit_tree step number men legs hit men_is legs_is is =
+    is ∙ ap (λ ms. on_way (home ms) legs step.leg number) men_is ∙ ap (λ ls. on_way (home step.before.crowd.men.now) ls step.leg number) legs_is
 
 pub step_captures : (step : Step) (a b : ℕ)
     → IsPartOf (length step.after.path.now) (length step.after.path.now) (gap_tree (home step.before.crowd.men.now) (step.leg ∷ step.before.legs.now) (across a b) Eq (pos 0))

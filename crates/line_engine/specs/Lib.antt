@@ -4,3 +4,5 @@ pub use Rattle.line_plan.specs.Plan
 pub mod Crowds
 pub mod Nodes
 pub mod Answers
+pub mod Sizes
+pub mod Misses

@@ -6,6 +6,7 @@ mod crowd;
 mod engine;
 mod errors;
 mod losing;
+mod misses;
 mod node;
 mod parts;
 mod path;

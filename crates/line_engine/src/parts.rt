@@ -18,11 +18,11 @@ ghost use Rattle.line_engine.specs.Nodes.{position_of, safe_after};
 
 use crate::errors::CrowdError;
 use crate::path::{Node, Step};
-use crate::sets::{join, narrow, narrowed};
+use crate::sets::{join, leave_out, narrow, narrowed};
 use crate::work::Work;
 use auto_core::Auto;
 use formula_auto::SetTable;
-use path_formula::{Force, bear, bearings, captures, distance, is_other, not, on_way};
+use path_formula::{Force, bear, bearings, captures, distance, is_other, on_way};
 use rule_formula::Bearing;
 use track_word::Var;
 
@@ -91,8 +91,7 @@ fn off_way(
     let before = step.before.scene();
     let after = step.after.scene();
     let hit = on_way(work.alloc, before, after, step.leg, number)?;
-    let off = not(work.alloc, hit)?;
-    narrow(work, step.after.count(), so_far, off)
+    leave_out(work, step.after.count(), so_far, hit)
 }
 
 /// The same, if he is a live man other than the mover and the man that is taken.
@@ -166,8 +165,7 @@ fn without_bearing(
         return Ok(None);
     }
     let bears = bear(work.alloc, node.scene(), node.force.mask, bearing)?;
-    let off = not(work.alloc, bears)?;
-    narrow(work, node.count(), so_far, off)
+    leave_out(work, node.count(), so_far, bears)
 }
 
 /// Those of them at which none of some men bears on a king.

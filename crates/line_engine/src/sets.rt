@@ -17,6 +17,7 @@ use auto_core::Auto;
 use formula_auto::SetTable;
 use lin_formula::{Formula, SetId, among};
 use path_formula::not;
+use set_plan::step_count;
 use std::alloc::{AllocError, Global};
 use track_word::Var;
 
@@ -176,6 +177,34 @@ pub(crate) fn narrow(
     };
     let sets = one_set(work.alloc, a)?;
     narrowed(work, count, &sets, part)
+}
+
+/// What there is so far without what the formula says. Where that is seen to be nothing, it is left as it is.
+pub(crate) fn leave_out(
+    work: &mut Work,
+    count: u8,
+    so_far: Option<Auto>,
+    f: Formula,
+) -> Result<Option<Auto>, CrowdError>
+    requires few { count ≤ 6 }
+    requires set { IsFilled count so_far }
+    requires part { IsPartOf count count (tree.Not (tree_of f)) }
+    requires room { work.old.at + 1000 ≤ 2 ^ 127 }
+    ensures answers { Answers (plan.narrow count (tree.Not (tree_of f)) (as_set so_far, work.old.at))
+        work.old.memo.budget (made_at work.new.at) result }
+    ensures set { IfOk result (IsFilled count) }
+    ensures room { IfOk result (λ _. work.new.at ≤ work.old.at + 1000) }
+    ensures budget { work.new.memo.budget ≡ work.old.memo.budget }
+{
+    let Some(a) = so_far else {
+        return Ok(None);
+    };
+    if work.misses(&a, &f)? {
+        work.at += u128::from(step_count(&f)) + 1;
+        return Ok(Some(a));
+    }
+    let part = not(work.alloc, f)?;
+    narrow(work, count, Some(a), part)
 }
 
 /// What there is so far with a further set.

@@ -1,4 +1,4 @@
-use Rattle.std.proofs.Common.{◌≡◌, [], arith}
+use Rattle.std.proofs.Common.{arith}
 use Rattle.std.proofs.lemmas.Result.{err_from_is_err_and}
 use Rattle.line_engine.specs.Nodes.{position_of}
 use Rattle.line_engine.proofs.RoomLemmas.{few_plies, start_room}

@@ -1,6 +1,6 @@
 use Rattle.std.proofs.Common.{sym, ◌∙◌}
 use Rattle.lin_formula.specs.TreeOf.{tree_of}
-use Rattle.line_engine.proofs.StepLemmas.{node_few, off_tree, step_legs, step_off, step_small}
+use Rattle.line_engine.proofs.StepLemmas.{hit_tree, node_few, step_legs, step_off, step_small}
 use Rattle.line_engine.proofs.parts.off_way.Goals as goal
 
 pub on_way-requires-clause-men : goal.on_way-requires-clause-men
@@ -15,25 +15,25 @@ on_way-requires-clause-small c = step_small c.args.step.now
 pub on_way-requires-clause-two : goal.on_way-requires-clause-two
 on_way-requires-clause-two c = rw c.scene-before.ensures.men c.requires.two
 
-pub narrow-requires-clause-set : goal.narrow-requires-clause-set
-narrow-requires-clause-set c = rw c.count.ensures c.requires.set
+pub leave_out-requires-clause-set : goal.leave_out-requires-clause-set
+leave_out-requires-clause-set c = rw c.count.ensures c.requires.set
 
-pub narrow-requires-clause-part : goal.narrow-requires-clause-part
-narrow-requires-clause-part c =
+pub leave_out-requires-clause-part : goal.leave_out-requires-clause-part
+leave_out-requires-clause-part c =
     let step = c.args.step.now in
-    let tree = off_tree step c.args.number c.scene-before.result.men.now c.scene-before.result.legs.now (tree_of c.in_ok-hit.hit) (tree_of c.in_ok-off.off)
-    c.scene-before.ensures.men c.scene-before.ensures.legs c.in_ok-hit.ensures c.in_ok-off.ensures in
+    let tree = hit_tree step c.args.number c.scene-before.result.men.now c.scene-before.result.legs.now (tree_of c.in_ok-hit.hit)
+    c.scene-before.ensures.men c.scene-before.ensures.legs c.in_ok-hit.ensures in
     rw (tree, c.count.ensures) (step_off step c.args.number)
 
 pub returns-clause-answers : goal.returns-clause-answers
 returns-clause-answers c =
     let step = c.args.step.now in
-    let tree = off_tree step c.args.number c.scene-before.result.men.now c.scene-before.result.legs.now (tree_of c.in_ok-hit.hit) (tree_of c.in_ok-off.off)
-    c.scene-before.ensures.men c.scene-before.ensures.legs c.in_ok-hit.ensures c.in_ok-off.ensures in
-    rw (tree, c.count.ensures) at c.narrow.ensures.answers
+    let tree = hit_tree step c.args.number c.scene-before.result.men.now c.scene-before.result.legs.now (tree_of c.in_ok-hit.hit)
+    c.scene-before.ensures.men c.scene-before.ensures.legs c.in_ok-hit.ensures in
+    rw (tree, c.count.ensures) at c.leave_out.ensures.answers
 
 pub returns-clause-set : goal.returns-clause-set
-returns-clause-set c = rw c.count.ensures at c.narrow.ensures.set
+returns-clause-set c = rw c.count.ensures at c.leave_out.ensures.set
 
-pub narrow-requires-clause-few : goal.narrow-requires-clause-few
-narrow-requires-clause-few c = rw c.count.ensures (node_few c.args.step.now.after)
+pub leave_out-requires-clause-few : goal.leave_out-requires-clause-few
+leave_out-requires-clause-few c = rw c.count.ensures (node_few c.args.step.now.after)

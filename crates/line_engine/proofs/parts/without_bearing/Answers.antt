@@ -8,26 +8,26 @@ use Rattle.line_engine.proofs.parts.without_bearing.Goals as goal
 pub bear-requires : goal.bear-requires
 bear-requires c = record { two = rw c.scene.ensures.men c.requires.two }
 
-pub narrow-requires-clause-set : goal.narrow-requires-clause-set
-narrow-requires-clause-set c = rw c.count.ensures c.requires.set
+pub leave_out-requires-clause-set : goal.leave_out-requires-clause-set
+leave_out-requires-clause-set c = rw c.count.ensures c.requires.set
 
-pub narrow-requires-clause-part : goal.narrow-requires-clause-part
-narrow-requires-clause-part c =
+pub leave_out-requires-clause-part : goal.leave_out-requires-clause-part
+leave_out-requires-clause-part c =
     let node = c.args.node.now in
     let tree = bears_tree node c.args.bearing c.scene.result.men.now c.scene.result.legs.now (tree_of c.in_ok-bears.bears) c.scene.ensures.men c.scene.ensures.legs c.in_ok-bears.ensures in
-    rw (c.in_ok-off.ensures, tree, c.count.ensures) (node_bears node c.args.bearing).1
+    rw (tree, c.count.ensures) (node_bears node c.args.bearing).1
 
 pub returns-clause-answers : goal.returns-clause-answers
 returns-clause-answers c =
     let node = c.args.node.now in
     let tree = bears_tree node c.args.bearing c.scene.result.men.now c.scene.result.legs.now (tree_of c.in_ok-bears.bears) c.scene.ensures.men c.scene.ensures.legs c.in_ok-bears.ensures in
-    rw (c.in_ok-off.ensures, tree, c.count.ensures) at c.narrow.ensures.answers
+    rw (tree, c.count.ensures) at c.leave_out.ensures.answers
 
 pub returns-clause-set : goal.returns-clause-set
-returns-clause-set c = rw c.count.ensures at c.narrow.ensures.set
+returns-clause-set c = rw c.count.ensures at c.leave_out.ensures.set
 
-pub narrow-requires-clause-few : goal.narrow-requires-clause-few
-narrow-requires-clause-few c = rw c.count.ensures (node_few c.args.node.now)
+pub leave_out-requires-clause-few : goal.leave_out-requires-clause-few
+leave_out-requires-clause-few c = rw c.count.ensures (node_few c.args.node.now)
 
 pub returns-then-is_none-clause-answers : goal.returns-then-is_none-clause-answers
 returns-then-is_none-clause-answers c =
