@@ -2,7 +2,7 @@
 """usage: random_runs.py [PROGRAM] [--seed S] [--count N]
 
 Runs the program `mate` N times, with words, texts, formulas, replies and files drawn from the seed: changes of good ones, and new ones put together of
-the pieces that the formats know. Each run has to end within 30 seconds of the processor with a code of docs/FORMATS.md, without a byte on standard error, with the
+the pieces that the formats know. Each run has to end within 60 seconds of the processor with a code of docs/FORMATS.md, without a byte on standard error, with the
 output that belongs to the command and the code, and with the files that it has to leave: where a reader of this folder's own (reader.py) says what
 has to come, with just that. Each run that ends otherwise is printed. Then the codes are counted, and the commands; so it is behind SIGTERM, too. PROGRAM is
 ../crates/mate_main/out/mate_main if left out; the code is 0 where nothing was found.
@@ -27,7 +27,7 @@ sys.path.insert(0, str(HERE.parent / "crates/run_trials"))
 from forged_files import File  # noqa: E402
 
 BUILT = HERE.parent / "crates/mate_main/out/mate_main"
-SECONDS, LINES = 30, 10000
+SECONDS, LINES = 60, 10000
 # So many paths of moves, by the number of men alone, a crowd may have for which the budget is drawn as for the other commands.
 MOST_PATHS = 300
 HEAD = b"infinite chess 1\n"
