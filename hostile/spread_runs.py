@@ -4,7 +4,7 @@
 Which step is named over a budget, against a second count. N times a position, a claim or a formula is drawn from the seed; spreads.cpp counts the
 spread of each of its steps from the written rules, in another language and by other means, up to M classes; and the program is run at each
 record of the spreads, with the budget that is one less and with that budget: it has to name that step, and then the next one, or to answer.
-The claims are the files that the program keeps, and such files with tuples put in and taken out, with other sets, or with another position.
+First come a position and a claim that name steps which nothing drawn does. The claims that are drawn are the files that the program keeps, and such files with tuples put in and taken out, with other sets, or with another position.
 Each run that ends otherwise is printed; so is what was counted, behind SIGTERM too. PROGRAM is ../crates/mate_main/out/mate_main if left out; the code is 0 where nothing was found.
 """
 import argparse
@@ -18,6 +18,7 @@ import tempfile
 import time
 
 import reader
+from hemmed_claims import hemmed
 from random_runs import BLACK_FIRST, BUILT, HERE, LADDER, MATED, drawn_formula
 
 sys.path.insert(0, str(HERE.parent / "crates/run_trials"))
@@ -25,6 +26,7 @@ from forged_files import File, Table, all_words, no_words  # noqa: E402
 
 KINDS, SECONDS = "QRBNPCAZH", 60
 TWO_MOVES = LADDER.replace(b"W R 5 7", b"W R 7 7").replace(b"B K 0 0", b"B K 1 0")
+FAR_KNIGHT = LADDER.replace(b"end", b"W N 4611686018427387909 5\nend")
 BLACK_MATES = LADDER.translate(bytes.maketrans(b"WB", b"BW")).replace(b"turn B", b"turn B for B")
 
 
@@ -38,10 +40,10 @@ class Runs:
     def ended(self, words, text):
         return subprocess.run(words, cwd=self.folder, input=text, capture_output=True, timeout=SECONDS).stdout.decode()
 
-    def compare(self, kind, counted, words, text, answered):
+    def compare(self, kind, counted, words, text, answered, most=None):
         """The counter's words, the program's words before the budget, and whether an output is an answer."""
         try:
-            records = self.ended([self.counter, *counted, str(self.most)], text).splitlines()
+            records = self.ended([self.counter, *counted, str(most or self.most)], text).splitlines()
         except subprocess.TimeoutExpired:
             self.counts["too long"] += 1
             return
@@ -168,6 +170,14 @@ def plan_runs(draw, runs):
                 runs.compare("other claims", ["check", "a"], ["check", "a"], b"", equal)
 
 
+def known_runs(runs):
+    """A step of `win` and one of `stale` are the last that budgets name."""
+    equal = lambda said, end: said == end + "\n"
+    runs.compare("plans", ["decide", "1"], ["decide", "1"], FAR_KNIGHT, equal, 4000)
+    (runs.folder / "a").write_bytes(hemmed(16))
+    runs.compare("other claims", ["check", "a"], ["check", "a"], b"", equal)
+
+
 def formula_runs(draw, runs):
     line = drawn_formula(draw, [], draw.choice([2, 3, 4]))
     if len(line) <= 200 and b" " in line:
@@ -188,6 +198,7 @@ def main():
         counter = folder / "spreads"
         subprocess.run(["c++", "-O2", "-std=c++17", "-o", counter, HERE / "spreads.cpp"], check=True)
         runs = Runs(pathlib.Path(given.program).resolve(), counter, folder, given.most)
+        known_runs(runs)
         drawn = 0
         while drawn < given.count and not stopped:
             draw.choices([plan_runs, formula_runs], [3, 1])[0](draw, runs)

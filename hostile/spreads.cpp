@@ -28,16 +28,40 @@ using std::string;
 using std::vector;
 typedef vector<int> Ints;
 
-// An automaton over the words of its variables, which ascend: bit i of a letter belongs to variable i. It has no state for the empty word, since
-// a word has a letter at least, the sign. After `reduced` its states are the residuals of the words.
+// An automaton over the words of its variables, which ascend: bit i of a letter belongs to variable i. Letters are of one kind where they lead to
+// the same states, and rows have a place for each kind. It has no state for the empty word, since a word has a letter at least, the sign. After
+// `reduced` its states are the residuals of the words.
 struct Auto {
-    Ints vars, first, next;
+    Ints vars, kinds, first, next;
     vector<char> accepts;
     int letters() const { return 1 << vars.size(); }
     int states() const { return accepts.size(); }
-    int after(int state, int letter) const { return next[size_t(state) * letters() + letter]; }
+    int count_kinds() const { return first.size(); }
+    int after_kind(int state, int kind) const { return next[size_t(state) * count_kinds() + kind]; }
+    int after(int state, int letter) const { return after_kind(state, kinds[letter]); }
+    int first_of(int letter) const { return first[kinds[letter]]; }
     bool is_empty() const { return std::count(accepts.begin(), accepts.end(), 1) == 0; }
 };
+
+// For each letter the number of its key, keys being numbered as they appear, and the key of each number.
+template <class Key>
+struct Kinds {
+    Ints of;
+    vector<Key> keys;
+};
+
+template <class Key, class KeyOf>
+Kinds<Key> kinds_by(int letters, KeyOf key_of) {
+    Kinds<Key> made;
+    std::map<Key, int> numbers;
+    for (int letter = 0; letter < letters; letter++) {
+        Key key = key_of(letter);
+        auto found = numbers.emplace(key, made.keys.size());
+        if (found.second) made.keys.push_back(key);
+        made.of.push_back(found.first->second);
+    }
+    return made;
+}
 
 int most;
 string part;
@@ -59,11 +83,13 @@ void grow_to(size_t spread) {
     exit(0);
 }
 
-// The automaton whose states are numbered as `key`s of words appear: what the first letter leads to, and what a further one leads on to.
-template <class Key, class First, class Next, class Accepts>
-Auto explored(const Ints &vars, First first, Next next, Accepts accepts) {
+// The automaton whose states are numbered as `key`s of words appear: what the first letter leads to, and what a further one leads on to, for
+// letters of each kind.
+template <class Key, class Kind, class First, class Next, class Accepts>
+Auto explored(const Ints &vars, const Kinds<Kind> &kinds, First first, Next next, Accepts accepts) {
     Auto made;
     made.vars = vars;
+    made.kinds = kinds.of;
     std::map<Key, int> numbers;
     vector<Key> keys;
     auto number = [&](const Key &key) {
@@ -75,17 +101,36 @@ Auto explored(const Ints &vars, First first, Next next, Accepts accepts) {
         }
         return found.first->second;
     };
-    for (int letter = 0; letter < made.letters(); letter++) made.first.push_back(number(first(letter)));
+    for (const Kind &kind : kinds.keys) made.first.push_back(number(first(kind)));
     for (size_t done = 0; done < keys.size(); done++) {
         Key key = keys[done];
-        for (int letter = 0; letter < made.letters(); letter++) made.next.push_back(number(next(key, letter)));
+        for (const Kind &kind : kinds.keys) made.next.push_back(number(next(key, kind)));
     }
+    return made;
+}
+
+// The same automaton, with letters of one kind wherever they lead to the same states.
+Auto merged(const Auto &a) {
+    int states = a.states();
+    auto column = [&](int kind) {
+        Ints made = {a.first[kind]};
+        for (int state = 0; state < states; state++) made.push_back(a.after_kind(state, kind));
+        return made;
+    };
+    Kinds<Ints> columns = kinds_by<Ints>(a.count_kinds(), column);
+    Auto made;
+    made.vars = a.vars;
+    made.accepts = a.accepts;
+    for (int kind : a.kinds) made.kinds.push_back(columns.of[kind]);
+    for (const Ints &key : columns.keys) made.first.push_back(key[0]);
+    for (int state = 0; state < states; state++)
+        for (const Ints &key : columns.keys) made.next.push_back(key[state + 1]);
     return made;
 }
 
 // The same words, with a state for each residual (Moore): states are parted by acceptance, and then by where their rows lead, until none is.
 Auto reduced(const Auto &a) {
-    int letters = a.letters(), count = a.states(), classes = 0;
+    int kinds = a.count_kinds(), count = a.states(), classes = 0;
     Ints of(a.accepts.begin(), a.accepts.end());
     for (int before = -1; classes != before;) {
         before = classes;
@@ -93,12 +138,12 @@ Auto reduced(const Auto &a) {
         Ints now(count);
         classes = 0;
         for (int state = 0; state < count; state++) {
-            const int *row = &a.next[size_t(state) * letters];
+            const int *row = &a.next[size_t(state) * kinds];
             uint64_t sum = of[state];
-            for (int letter = 0; letter < letters; letter++) sum = sum * 6364136223846793005u + of[row[letter]] + 1;
+            for (int kind = 0; kind < kinds; kind++) sum = sum * 6364136223846793005u + of[row[kind]] + 1;
             auto alike = [&](int other) {
-                const int *its = &a.next[size_t(other) * letters];
-                return of[other] == of[state] && std::equal(row, row + letters, its, [&](int x, int y) { return of[x] == of[y]; });
+                const int *its = &a.next[size_t(other) * kinds];
+                return of[other] == of[state] && std::equal(row, row + kinds, its, [&](int x, int y) { return of[x] == of[y]; });
             };
             Ints &bucket = members[sum];
             auto twin = std::find_if(bucket.begin(), bucket.end(), alike);
@@ -109,14 +154,15 @@ Auto reduced(const Auto &a) {
     }
     Auto made;
     made.vars = a.vars;
+    made.kinds = a.kinds;
     for (int state : a.first) made.first.push_back(of[state]);
     made.accepts.resize(classes);
-    made.next.resize(size_t(classes) * letters);
+    made.next.resize(size_t(classes) * kinds);
     for (int state = 0; state < count; state++) {
         made.accepts[of[state]] = a.accepts[state];
-        for (int letter = 0; letter < letters; letter++) made.next[size_t(of[state]) * letters + letter] = of[a.after(state, letter)];
+        for (int kind = 0; kind < kinds; kind++) made.next[size_t(of[state]) * kinds + kind] = of[a.after_kind(state, kind)];
     }
-    return made;
+    return merged(made);
 }
 
 Ints sorted(Ints vars) {
@@ -146,9 +192,10 @@ Auto lin(const vector<std::pair<int, int>> &terms, bool equal, int bound) {
         for (auto &term : terms) made += term.first * (letter >> place(vars, term.second) & 1);
         return made;
     };
-    auto first = [&](int letter) { return -sum(letter); };
-    auto next = [&](int so_far, int letter) { return std::max(-far, std::min(far, 2 * so_far + sum(letter))); };
-    return reduced(explored<int>(vars, first, next, [&](int so_far) { return equal ? so_far == bound : so_far <= bound; }));
+    auto first = [&](int more) { return -more; };
+    auto next = [&](int so_far, int more) { return std::max(-far, std::min(far, 2 * so_far + more)); };
+    auto accepts = [&](int so_far) { return equal ? so_far == bound : so_far <= bound; };
+    return reduced(explored<int>(vars, kinds_by<int>(1 << vars.size(), sum), first, next, accepts));
 }
 
 // The variable has this value. A state is how many digits are read, the sign, which may be repeated, being one; or -1.
@@ -157,17 +204,19 @@ Auto value(int var, int64_t x) {
     for (digits.push_back(x & 1); x != 0 && x != -1; digits.push_back(x & 1)) x >>= 1;
     std::reverse(digits.begin(), digits.end());
     int count = digits.size();
-    auto first = [&](int letter) { return letter == digits[0] ? 1 : -1; };
-    auto next = [&](int read, int letter) { return read == 1 && letter == digits[0] ? 1 : read > 0 && read < count && letter == digits[read] ? read + 1 : -1; };
-    return reduced(explored<int>({var}, first, next, [&](int read) { return read == count; }));
+    auto first = [&](int digit) { return digit == digits[0] ? 1 : -1; };
+    auto next = [&](int read, int digit) { return read == 1 && digit == digits[0] ? 1 : read > 0 && read < count && digit == digits[read] ? read + 1 : -1; };
+    auto kinds = kinds_by<int>(2, [](int letter) { return letter; });
+    return reduced(explored<int>({var}, kinds, first, next, [&](int read) { return read == count; }));
 }
 
 // The tuple of these variables, which may be fewer than the tracks, is in the set.
 Auto among(const Auto &set, const Ints &to) {
     Ints vars = sorted(to), letters = parts(vars, to);
-    auto first = [&](int letter) { return set.first[letters[letter]]; };
-    auto next = [&](int state, int letter) { return set.after(state, letters[letter]); };
-    return reduced(explored<int>(vars, first, next, [&](int state) { return bool(set.accepts[state]); }));
+    auto kinds = kinds_by<int>(letters.size(), [&](int letter) { return set.kinds[letters[letter]]; });
+    auto first = [&](int kind) { return set.first[kind]; };
+    auto next = [&](int state, int kind) { return set.after_kind(state, kind); };
+    return reduced(explored<int>(vars, kinds, first, next, [&](int state) { return bool(set.accepts[state]); }));
 }
 
 Auto no(Auto a) {
@@ -181,10 +230,11 @@ Auto joined(const Auto &a, const Auto &b, bool both) {
     Ints all = a.vars;
     all.insert(all.end(), b.vars.begin(), b.vars.end());
     Ints vars = sorted(all), of_a = parts(vars, a.vars), of_b = parts(vars, b.vars);
-    auto first = [&](int letter) { return Pair(a.first[of_a[letter]], b.first[of_b[letter]]); };
-    auto next = [&](Pair at, int letter) { return Pair(a.after(at.first, of_a[letter]), b.after(at.second, of_b[letter])); };
+    auto kinds = kinds_by<Pair>(of_a.size(), [&](int letter) { return Pair(a.kinds[of_a[letter]], b.kinds[of_b[letter]]); });
+    auto first = [&](Pair kind) { return Pair(a.first[kind.first], b.first[kind.second]); };
+    auto next = [&](Pair at, Pair kind) { return Pair(a.after_kind(at.first, kind.first), b.after_kind(at.second, kind.second)); };
     auto accepts = [&](Pair at) { return both ? a.accepts[at.first] && b.accepts[at.second] : a.accepts[at.first] || b.accepts[at.second]; };
-    Auto made = explored<Pair>(vars, first, next, accepts);
+    Auto made = explored<Pair>(vars, kinds, first, next, accepts);
     count_step(made.states());
     return reduced(made);
 }
@@ -198,19 +248,20 @@ Auto some(int var, const Auto &a) {
     vars.erase(std::remove(vars.begin(), vars.end(), var), vars.end());
     Ints without = parts(a.vars, vars);
     vector<Ints> lifts(1 << vars.size());
-    for (int letter = 0; letter < a.letters(); letter++) lifts[without[letter]].push_back(letter);
-    auto next = [&](const Ints &from, int letter) {
+    for (int letter = 0; letter < a.letters(); letter++) lifts[without[letter]].push_back(a.kinds[letter]);
+    auto kinds = kinds_by<Ints>(lifts.size(), [&](int letter) { return sorted(lifts[letter]); });
+    auto next = [&](const Ints &from, const Ints &kind) {
         Ints made;
         for (int state : from)
-            for (int lift : lifts[letter]) made.push_back(a.after(state, lift));
+            for (int lift : kind) made.push_back(a.after_kind(state, lift));
         return sorted(made);
     };
-    auto first = [&](int letter) {
+    auto first = [&](const Ints &kind) {
         Ints made, more;
-        for (int lift : lifts[letter]) more.push_back(a.first[lift]);
+        for (int lift : kind) more.push_back(a.first[lift]);
         while (made != more) {
             made = sorted(more);
-            Ints on = next(made, letter);
+            Ints on = next(made, kind);
             more = made;
             more.insert(more.end(), on.begin(), on.end());
             more = sorted(more);
@@ -218,7 +269,7 @@ Auto some(int var, const Auto &a) {
         return made;
     };
     auto accepts = [&](const Ints &states) { return std::any_of(states.begin(), states.end(), [&](int state) { return a.accepts[state]; }); };
-    Auto made = explored<Ints>(vars, first, next, accepts);
+    Auto made = explored<Ints>(vars, kinds, first, next, accepts);
     count_step(made.states());
     return reduced(made);
 }
@@ -229,7 +280,7 @@ bool has(const Auto &set, const vector<int64_t> &tuple) {
     for (int digit = 64; digit >= 0; digit--) {
         int letter = 0;
         for (size_t i = 0; i < tuple.size(); i++) letter |= int(tuple[i] >> std::min(digit, 63) & 1) << i;
-        state = digit == 64 ? set.first[letter] : set.after(state, letter);
+        state = digit == 64 ? set.first_of(letter) : set.after(state, letter);
     }
     return set.accepts[state];
 }
@@ -531,7 +582,9 @@ enum { T = 18, MORE = 19, FROM_X = 20, FROM_Y = 21, MOST_PERIOD = 60 };
 Auto whole(const Level &level, int mask) {
     Auto set = get(level, mask);
     if (!set.is_empty()) return set;
-    return reduced(explored<int>(seats(mask), [](int) { return 0; }, [](int, int) { return 0; }, [](int) { return false; }));
+    Ints vars = seats(mask);
+    auto kinds = kinds_by<int>(1 << vars.size(), [](int) { return 0; });
+    return reduced(explored<int>(vars, kinds, [](int) { return 0; }, [](int, int) { return 0; }, [](int) { return false; }));
 }
 
 // Where man i has gone along the ray, and the others stand where they do, the position is in the set.
@@ -594,7 +647,7 @@ bool is_finite(const Auto &set) {
     for (int state = 0; state < count; state++) go(state, reach[state]);
     auto leads = [&](int from, int to) { return std::find(reach[from].begin(), reach[from].end(), to) != reach[from].end(); };
     auto accepts = [&](int from) { return std::any_of(reach[from].begin(), reach[from].end(), [&](int to) { return set.accepts[to]; }); };
-    int zero = set.first[0], one = set.after(zero, 1);
+    int zero = set.first_of(0), one = set.after(zero, 1);
     for (int state = 0; state < count; state++)
         if ((state == one || leads(one, state)) && leads(state, state) && accepts(state)) return false;
     return true;
@@ -635,7 +688,7 @@ void check(std::map<int, Level> claimed) {
         for (int mask : masks()) {
             Auto whole = claimed[ply][mask];
             for (int letter = 0; letter < whole.letters(); letter++)
-                if (whole.first[letter] != whole.after(whole.first[letter], letter)) fails(ply, mask, "sign");
+                if (whole.first_of(letter) != whole.after(whole.first_of(letter), letter)) fails(ply, mask, "sign");
             Auto set = or_nothing(whole);
             begin(ply, mask, "same");
             for (int a = 1; a <= count_men(); a++)
@@ -710,6 +763,7 @@ std::map<int, Level> read_file(const string &name) {
         int ply = number(1), mask = number(1), count = number(4);
         Auto set;
         set.vars = seats(mask);
+        set.kinds = kinds_by<int>(1 << set.vars.size(), [](int letter) { return letter; }).of;
         struct Node { int track, low, high; };
         vector<Node> nodes(version == 2 ? number(4) : 0);
         for (Node &node : nodes) {
