@@ -1,81 +1,92 @@
 //! Rows that ask automata.
 
-ghost use Rattle.std.specs.Prelude.{◌≡◌, [], IfOk};
-ghost use Rattle.track_word.specs.Tracks.{with_vars};
+ghost use Rattle.std.specs.Prelude.{◌≡◌, IsTrue};
+ghost use Rattle.auto_core.specs.Integers.{DecidesIntegers};
 ghost use Rattle.auto_core.specs.Reduced.{IsReduced};
 
 use crate::letters::write_vars;
-use crate::members::{write_accepts, write_members};
-use crate::spelling::{Reader, automaton, whole};
+use crate::members::{write_tuples, write_words};
+use crate::periods::write_periods;
+use crate::rays::write_rays;
+use crate::reduced_auto::check_stable;
+use crate::spelling::{Reader, automaton};
 use crate::table_text::write_table;
 use auto_core::Auto;
 use auto_reduce::{is_empty, same_set, sign_stable};
-use std::alloc::Global;
-use track_word::Var;
-use trial_rows::{Fields, RowError, write_truth, written};
+use trial_rows::{Row, RowError};
 
 /// Writes the answer of a row of this kind.
-pub fn write_answer(
-    reader: Reader,
-    kind: &str,
-    fields: &mut Fields,
-    out: &mut String,
-) -> Result<(), RowError> {
+pub fn write_answer(reader: Reader, kind: &str, row: &mut Row) -> Result<(), RowError> {
     match kind {
-        "accepts" => write_accepts(reader, fields, out),
-        "member" => write_members(reader, fields, out),
-        "same" => write_truth(out, is_same(reader, fields)?),
-        _ => write_asked(reader, kind, fields, out),
+        "same" => write_same(reader, row),
+        "accepts" | "member" | "periods" | "rays" => write_asked(reader, kind, row),
+        _ => write_told(reader, kind, row),
     }
 }
 
-/// Writes what a row of this kind asks of the automaton that the fields spell.
-fn write_asked(
-    reader: Reader,
-    kind: &str,
-    fields: &mut Fields,
-    out: &mut String,
-) -> Result<(), RowError> {
-    let set = whole(reader, fields)?;
-    write_of(reader.alloc, set.auto(), kind, out)
+/// `KIND A`: writes what the automaton is told to be.
+fn write_told(reader: Reader, kind: &str, row: &mut Row) -> Result<(), RowError> {
+    let set = automaton(reader, row)?;
+    write_of(row, set.auto(), kind)
 }
 
-/// Writes what a row of this kind asks of an automaton.
-fn write_of(alloc: Global, a: &Auto, kind: &str, out: &mut String) -> Result<(), RowError>
+/// Writes what an automaton is.
+fn write_of(row: &mut Row, a: &Auto, kind: &str) -> Result<(), RowError>
     requires { IsReduced a.now }
 {
     match kind {
-        "states" => written(write!(out, "{}", a.states())),
-        "tracks" => write_vars(out, a.tracks()),
-        "empty" => write_truth(out, is_empty(a)),
-        "stable" => write_truth(out, sign_stable(alloc, a)?),
-        "table" => write_table(out, a),
-        _ => Err(RowError::Kind),
+        "states" => row.write_number(a.states()),
+        "tracks" => write_vars(row, a.tracks()),
+        "empty" => row.write_truth(is_empty(a)),
+        "stable" => row.write_truth(sign_stable(row.alloc, a)?),
+        "table" => write_table(row, a),
+        _ => return Err(RowError::Kind),
+    }
+    Ok(())
+}
+
+/// `KIND WORD A`: writes what is asked of the automaton.
+fn write_asked(reader: Reader, kind: &str, row: &mut Row) -> Result<(), RowError> {
+    let word = row.word()?;
+    let set = automaton(reader, row)?;
+    if kind == "accepts" {
+        return write_words(row, set.auto(), word);
+    }
+    check_stable(row.alloc, set.auto())?;
+    write_of_set(row, set.auto(), kind, word)
+}
+
+/// Writes what is asked of the set of an automaton.
+fn write_of_set(row: &mut Row, a: &Auto, kind: &str, word: &str) -> Result<(), RowError>
+    requires reduced { IsReduced a.now }
+    requires decides { DecidesIntegers a.now }
+{
+    match kind {
+        "member" => write_tuples(row, a, word),
+        "periods" => write_periods(row, a, word),
+        _ => write_rays(row, a, word),
     }
 }
 
-/// A copy of the automaton, where these are its variables.
-fn over(alloc: Global, a: &Auto, vars: &[Var]) -> Result<Auto, RowError>
-    ensures { IfOk result (λ r. r.tracks ≡ with_vars vars.now []) }
+/// Whether two automata are over the same variables.
+fn are_alike(a: &Auto, b: &Auto) -> bool
+    ensures { IsTrue result → a.now.tracks ≡ b.now.tracks }
 {
-    let tracks = a.tracks();
-    if tracks.len() != vars.len() || tracks != vars {
+    a.tracks() == b.tracks()
+}
+
+/// Writes whether two automata accept the same words, where they are over the same variables.
+fn write_are_same(row: &mut Row, a: &Auto, b: &Auto) -> Result<(), RowError> {
+    if !are_alike(a, b) {
         return Err(RowError::Condition);
     }
-    Ok(a.rename(alloc, vars)?)
-}
-
-/// Whether they accept the same words, where they are over the same variables.
-fn are_same(alloc: Global, a: &Auto, b: &Auto) -> Result<bool, RowError> {
-    let vars = a.tracks();
-    let one = over(alloc, a, vars)?;
-    let two = over(alloc, b, vars)?;
-    Ok(same_set(alloc, &one, &two)?)
+    row.write_truth(same_set(row.alloc, a, b)?);
+    Ok(())
 }
 
 /// `same A A`: whether two automata over the same variables accept the same words.
-fn is_same(reader: Reader, fields: &mut Fields) -> Result<bool, RowError> {
-    let one = automaton(reader, fields)?;
-    let other = whole(reader, fields)?;
-    are_same(reader.alloc, one.auto(), other.auto())
+fn write_same(reader: Reader, row: &mut Row) -> Result<(), RowError> {
+    let one = automaton(reader, row)?;
+    let other = automaton(reader, row)?;
+    write_are_same(row, one.auto(), other.auto())
 }

@@ -12,7 +12,7 @@ use formula_auto::{CompileError, Memo, SetTable};
 use limits::MOST_LINE_BYTES;
 use lin_formula::Formula;
 use std::alloc::Global;
-use trial_rows::{Fields, RowError, separate, write_truth, written};
+use trial_rows::{Row, RowError};
 
 /// The closed formula of a text.
 fn formula(alloc: Global, text: &str) -> Result<Formula, RowError>
@@ -29,52 +29,47 @@ fn formula(alloc: Global, text: &str) -> Result<Formula, RowError>
 }
 
 /// Writes whether a formula holds, or which step of it is over the budget.
-fn write_compiled(out: &mut String, answer: Result<Auto, CompileError>) -> Result<(), RowError>
+fn write_compiled(row: &mut Row, answer: Result<Auto, CompileError>) -> Result<(), RowError>
     requires { IfOk answer IsReduced }
 {
     match answer {
-        Ok(a) => write_truth(out, !is_empty(&a)),
-        Err(CompileError::Over { step }) => written(write!(out, "over {step}")),
-        Err(CompileError::Memory) => Err(RowError::Memory),
+        Ok(a) => row.write_truth(!is_empty(&a)),
+        Err(CompileError::Over { step }) => row.write_labelled("over ", step),
+        Err(CompileError::Memory) => return Err(RowError::Memory),
     }
+    Ok(())
 }
 
 /// Compiles a closed formula with a memo, and writes what that answers.
-fn compiled(alloc: Global, memo: &mut Memo, f: &Formula, out: &mut String) -> Result<(), RowError>
+fn compiled(memo: &mut Memo, f: &Formula, row: &mut Row) -> Result<(), RowError>
     requires { IsQuestion (tree_of f.now) }
 {
-    let sets = SetTable::new(alloc);
-    write_compiled(out, memo.compile(alloc, f, &sets))
+    let sets = SetTable::new(row.alloc);
+    write_compiled(row, memo.compile(row.alloc, f, &sets))
 }
 
 /// Compiles the closed formula of a text with a memo, and writes what that answers.
-fn write_formula(
-    alloc: Global,
-    memo: &mut Memo,
-    text: &str,
-    out: &mut String,
-) -> Result<(), RowError> {
-    let f = formula(alloc, text)?;
-    compiled(alloc, memo, &f, out)
+fn write_formula(memo: &mut Memo, text: &str, row: &mut Row) -> Result<(), RowError> {
+    match formula(row.alloc, text) {
+        Ok(f) => compiled(memo, &f, row),
+        Err(why) => Err(why),
+    }
 }
 
 /// Compiles closed formulas, parted by `/`, one after the other.
-fn write_formulas(
-    alloc: Global,
-    memo: &mut Memo,
-    texts: &str,
-    out: &mut String,
-) -> Result<(), RowError> {
-    for (place, text) in texts.split('/').enumerate() {
-        separate(out, place, '/')?;
-        write_formula(alloc, memo, text, out)?;
+fn write_formulas(memo: &mut Memo, row: &mut Row) -> Result<(), RowError> {
+    for (place, text) in row.rest().split('/').enumerate() {
+        row.separate(place, '/');
+        write_formula(memo, text, row)?;
     }
     Ok(())
 }
 
 /// `memo BUDGET FORMULA/FORMULA ..`: whether the formulas hold, which one memo compiles, and what it keeps then.
-pub fn write_memo(alloc: Global, fields: &mut Fields, out: &mut String) -> Result<(), RowError> {
-    let mut memo = Memo::new(alloc, fields.budget()?);
-    write_formulas(alloc, &mut memo, fields.rest(), out)?;
-    written(write!(out, " kept {} found {}", memo.kept(), memo.found()))
+pub fn write_memo(row: &mut Row) -> Result<(), RowError> {
+    let mut memo = Memo::new(row.alloc, row.budget()?);
+    write_formulas(&mut memo, row)?;
+    row.write_labelled(" kept ", memo.kept());
+    row.write_labelled(" found ", memo.found());
+    Ok(())
 }

@@ -2,7 +2,7 @@
 
 use std::alloc::Global;
 use track_word::Var;
-use trial_rows::{Fields, RowError, separate, written};
+use trial_rows::{Row, RowError};
 
 /// The variable of a letter from `a` to `p`.
 fn var_of(field: &str) -> Result<Var, RowError> {
@@ -13,15 +13,15 @@ fn var_of(field: &str) -> Result<Var, RowError> {
 }
 
 /// The variable of the next field.
-pub fn var(fields: &mut Fields) -> Result<Var, RowError> {
-    var_of(fields.word()?)
+pub fn var(row: &mut Row) -> Result<Var, RowError> {
+    var_of(row.word()?)
 }
 
 /// The variables of the next field, parted by commas. The field `-` has none.
-pub fn vars(alloc: Global, fields: &mut Fields) -> Result<Vec<Var>, RowError> {
-    match fields.word()? {
-        "-" => Ok(Vec::new(alloc)),
-        letters => vars_of(alloc, letters),
+pub fn vars(row: &mut Row) -> Result<Vec<Var>, RowError> {
+    match row.word()? {
+        "-" => Ok(Vec::new(row.alloc)),
+        letters => vars_of(row.alloc, letters),
     }
 }
 
@@ -34,21 +34,20 @@ fn vars_of(alloc: Global, letters: &str) -> Result<Vec<Var>, RowError> {
 }
 
 /// Writes the letter of a variable.
-fn write_var(out: &mut String, var: Var) -> Result<(), RowError> {
+fn write_var(row: &mut Row, var: Var) {
     match var.0 {
-        0..=15 => written(out.push((b'a' + var.0) as char)),
-        _ => written(write!(out, "{}", var.0)),
+        0..=15 => row.write_mark((b'a' + var.0) as char),
+        number => row.write_number(number),
     }
 }
 
 /// Writes the letters of variables, parted by commas, or `-` where there are none.
-pub fn write_vars(out: &mut String, vars: &[Var]) -> Result<(), RowError> {
+pub fn write_vars(row: &mut Row, vars: &[Var]) {
     if vars.is_empty() {
-        out.push('-')?;
+        row.write("-");
     }
     for (place, var) in vars.iter().enumerate() {
-        separate(out, place, ',')?;
-        write_var(out, *var)?;
+        row.separate(place, ',');
+        write_var(row, *var);
     }
-    Ok(())
 }

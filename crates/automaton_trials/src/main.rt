@@ -15,13 +15,10 @@ mod tables;
 
 use answers::write_answer;
 use formulas::write_memo;
-use periods::write_periods;
-use rays::write_rays;
 use reduced_auto::ReducedAuto;
-use spelling::{Reader, whole};
-use std::alloc::Global;
+use spelling::{Reader, automaton};
 use std::process::ExitCode;
-use trial_rows::{Fields, Named, RowError, Rows, answer_script};
+use trial_rows::{Named, Row, RowError, Rows, answer_script};
 
 /// The automata that rows have named.
 #[derive(Drop)]
@@ -30,33 +27,18 @@ struct Automata {
 }
 
 /// `set NAME A`: names an automaton.
-fn name_automaton(
-    alloc: Global,
-    named: &mut Named<ReducedAuto>,
-    fields: &mut Fields,
-) -> Result<(), RowError> {
-    let name = fields.word()?;
-    let set = whole(Reader::new(alloc, named), fields)?;
-    named.put(alloc, name, set)
+fn name_automaton(named: &mut Named<ReducedAuto>, row: &mut Row) -> Result<(), RowError> {
+    let name = row.word()?;
+    let set = automaton(Reader::new(named), row)?;
+    named.put(row.alloc, name, set)
 }
 
 impl Rows for Automata {
-    fn answer(
-        &mut self,
-        alloc: Global,
-        kind: &str,
-        fields: &mut Fields,
-        out: &mut String,
-    ) -> Result<(), RowError> {
-        if kind == "set" {
-            return name_automaton(alloc, &mut self.named, fields);
-        }
-        let reader = Reader::new(alloc, &self.named);
+    fn answer(&mut self, kind: &str, row: &mut Row) -> Result<(), RowError> {
         match kind {
-            "rays" => write_rays(reader, fields, out),
-            "memo" => write_memo(alloc, fields, out),
-            "periods" => write_periods(reader, fields, out),
-            _ => write_answer(reader, kind, fields, out),
+            "set" => name_automaton(&mut self.named, row),
+            "memo" => write_memo(row),
+            _ => write_answer(Reader::new(&self.named), kind, row),
         }
     }
 }

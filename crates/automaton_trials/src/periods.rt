@@ -1,70 +1,69 @@
-//! Rows that describe sets of numbers.
+//! Sets of numbers, as they are described.
 
 ghost use Rattle.std.specs.Prelude.{◌≡◌, [], ◌∷◌};
 ghost use Rattle.auto_core.specs.Integers.{DecidesIntegers};
 ghost use Rattle.auto_core.specs.Reduced.{IsReduced};
 ghost use Rattle.period_sets.specs.Question.{t_var};
 
-use crate::reduced_auto::check_stable;
-use crate::spelling::{Reader, whole};
 use auto_core::Auto;
 use limits::Budget;
 use period_sets::{PeriodError, Periodic, describe_set};
-use std::alloc::Global;
 use track_word::Var;
-use trial_rows::{Fields, RowError, written};
+use trial_rows::{Row, RowError, number};
 
 /// The variable of the numbers of a described set.
 const NUMBER: Var = Var(18);
 
 /// Writes the runs, from where on the set repeats, its period, and a number whose bits are the rests.
-fn write_periodic(out: &mut String, periodic: &Periodic) -> Result<(), RowError> {
+fn write_periodic(row: &mut Row, periodic: &Periodic) {
     for run in periodic.runs.as_slice() {
-        written(write!(out, "{}-{} ", run.low, run.high))?;
+        row.write_number(run.low);
+        row.write_labelled("-", run.high);
+        row.write(" ");
     }
-    written(write!(
-        out,
-        "from {} every {} rests {}",
-        periodic.from, periodic.period, periodic.rests
-    ))
+    row.write_labelled("from ", periodic.from);
+    row.write_labelled(" every ", periodic.period);
+    row.write_labelled(" rests ", periodic.rests);
 }
 
-/// Writes what is told of a set, or why nothing is.
-fn write_description(
-    out: &mut String,
-    answer: Result<Periodic, PeriodError>,
-) -> Result<(), RowError> {
-    match answer {
-        Ok(periodic) => write_periodic(out, &periodic),
-        Err(PeriodError::Over { step }) => written(write!(out, "over {step}")),
-        Err(PeriodError::NoPeriod) => written(out.push_str("no period")),
-        Err(PeriodError::Far) => written(out.push_str("far")),
-        Err(PeriodError::Many) => written(out.push_str("many")),
-        Err(PeriodError::Memory) => Err(RowError::Memory),
+/// Writes why nothing is told of a set.
+fn write_error(row: &mut Row, error: PeriodError) -> Result<(), RowError> {
+    match error {
+        PeriodError::Over { step } => row.write_labelled("over ", step),
+        PeriodError::NoPeriod => row.write("no period"),
+        PeriodError::Far => row.write("far"),
+        PeriodError::Many => row.write("many"),
+        PeriodError::Memory => return Err(RowError::Memory),
     }
+    Ok(())
 }
 
-/// Describes the set of an automaton, where it has one track.
-fn describe(alloc: Global, a: &Auto, budget: Budget, out: &mut String) -> Result<(), RowError>
+/// Writes what is told of the set of an automaton of the variable of described sets.
+fn describe(row: &mut Row, a: &Auto, budget: Budget) -> Result<(), RowError>
     requires reduced { IsReduced a.now }
+    requires tracks { a.now.tracks ≡ t_var ∷ [] }
     requires decides { DecidesIntegers a.now }
 {
-    if a.tracks().len() != 1 {
-        return Err(RowError::Condition);
+    match describe_set(row.alloc, a, budget) {
+        Ok(periodic) => {
+            write_periodic(row, &periodic);
+            Ok(())
+        }
+        Err(error) => write_error(row, error),
     }
-    let set = a.rename(alloc, &[NUMBER])?;
-    write_description(out, describe_set(alloc, &set, budget))
 }
 
 /// `periods BUDGET A`: from where on the set of an automaton of one track repeats, and what is in it.
-pub fn write_periods(
-    reader: Reader,
-    fields: &mut Fields,
-    out: &mut String,
-) -> Result<(), RowError> {
-    let budget = fields.budget()?;
-    let set = whole(reader, fields)?;
-    let a = set.auto();
-    check_stable(reader.alloc, a)?;
-    describe(reader.alloc, a, budget, out)
+pub fn write_periods(row: &mut Row, a: &Auto, budget: &str) -> Result<(), RowError>
+    requires reduced { IsReduced a.now }
+    requires decides { DecidesIntegers a.now }
+{
+    let Some(budget) = Budget::checked(number(budget)?) else {
+        return Err(RowError::Number);
+    };
+    if a.tracks().len() != 1 {
+        return Err(RowError::Condition);
+    }
+    let set = a.rename(row.alloc, &[NUMBER])?;
+    describe(row, &set, budget)
 }

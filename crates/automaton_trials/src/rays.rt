@@ -1,17 +1,15 @@
-//! Rows that search along rays.
+//! Searches along rays.
 
 ghost use Rattle.std.specs.Prelude.{◌≡◌, ◌≤◌, IfOk, IsTrue, length};
 ghost use Rattle.auto_core.specs.Integers.{DecidesIntegers};
 ghost use Rattle.auto_search.specs.TupleRay.{IsTupleRay};
 
-use crate::reduced_auto::check_stable;
-use crate::spelling::{Reader, automaton};
 use auto_core::Auto;
 use auto_search::{Few, Search, TupleRay};
 use std::alloc::Global;
 use std::num::ParseIntError;
 use std::str::FromStr;
-use trial_rows::{Fields, RowError, number, numbers, separate, written};
+use trial_rows::{Row, RowError, number};
 
 /// The greatest distance that may be asked for.
 const MOST_DISTANCE: u128 = 1 << 64;
@@ -36,6 +34,14 @@ fn is_tuple_ray(way: &TupleRay) -> bool
     way.dy >= -2 && way.dy <= 2
 }
 
+/// The two numbers of a field.
+fn pair<T: FromStr<Err = ParseIntError> + Copy>(field: &str) -> Result<(T, T), RowError> {
+    let Some((first, second)) = field.split_once(',') else {
+        return Err(RowError::Word);
+    };
+    Ok((number(first)?, number(second)?))
+}
+
 /// A ray as it is spelled: the tuple at distance 0, the places of the two tracks that it moves on, and what a step adds there.
 #[derive(Drop)]
 struct Spelled {
@@ -45,15 +51,11 @@ struct Spelled {
 }
 
 impl Spelled {
-    fn read(alloc: Global, fields: &mut Fields) -> Result<Self, RowError> {
-        let fixed = fields.word()?;
-        let tracks = pair(fields)?;
-        let slopes = pair(fields)?;
-        let fixed = numbers(alloc, fixed)?;
+    fn read(row: &mut Row) -> Result<Self, RowError> {
         Ok(Spelled {
-            fixed,
-            tracks,
-            slopes,
+            fixed: row.numbers()?,
+            tracks: pair(row.word()?)?,
+            slopes: pair(row.word()?)?,
         })
     }
 
@@ -68,96 +70,72 @@ impl Spelled {
     }
 }
 
-/// The two numbers of the next field.
-fn pair<T: FromStr<Err = ParseIntError> + Copy>(fields: &mut Fields) -> Result<(T, T), RowError> {
-    let Some((first, second)) = fields.word()?.split_once(',') else {
-        return Err(RowError::Word);
-    };
-    Ok((number(first)?, number(second)?))
-}
-
 /// Writes how many there are.
-fn write_few(out: &mut String, few: Few) -> Result<(), RowError> {
-    written(out.push_str(match few {
+fn write_few(row: &mut Row, few: Few) {
+    row.write(match few {
         Few::Zero => "zero",
         Few::One => "one",
         Few::More => "more",
-    }))
+    });
 }
 
 /// Writes the least distance, where there is one.
-fn write_least(out: &mut String, least: Option<u128>) -> Result<(), RowError> {
+fn write_least(row: &mut Row, least: Option<u128>) {
     match least {
-        Some(distance) => written(write!(out, "{distance}")),
-        None => written(out.push_str("none")),
+        Some(distance) => row.write_number(distance),
+        None => row.write("none"),
     }
 }
 
-/// The least distance of those that the next fields bound.
-fn least(
-    search: &mut Search,
-    a: &Auto,
-    way: &TupleRay,
-    fields: &mut Fields,
-) -> Result<Option<u128>, RowError>
+/// Writes the least distance of those that the next fields bound.
+fn ask_least(search: &mut Search, a: &Auto, way: &TupleRay, row: &mut Row) -> Result<(), RowError>
     requires decides { DecidesIntegers a.now }
     requires room { length a.now.accept ≤ search.old }
     requires count { length way.now.fixed.now ≡ length a.now.tracks }
     requires way { IsTupleRay way.now }
     ensures kept { search.new ≡ search.old }
 {
-    let near = fields.number()?;
-    let far = fields.number()?;
+    let (near, far) = row.two_numbers::<u128, u128>()?;
     if far > MOST_DISTANCE {
         return Err(RowError::Condition);
     }
-    Ok(search.least_on_ray(a, way, near, far))
+    write_least(row, search.least_on_ray(a, way, near, far));
+    Ok(())
 }
 
 /// The next question about a set: `least FIXED TRACKS SLOPES NEAR FAR` or `count FIXED TRACKS SLOPES`.
-fn ask(
-    alloc: Global,
-    search: &mut Search,
-    a: &Auto,
-    fields: &mut Fields,
-    out: &mut String,
-) -> Result<(), RowError>
+fn ask(search: &mut Search, a: &Auto, row: &mut Row) -> Result<(), RowError>
     requires decides { DecidesIntegers a.now }
     requires room { length a.now.accept ≤ search.old }
     ensures kept { search.new ≡ search.old }
 {
-    let question = fields.word()?;
-    let spelled = Spelled::read(alloc, fields)?;
+    let question = row.word()?;
+    let spelled = Spelled::read(row)?;
     let way = spelled.way();
     if !is_tuple_ray(&way) || way.fixed.len() != a.tracks().len() {
         return Err(RowError::Condition);
     }
     match question {
-        "least" => write_least(out, least(search, a, &way, fields)?),
-        "count" => write_few(out, search.count_on_ray(a, &way)),
-        _ => Err(RowError::Word),
+        "least" => return ask_least(search, a, &way, row),
+        "count" => write_few(row, search.count_on_ray(a, &way)),
+        _ => return Err(RowError::Word),
     }
+    Ok(())
 }
 
 /// Writes the answers to the questions that are left, by one search.
-fn ask_all(
-    alloc: Global,
-    search: &mut Search,
-    a: &Auto,
-    fields: &mut Fields,
-    out: &mut String,
-) -> Result<(), RowError>
+fn ask_all(search: &mut Search, a: &Auto, row: &mut Row) -> Result<(), RowError>
     requires decides { DecidesIntegers a.now }
     requires room { length a.now.accept ≤ search.old }
 {
     for turn in 0..u8::MAX {
-        if fields.is_done() {
+        if row.is_done() {
             break;
         }
-        separate(out, turn as usize, ' ')?;
-        ask(alloc, search, a, fields, out)?;
+        row.separate(turn as usize, ' ');
+        ask(search, a, row)?;
     }
-    fields.end()
+    Ok(())
 }
 
 /// A search with room for so many states, where the automaton has no more.
@@ -170,25 +148,10 @@ fn reserved(alloc: Global, states: u32, a: &Auto) -> Result<Search, RowError>
     Ok(Search::reserve(alloc, states)?)
 }
 
-/// Writes the answers to the questions that are left, by one search with room for so many states.
-fn search_all(
-    alloc: Global,
-    states: u32,
-    a: &Auto,
-    fields: &mut Fields,
-    out: &mut String,
-) -> Result<(), RowError>
+/// `rays STATES A QUESTION ..`: the answers of one search, which has room for so many states.
+pub fn write_rays(row: &mut Row, a: &Auto, states: &str) -> Result<(), RowError>
     requires { DecidesIntegers a.now }
 {
-    let mut search = reserved(alloc, states, a)?;
-    ask_all(alloc, &mut search, a, fields, out)
-}
-
-/// `rays STATES A QUESTION ..`: the answers of one search, which has room for so many states.
-pub fn write_rays(reader: Reader, fields: &mut Fields, out: &mut String) -> Result<(), RowError> {
-    let states = fields.number::<u32>()?;
-    let set = automaton(reader, fields)?;
-    let a = set.auto();
-    check_stable(reader.alloc, a)?;
-    search_all(reader.alloc, states, a, fields, out)
+    let mut search = reserved(row.alloc, number(states)?, a)?;
+    ask_all(&mut search, a, row)
 }

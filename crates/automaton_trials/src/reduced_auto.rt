@@ -13,15 +13,20 @@ use auto_reduce::{reduce, sign_stable};
 use auto_walk::Grown;
 use limits::{Budget, MOST_TRACKS};
 use lin_formula::{LinWhy, lin};
-use std::alloc::Global;
+use std::alloc::{AllocError, Global};
 use std::marker::Model;
 use track_word::{Rel, Var};
 use trial_rows::RowError;
 
 /// An automaton with no state too many.
-#[derive(Drop)]
 pub struct ReducedAuto {
     auto: Auto,
+}
+
+impl Drop for ReducedAuto {
+    fn drop(self) {
+        let ReducedAuto { auto: _ } = self;
+    }
 }
 
 impl Model for ReducedAuto {
@@ -51,15 +56,27 @@ impl ReducedAuto {
     }
 
     pub fn copy(&self) -> Result<ReducedAuto, RowError> {
-        let auto = self.auto.copy()?;
-        Ok(ReducedAuto { auto })
+        match self.auto.copy() {
+            Ok(auto) => Ok(ReducedAuto { auto }),
+            Err(_) => Err(RowError::Memory),
+        }
     }
 }
 
 /// The reduced automaton of the same words.
-pub fn reduced(alloc: Global, a: &Auto) -> Result<ReducedAuto, RowError> {
-    let auto = reduce(alloc, a)?;
-    Ok(ReducedAuto::new(auto))
+fn reduced(alloc: Global, a: &Auto) -> Result<ReducedAuto, RowError> {
+    match reduce(alloc, a) {
+        Ok(auto) => Ok(ReducedAuto::new(auto)),
+        Err(_) => Err(RowError::Memory),
+    }
+}
+
+/// What an automaton is, reduced, where memory sufficed.
+pub fn made(alloc: Global, answer: Result<Auto, AllocError>) -> Result<ReducedAuto, RowError> {
+    match answer {
+        Ok(auto) => reduced(alloc, &auto),
+        Err(_) => Err(RowError::Memory),
+    }
 }
 
 /// What a larger automaton is, reduced, where the budget and memory sufficed.
@@ -75,10 +92,11 @@ pub fn grown(alloc: Global, answer: Result<Auto, Grown>) -> Result<ReducedAuto, 
 pub fn check_stable(alloc: Global, a: &Auto) -> Result<(), RowError>
     ensures { IfOk result (λ _. DecidesIntegers a.now) }
 {
-    if !sign_stable(alloc, a)? {
-        return Err(RowError::Condition);
+    match sign_stable(alloc, a) {
+        Ok(true) => Ok(()),
+        Ok(false) => Err(RowError::Condition),
+        Err(_) => Err(RowError::Memory),
     }
-    Ok(())
 }
 
 /// Refuses a comparison whose parts are not such as may be.
@@ -100,8 +118,7 @@ pub fn comparison(
     bound: i32,
 ) -> Result<ReducedAuto, RowError> {
     check_atom(alloc, terms, rel, bound)?;
-    let auto = Auto::lin(alloc, terms, rel, bound)?;
-    reduced(alloc, &auto)
+    made(alloc, Auto::lin(alloc, terms, rel, bound))
 }
 
 /// How many tracks there are.
@@ -137,17 +154,20 @@ pub fn joined(
     if !are_few_together(a, b) {
         return Err(RowError::Condition);
     }
-    match connective {
-        Connective::And => grown(alloc, meet(alloc, a, b, budget)),
-        Connective::Or => grown(alloc, join(alloc, a, b, budget)),
-        Connective::AndNot => grown(alloc, difference(alloc, a, b, budget)),
-    }
+    let answer = match connective {
+        Connective::And => meet(alloc, a, b, budget),
+        Connective::Or => join(alloc, a, b, budget),
+        Connective::AndNot => difference(alloc, a, b, budget),
+    };
+    grown(alloc, answer)
 }
 
 /// The other words.
 pub fn others(alloc: Global, a: &ReducedAuto) -> Result<ReducedAuto, RowError> {
-    let auto = not(alloc, a.auto())?;
-    Ok(ReducedAuto::new(auto))
+    match not(alloc, a.auto()) {
+        Ok(auto) => Ok(ReducedAuto::new(auto)),
+        Err(_) => Err(RowError::Memory),
+    }
 }
 
 /// What some integer of a variable makes true.

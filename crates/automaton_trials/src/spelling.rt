@@ -3,7 +3,7 @@
 ghost use Rattle.std.specs.Prelude.{◌<◌, IfOk};
 
 use crate::letters::{var, vars};
-use crate::reduced_auto::{ReducedAuto, comparison, forgotten, grown, joined, others, reduced};
+use crate::reduced_auto::{ReducedAuto, comparison, forgotten, grown, joined, made, others};
 use crate::tables::{Tables, tabled};
 use auto_bool::Connective;
 use auto_core::Auto;
@@ -11,7 +11,7 @@ use auto_walk::residue;
 use limits::Budget;
 use std::alloc::Global;
 use track_word::{Rel, Var};
-use trial_rows::{Fields, Named, RowError};
+use trial_rows::{Named, Row, RowError};
 
 /// How deeply automata may be nested.
 const MOST_DEPTH: u8 = 60;
@@ -19,15 +19,13 @@ const MOST_DEPTH: u8 = 60;
 /// What an automaton is read from: the automata that were named, and how deeply what is left may be nested.
 #[derive(Clone, Copy)]
 pub struct Reader<'a> {
-    pub alloc: Global,
     named: &'a Named<ReducedAuto>,
     depth: u8,
 }
 
 impl<'a> Reader<'a> {
-    pub fn new(alloc: Global, named: &'a Named<ReducedAuto>) -> Self {
+    pub fn new(named: &'a Named<ReducedAuto>) -> Self {
         Reader {
-            alloc,
             named,
             depth: MOST_DEPTH,
         }
@@ -41,7 +39,6 @@ impl<'a> Reader<'a> {
             return Err(RowError::Deep);
         }
         Ok(Reader {
-            alloc: self.alloc,
             named: self.named,
             depth: self.depth - 1,
         })
@@ -49,46 +46,44 @@ impl<'a> Reader<'a> {
 }
 
 /// A coefficient and its variable.
-fn term(fields: &mut Fields) -> Result<(i8, Var), RowError> {
-    let coefficient = fields.number::<i8>()?;
-    Ok((coefficient, var(fields)?))
+fn term(row: &mut Row) -> Result<(i8, Var), RowError> {
+    let coefficient = row.number::<i8>()?;
+    Ok((coefficient, var(row)?))
 }
 
-/// So many terms of a comparison.
-fn terms(alloc: Global, count: u8, fields: &mut Fields) -> Result<Vec<(i8, Var)>, RowError> {
-    let mut terms = Vec::new(alloc);
+/// The terms of a comparison, behind their number.
+fn terms(row: &mut Row) -> Result<Vec<(i8, Var)>, RowError> {
+    let count = row.number::<u8>()?;
+    let mut terms = Vec::new(row.alloc);
     for _ in 0..count {
-        terms.push(term(fields)?)?;
+        terms.push(term(row)?)?;
     }
     Ok(terms)
 }
 
 /// `le K A V .. B` and `eq K A V .. B`.
-fn linear(alloc: Global, rel: Rel, fields: &mut Fields) -> Result<ReducedAuto, RowError> {
-    let count = fields.number::<u8>()?;
-    let terms = terms(alloc, count, fields)?;
-    let bound = fields.number::<i32>()?;
-    comparison(alloc, terms.as_slice(), rel, bound)
+fn linear(rel: Rel, row: &mut Row) -> Result<ReducedAuto, RowError> {
+    let terms = terms(row)?;
+    let bound = row.number::<i32>()?;
+    comparison(row.alloc, terms.as_slice(), rel, bound)
 }
 
 /// `is V N`.
-fn value(alloc: Global, fields: &mut Fields) -> Result<ReducedAuto, RowError> {
-    let var = var(fields)?;
-    let value = fields.number::<i64>()?;
-    let auto = Auto::value(alloc, var, value)?;
-    reduced(alloc, &auto)
+fn value(row: &mut Row) -> Result<ReducedAuto, RowError> {
+    let var = var(row)?;
+    let value = row.number::<i64>()?;
+    made(row.alloc, Auto::value(row.alloc, var, value))
 }
 
 /// `residue BUDGET V M R`.
-fn remainder(alloc: Global, fields: &mut Fields) -> Result<ReducedAuto, RowError> {
-    let budget = fields.budget()?;
-    let var = var(fields)?;
-    let modulus = fields.number::<u32>()?;
-    let wanted = fields.number::<u32>()?;
+fn remainder(row: &mut Row) -> Result<ReducedAuto, RowError> {
+    let budget = row.budget()?;
+    let var = var(row)?;
+    let (modulus, wanted) = row.two_numbers::<u32, u32>()?;
     if modulus == 0 {
         return Err(RowError::Condition);
     }
-    grown(alloc, residue(alloc, var, modulus, wanted, budget))
+    grown(row.alloc, residue(row.alloc, var, modulus, wanted, budget))
 }
 
 /// Flags, each `1` or `0`, with nothing between them.
@@ -105,98 +100,69 @@ fn flags(alloc: Global, field: &str) -> Result<Vec<bool>, RowError> {
 }
 
 /// `VARS FIRST NEXT FLAGS`.
-fn tables(alloc: Global, fields: &mut Fields) -> Result<Tables, RowError> {
+fn tables(row: &mut Row) -> Result<Tables, RowError> {
     Ok(Tables {
-        tracks: vars(alloc, fields)?,
-        first: fields.numbers(alloc)?,
-        next: fields.numbers(alloc)?,
-        accept: flags(alloc, fields.word()?)?,
+        tracks: vars(row)?,
+        first: row.numbers()?,
+        next: row.numbers()?,
+        accept: flags(row.alloc, row.word()?)?,
     })
 }
 
 /// `rows VARS FIRST NEXT FLAGS`.
-fn rows(alloc: Global, fields: &mut Fields) -> Result<ReducedAuto, RowError> {
-    let tables = tables(alloc, fields)?;
-    let auto = tabled(alloc, tables)?;
-    reduced(alloc, &auto)
+fn rows(row: &mut Row) -> Result<ReducedAuto, RowError> {
+    let tables = tables(row)?;
+    tabled(row.alloc, tables)
 }
 
 /// An automaton that is made of no other one, from the second word on.
-fn plain_automaton(
-    reader: Reader,
-    word: &str,
-    fields: &mut Fields,
-) -> Result<ReducedAuto, RowError> {
+fn plain_automaton(reader: Reader, word: &str, row: &mut Row) -> Result<ReducedAuto, RowError> {
     match word {
-        "le" => linear(reader.alloc, Rel::Le, fields),
-        "eq" => linear(reader.alloc, Rel::Eq, fields),
-        "is" => value(reader.alloc, fields),
-        "residue" => remainder(reader.alloc, fields),
-        "rows" => rows(reader.alloc, fields),
-        "the" => reader.named.get(fields.word()?)?.copy(),
+        "le" => linear(Rel::Le, row),
+        "eq" => linear(Rel::Eq, row),
+        "is" => value(row),
+        "residue" => remainder(row),
+        "rows" => rows(row),
+        "the" => reader.named.next(row)?.copy(),
         _ => Err(RowError::Word),
     }
 }
 
 /// An automaton, whose text may name earlier ones.
 #[cycle(automaton)]
-pub fn automaton(reader: Reader, fields: &mut Fields) -> Result<ReducedAuto, RowError> {
+pub fn automaton(reader: Reader, row: &mut Row) -> Result<ReducedAuto, RowError> {
     let inner = reader.inner()?;
-    let word = fields.word()?;
-    match word {
-        "not" => negated(inner, fields),
-        "meet" => both(inner, Connective::And, fields),
-        "join" => both(inner, Connective::Or, fields),
-        "without" => both(inner, Connective::AndNot, fields),
-        "forget" => projected(inner, fields),
-        _ => plain_automaton(reader, word, fields),
+    match row.word()? {
+        "not" => negated(inner, row),
+        "meet" => both(inner, Connective::And, row),
+        "join" => both(inner, Connective::Or, row),
+        "without" => both(inner, Connective::AndNot, row),
+        "forget" => projected(inner, row),
+        word => plain_automaton(reader, word, row),
     }
 }
 
 /// `not A`, from the second word on.
 #[cycle(automaton)]
-fn negated(inner: Reader, fields: &mut Fields) -> Result<ReducedAuto, RowError> {
-    let set = automaton(inner, fields)?;
-    others(inner.alloc, &set)
+fn negated(inner: Reader, row: &mut Row) -> Result<ReducedAuto, RowError> {
+    let set = automaton(inner, row)?;
+    others(row.alloc, &set)
 }
 
 /// `forget BUDGET V A`, from the second word on.
 #[cycle(automaton)]
-fn projected(inner: Reader, fields: &mut Fields) -> Result<ReducedAuto, RowError> {
-    let budget = fields.budget()?;
-    let var = var(fields)?;
-    let set = automaton(inner, fields)?;
-    forgotten(inner.alloc, &set, var, budget)
+fn projected(inner: Reader, row: &mut Row) -> Result<ReducedAuto, RowError> {
+    let budget = row.budget()?;
+    let var = var(row)?;
+    let set = automaton(inner, row)?;
+    forgotten(row.alloc, &set, var, budget)
 }
 
 /// `meet BUDGET A A`, `join BUDGET A A` and `without BUDGET A A`, from the second word on.
 #[cycle(automaton)]
-fn both(
-    inner: Reader,
-    connective: Connective,
-    fields: &mut Fields,
-) -> Result<ReducedAuto, RowError> {
-    let budget = fields.budget()?;
-    let left = automaton(inner, fields)?;
-    with_next(inner, connective, &left, budget, fields)
-}
-
-/// An automaton, put together with the one that follows.
-#[cycle(automaton)]
-fn with_next(
-    inner: Reader,
-    connective: Connective,
-    left: &ReducedAuto,
-    budget: Budget,
-    fields: &mut Fields,
-) -> Result<ReducedAuto, RowError> {
-    let right = automaton(inner, fields)?;
-    joined(inner.alloc, connective, left, &right, budget)
-}
-
-/// An automaton that all of the fields spell.
-pub fn whole(reader: Reader, fields: &mut Fields) -> Result<ReducedAuto, RowError> {
-    let set = automaton(reader, fields)?;
-    fields.end()?;
-    Ok(set)
+fn both(inner: Reader, connective: Connective, row: &mut Row) -> Result<ReducedAuto, RowError> {
+    let budget = row.budget()?;
+    let left = automaton(inner, row)?;
+    let right = automaton(inner, row)?;
+    joined(row.alloc, connective, &left, &right, budget)
 }

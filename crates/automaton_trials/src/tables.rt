@@ -4,6 +4,7 @@ ghost use Rattle.std.specs.Prelude.{◌≡◌, ◌≤◌, ◌<◌, ◌^◌, All,
 ghost use Rattle.track_word.specs.Tracks.{IsAscending};
 ghost use Rattle.automaton_trials.specs.Tabled.{AreOfAutomaton};
 
+use crate::reduced_auto::{ReducedAuto, made};
 use auto_core::Auto;
 use limits::{MOST_STATES, MOST_TRACKS};
 use std::alloc::Global;
@@ -67,7 +68,7 @@ fn are_tables(tables: &Tables) -> bool
 }
 
 /// The automaton of some tables, where they are such as may be.
-pub fn tabled(alloc: Global, tables: Tables) -> Result<Auto, RowError> {
+pub fn tabled(alloc: Global, tables: Tables) -> Result<ReducedAuto, RowError> {
     if !are_tables(&tables) {
         return Err(RowError::Condition);
     }
@@ -77,5 +78,5 @@ pub fn tabled(alloc: Global, tables: Tables) -> Result<Auto, RowError> {
         next,
         accept,
     } = tables;
-    Ok(Auto::from_rows(alloc, tracks, first, next, accept)?)
+    made(alloc, Auto::from_rows(alloc, tracks, first, next, accept))
 }

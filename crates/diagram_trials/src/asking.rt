@@ -6,56 +6,44 @@ ghost use Rattle.std.specs.List.Sorted.{IsStrictlyIncreasing};
 use crate::bench::Bench;
 use crate::writing::{write_node, write_numbers, write_values};
 use letter_diagram::{Diagrams, Node, NumberingError, Shape};
-use std::alloc::Global;
-use trial_rows::{Fields, RowError, write_truth, written};
+use trial_rows::{Row, RowError};
 
-/// Writes what the step of this word answers, behind what earlier ones did.
-pub fn ask(
-    alloc: Global,
-    bench: &mut Bench,
-    word: &str,
-    fields: &mut Fields,
-    out: &mut String,
-) -> Result<(), RowError> {
-    if !out.is_empty() {
-        out.push(' ')?;
-    }
+/// Writes what the step of this word answers.
+pub fn ask(bench: &mut Bench, word: &str, row: &mut Row) -> Result<(), RowError> {
     match word {
-        "read" => read(alloc, bench, fields, out),
-        "copied" => copied(alloc, bench, fields, out),
-        "brought" => brought(alloc, bench, fields, out),
-        "shape" => shape(bench, fields, out),
-        "same" => same(bench, fields, out),
-        "leaves" => leaves(bench, fields, out),
-        "empty" => empty(bench, out),
-        "set" => set(alloc, bench, fields, out),
-        "elements" => elements(bench, fields, out),
-        "pair" => pair(bench, fields, out),
+        "empty" => empty(bench, row),
+        "set" => return set(bench, row),
+        "same" => return same(bench, row),
+        _ => {
+            let node = bench.node(row)?;
+            return ask_node(bench, node, word, row);
+        }
+    }
+    Ok(())
+}
+
+/// Writes what the step of this word answers, which asks about a node.
+fn ask_node(bench: &Bench, node: Node, word: &str, row: &mut Row) -> Result<(), RowError>
+    requires { node < length bench.now.diagrams }
+{
+    match word {
+        "read" => write_values(row, &bench.diagrams, node),
+        "copied" => copied(bench, node, row),
+        "brought" => brought(bench, node, row),
+        "shape" => shape(bench, node, row),
+        "leaves" => leaves(bench, node, row),
+        "elements" => elements(bench, node, row),
+        "pair" => pair(bench, node, row),
         _ => Err(RowError::Word),
     }
 }
 
-/// `read NODE LETTERS`: the values of the map at these letters.
-fn read(
-    alloc: Global,
-    bench: &Bench,
-    fields: &mut Fields,
-    out: &mut String,
-) -> Result<(), RowError> {
-    let node = bench.node(fields)?;
-    write_values(alloc, &bench.diagrams, node, fields, out)
-}
-
 /// `copied NODE LETTERS`: the values of the same node's map in a copy of the diagrams.
-fn copied(
-    alloc: Global,
-    bench: &Bench,
-    fields: &mut Fields,
-    out: &mut String,
-) -> Result<(), RowError> {
-    let node = bench.node(fields)?;
+fn copied(bench: &Bench, node: Node, row: &mut Row) -> Result<(), RowError>
+    requires { node < length bench.now.diagrams }
+{
     let copy = bench.diagrams.copy()?;
-    write_values(alloc, &copy, node, fields, out)
+    write_values(row, &copy, node)
 }
 
 /// The node, as it is brought into new diagrams.
@@ -71,59 +59,52 @@ fn brought_node(others: &mut Diagrams, diagrams: &Diagrams, node: Node) -> Resul
 }
 
 /// `brought NODE LETTERS`: the values of the map of the node that is brought into new diagrams.
-fn brought(
-    alloc: Global,
-    bench: &Bench,
-    fields: &mut Fields,
-    out: &mut String,
-) -> Result<(), RowError> {
-    let node = bench.node(fields)?;
-    let mut others = Diagrams::new(alloc);
+fn brought(bench: &Bench, node: Node, row: &mut Row) -> Result<(), RowError>
+    requires { node < length bench.now.diagrams }
+{
+    let mut others = Diagrams::new(row.alloc);
     let brought = brought_node(&mut others, &bench.diagrams, node)?;
-    write_values(alloc, &others, brought, fields, out)
-}
-
-/// Writes a test of a track, and the numbers of its nodes.
-fn write_test(
-    bench: &Bench,
-    track: u8,
-    low: Node,
-    high: Node,
-    out: &mut String,
-) -> Result<(), RowError> {
-    write!(out, "test {track} low ")?;
-    write_node(bench, low, out)?;
-    out.push_str(" high ")?;
-    write_node(bench, high, out)
+    write_values(row, &others, brought)
 }
 
 /// `shape NODE`: what the node looks at first.
-fn shape(bench: &Bench, fields: &mut Fields, out: &mut String) -> Result<(), RowError> {
-    let node = bench.node(fields)?;
+fn shape(bench: &Bench, node: Node, row: &mut Row) -> Result<(), RowError>
+    requires { node < length bench.now.diagrams }
+{
     match bench.diagrams.shape(node) {
-        Shape::Leaf(value) => written(write!(out, "leaf {value}")),
-        Shape::Test { track, low, high } => write_test(bench, track, low, high, out),
+        Shape::Leaf(value) => row.write_labelled("leaf ", value),
+        Shape::Test { track, low, high } => {
+            row.write_labelled("test ", track);
+            row.write(" low ");
+            write_node(row, bench, low);
+            row.write(" high ");
+            write_node(row, bench, high);
+        }
     }
+    Ok(())
 }
 
 /// `same NODE NODE`: whether both have one map.
-fn same(bench: &Bench, fields: &mut Fields, out: &mut String) -> Result<(), RowError> {
-    let (left, right) = bench.two_nodes(fields)?;
-    write_truth(out, bench.diagrams.same_map(left, right))
+fn same(bench: &Bench, row: &mut Row) -> Result<(), RowError> {
+    let (left, right) = bench.two_nodes(row)?;
+    row.write_truth(bench.diagrams.same_map(left, right));
+    Ok(())
 }
 
 /// `leaves NODE`: the values in the order of the letters.
-fn leaves(bench: &Bench, fields: &mut Fields, out: &mut String) -> Result<(), RowError> {
-    let node = bench.node(fields)?;
+fn leaves(bench: &Bench, node: Node, row: &mut Row) -> Result<(), RowError>
+    requires { node < length bench.now.diagrams }
+{
     let values = bench.diagrams.leaves(node)?;
-    write_numbers(out, values.as_slice())
+    write_numbers(row, values.as_slice());
+    Ok(())
 }
 
 /// `empty`: whether no node was made, and whether no set was numbered.
-fn empty(bench: &Bench, out: &mut String) -> Result<(), RowError> {
-    write_truth(out, bench.diagrams.is_empty())?;
-    out.push(' ')?;
-    write_truth(out, bench.sets.is_empty())
+fn empty(bench: &Bench, row: &mut Row) {
+    row.write_truth(bench.diagrams.is_empty());
+    row.write(" ");
+    row.write_truth(bench.sets.is_empty());
 }
 
 /// Whether numbers ascend, without repeats.
@@ -138,44 +119,44 @@ fn are_increasing(numbers: &[u32]) -> bool
     true
 }
 
-fn write_numbered(answer: Result<u32, NumberingError>, out: &mut String) -> Result<(), RowError> {
+fn write_numbered(row: &mut Row, answer: Result<u32, NumberingError>) -> Result<(), RowError> {
     match answer {
-        Ok(number) => written(write!(out, "{number}")),
-        Err(NumberingError::Full) => written(out.push_str("full")),
-        Err(NumberingError::Memory) => Err(RowError::Memory),
+        Ok(number) => row.write_number(number),
+        Err(NumberingError::Full) => row.write("full"),
+        Err(NumberingError::Memory) => return Err(RowError::Memory),
     }
+    Ok(())
 }
 
 /// `set LIST`: the number of a set.
-fn set(
-    alloc: Global,
-    bench: &mut Bench,
-    fields: &mut Fields,
-    out: &mut String,
-) -> Result<(), RowError> {
-    let set = fields.numbers::<u32>(alloc)?;
+fn set(bench: &mut Bench, row: &mut Row) -> Result<(), RowError> {
+    let set = row.numbers::<u32>()?;
     if !are_increasing(set.as_slice()) {
         return Err(RowError::Condition);
     }
-    write_numbered(bench.sets.number(set.as_slice()), out)
+    write_numbered(row, bench.sets.number(set.as_slice()))
 }
 
 /// `elements NODE LETTER`: the set of the number that the map has at the letter.
-fn elements(bench: &Bench, fields: &mut Fields, out: &mut String) -> Result<(), RowError> {
-    let node = bench.node(fields)?;
-    let number = bench.diagrams.read(node, fields.number::<u32>()?);
+fn elements(bench: &Bench, node: Node, row: &mut Row) -> Result<(), RowError>
+    requires { node < length bench.now.diagrams }
+{
+    let number = bench.diagrams.read(node, row.number::<u32>()?);
     match bench.sets.get(number) {
-        Some(set) => write_numbers(out, set),
-        None => Err(RowError::Name),
+        Some(set) => write_numbers(row, set),
+        None => return Err(RowError::Name),
     }
+    Ok(())
 }
 
 /// `pair NODE LETTER`: the pair of the number that the map has at the letter.
-fn pair(bench: &Bench, fields: &mut Fields, out: &mut String) -> Result<(), RowError> {
-    let node = bench.node(fields)?;
-    let number = bench.diagrams.read(node, fields.number::<u32>()?);
-    match bench.pairs.get(number) {
-        Some(pair) => written(write!(out, "{},{}", pair.0, pair.1)),
-        None => Err(RowError::Name),
-    }
+fn pair(bench: &Bench, node: Node, row: &mut Row) -> Result<(), RowError>
+    requires { node < length bench.now.diagrams }
+{
+    let number = bench.diagrams.read(node, row.number::<u32>()?);
+    let Some(pair) = bench.pairs.get(number) else {
+        return Err(RowError::Name);
+    };
+    row.write_numbers(&[pair.0, pair.1], ',');
+    Ok(())
 }

@@ -6,7 +6,7 @@ use diagram_product::Pairs;
 use letter_diagram::{Diagrams, Node, Sets};
 use limits::MOST_TRACKS;
 use std::alloc::Global;
-use trial_rows::{Fields, RowError};
+use trial_rows::{Row, RowError};
 
 /// The nodes that the steps of a row have made, in their order, and what is numbered.
 #[derive(Drop)]
@@ -28,10 +28,10 @@ impl Bench {
     }
 
     /// The node of the number that the next field has, counted from 0.
-    pub fn node(&self, fields: &mut Fields) -> Result<Node, RowError>
+    pub fn node(&self, row: &mut Row) -> Result<Node, RowError>
         ensures { IfOk result (λ node. node < length self.now.diagrams) }
     {
-        let place = fields.number::<u32>()? as usize;
+        let place = row.number::<u32>()? as usize;
         match self.nodes.get(place) {
             Some(node) if node.number() < self.diagrams.len() => Ok(*node),
             Some(_) => Err(RowError::Condition),
@@ -40,18 +40,18 @@ impl Bench {
     }
 
     /// The nodes of the numbers that the next two fields have.
-    pub fn two_nodes(&self, fields: &mut Fields) -> Result<(Node, Node), RowError>
+    pub fn two_nodes(&self, row: &mut Row) -> Result<(Node, Node), RowError>
         ensures { IfOk result (λ nodes. (nodes.0 < length self.now.diagrams) × (nodes.1 < length self.now.diagrams)) }
     {
-        Ok((self.node(fields)?, self.node(fields)?))
+        Ok((self.node(row)?, self.node(row)?))
     }
 }
 
 /// The track of the next field.
-pub fn track(fields: &mut Fields) -> Result<u8, RowError>
+pub fn track(row: &mut Row) -> Result<u8, RowError>
     ensures { IfOk result (λ track. track < MOST_TRACKS) }
 {
-    let track = fields.number::<u8>()?;
+    let track = row.number::<u8>()?;
     if track >= MOST_TRACKS {
         return Err(RowError::Condition);
     }

@@ -10,46 +10,40 @@ mod writing;
 use asking::ask;
 use bench::Bench;
 use making::make;
-use std::alloc::Global;
 use std::process::ExitCode;
-use trial_rows::{Fields, RowError, Rows, answer_script};
+use trial_rows::{Fields, Row, RowError, Rows, answer_script};
 
 /// No row names anything.
 #[derive(Drop)]
 struct Diagram {}
 
-/// Makes the node of a step, or writes what the step answers.
-fn do_step(alloc: Global, bench: &mut Bench, step: &str, out: &mut String) -> Result<(), RowError> {
-    let mut fields = Fields::new(step);
-    let word = fields.word()?;
-    match make(alloc, bench, word, &mut fields)? {
-        Some(node) => bench.nodes.push(node)?,
-        None => ask(alloc, bench, word, &mut fields, out)?,
+/// Makes the node of a step, or writes what the step answers, behind what earlier ones did.
+fn do_step(bench: &mut Bench, row: &mut Row) -> Result<(), RowError> {
+    let word = row.word()?;
+    if let Some(node) = make(bench, word, row)? {
+        return Ok(bench.nodes.push(node)?);
     }
-    fields.end()
+    row.part(' ');
+    ask(bench, word, row)
 }
 
 /// `diagram STEP/STEP ..`: what the steps answer that make no node.
-fn diagram_row(alloc: Global, fields: &mut Fields, out: &mut String) -> Result<(), RowError> {
-    let mut bench = Bench::new(alloc);
-    for step in fields.rest().split('/') {
-        do_step(alloc, &mut bench, step, out)?;
+fn diagram_row(row: &mut Row) -> Result<(), RowError> {
+    let mut bench = Bench::new(row.alloc);
+    for step in row.rest().split('/') {
+        row.fields = Fields::new(step);
+        do_step(&mut bench, row)?;
+        row.fields.end()?;
     }
     Ok(())
 }
 
 impl Rows for Diagram {
-    fn answer(
-        &mut self,
-        alloc: Global,
-        kind: &str,
-        fields: &mut Fields,
-        out: &mut String,
-    ) -> Result<(), RowError> {
-        if kind != "diagram" {
-            return Err(RowError::Kind);
+    fn answer(&mut self, kind: &str, row: &mut Row) -> Result<(), RowError> {
+        match kind {
+            "diagram" => diagram_row(row),
+            _ => Err(RowError::Kind),
         }
-        diagram_row(alloc, fields, out)
     }
 }
 

@@ -8,41 +8,35 @@ use diagram_product::apply2;
 use letter_diagram::laws::a_map_looks_from_its_top_track;
 use letter_diagram::{Diagrams, Node};
 use limits::MOST_TRACKS;
-use std::alloc::Global;
-use trial_rows::{Fields, RowError};
+use trial_rows::{Row, RowError};
 
 /// The most pairs or sets that a row may number.
 const MOST_NUMBERED: usize = 1000000;
 
 /// The node that the step of this word makes, if it is one that makes a node.
-pub fn make(
-    alloc: Global,
-    bench: &mut Bench,
-    word: &str,
-    fields: &mut Fields,
-) -> Result<Option<Node>, RowError> {
+pub fn make(bench: &mut Bench, word: &str, row: &mut Row) -> Result<Option<Node>, RowError> {
     match word {
-        "leaf" => leaf(bench, fields),
-        "node" => test_node(bench, fields),
-        "choose" => choice(bench, fields),
-        "apply2" => pairs_node(bench, fields),
-        "merge" => merged(bench, fields),
-        "map" => mapped(alloc, bench, fields),
-        "relabel" => relabelled(alloc, bench, fields),
+        "leaf" => leaf(bench, row),
+        "node" => test_node(bench, row),
+        "choose" => choice(bench, row),
+        "apply2" => pairs_node(bench, row),
+        "merge" => merged(bench, row),
+        "map" => mapped(bench, row),
+        "relabel" => relabelled(bench, row),
         _ => Ok(None),
     }
 }
 
 /// `leaf VALUE`: the constant map.
-fn leaf(bench: &mut Bench, fields: &mut Fields) -> Result<Option<Node>, RowError> {
-    let value = fields.number::<u32>()?;
+fn leaf(bench: &mut Bench, row: &mut Row) -> Result<Option<Node>, RowError> {
+    let value = row.number::<u32>()?;
     Ok(Some(bench.diagrams.leaf(value)?))
 }
 
 /// `node TRACK LOW HIGH`: both maps look only at later tracks.
-fn test_node(bench: &mut Bench, fields: &mut Fields) -> Result<Option<Node>, RowError> {
-    let track = track(fields)?;
-    let (low, high) = bench.two_nodes(fields)?;
+fn test_node(bench: &mut Bench, row: &mut Row) -> Result<Option<Node>, RowError> {
+    let track = track(row)?;
+    let (low, high) = bench.two_nodes(row)?;
     if bench.diagrams.top(low) <= track || bench.diagrams.top(high) <= track {
         return Err(RowError::Condition);
     }
@@ -50,15 +44,15 @@ fn test_node(bench: &mut Bench, fields: &mut Fields) -> Result<Option<Node>, Row
 }
 
 /// `choose TRACK LOW HIGH`: the maps may look at any tracks.
-fn choice(bench: &mut Bench, fields: &mut Fields) -> Result<Option<Node>, RowError> {
-    let track = track(fields)?;
-    let (low, high) = bench.two_nodes(fields)?;
+fn choice(bench: &mut Bench, row: &mut Row) -> Result<Option<Node>, RowError> {
+    let track = track(row)?;
+    let (low, high) = bench.two_nodes(row)?;
     Ok(Some(bench.diagrams.choose(track, low, high)?))
 }
 
 /// `apply2 NODE NODE`: the map of the pairs' numbers.
-fn pairs_node(bench: &mut Bench, fields: &mut Fields) -> Result<Option<Node>, RowError> {
-    let (left, right) = bench.two_nodes(fields)?;
+fn pairs_node(bench: &mut Bench, row: &mut Row) -> Result<Option<Node>, RowError> {
+    let (left, right) = bench.two_nodes(row)?;
     if bench.pairs.len() > MOST_NUMBERED {
         return Err(RowError::Condition);
     }
@@ -83,9 +77,9 @@ fn is_below(diagrams: &Diagrams, node: Node, bound: usize) -> Result<bool, RowEr
 }
 
 /// `merge TRACK NODE`: the map of the numbers of unions.
-fn merged(bench: &mut Bench, fields: &mut Fields) -> Result<Option<Node>, RowError> {
-    let track = track(fields)?;
-    let node = bench.node(fields)?;
+fn merged(bench: &mut Bench, row: &mut Row) -> Result<Option<Node>, RowError> {
+    let track = track(row)?;
+    let node = bench.node(row)?;
     let count = bench.sets.len();
     if count > MOST_NUMBERED || !is_below(&bench.diagrams, node, count)? {
         return Err(RowError::Condition);
@@ -94,9 +88,9 @@ fn merged(bench: &mut Bench, fields: &mut Fields) -> Result<Option<Node>, RowErr
 }
 
 /// `map TABLE NODE`: the map of the table's entries.
-fn mapped(alloc: Global, bench: &mut Bench, fields: &mut Fields) -> Result<Option<Node>, RowError> {
-    let table = fields.numbers::<u32>(alloc)?;
-    let node = bench.node(fields)?;
+fn mapped(bench: &mut Bench, row: &mut Row) -> Result<Option<Node>, RowError> {
+    let table = row.numbers::<u32>()?;
+    let node = bench.node(row)?;
     if !is_below(&bench.diagrams, node, table.len())? {
         return Err(RowError::Condition);
     }
@@ -115,8 +109,8 @@ fn relabel(diagrams: &mut Diagrams, node: Node, tracks: &[u8]) -> Result<Node, R
 }
 
 /// The tracks of the next field. A track past the list's end is itself.
-fn tracks(alloc: Global, fields: &mut Fields) -> Result<Vec<u8>, RowError> {
-    let mut tracks = fields.numbers::<u8>(alloc)?;
+fn tracks(row: &mut Row) -> Result<Vec<u8>, RowError> {
+    let mut tracks = row.numbers::<u8>()?;
     for track in 0..MOST_TRACKS {
         if tracks.len() <= track as usize {
             tracks.push(track)?;
@@ -134,13 +128,9 @@ fn are_tracks(tracks: &[u8]) -> bool
 }
 
 /// `relabel TRACKS NODE`: the map whose tracks take their bits from these. A track past the list's end keeps its own.
-fn relabelled(
-    alloc: Global,
-    bench: &mut Bench,
-    fields: &mut Fields,
-) -> Result<Option<Node>, RowError> {
-    let tracks = tracks(alloc, fields)?;
-    let node = bench.node(fields)?;
+fn relabelled(bench: &mut Bench, row: &mut Row) -> Result<Option<Node>, RowError> {
+    let tracks = tracks(row)?;
+    let node = bench.node(row)?;
     if !are_tracks(tracks.as_slice()) {
         return Err(RowError::Condition);
     }

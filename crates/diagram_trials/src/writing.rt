@@ -4,48 +4,34 @@ ghost use Rattle.std.specs.Prelude.{◌<◌, length};
 
 use crate::bench::Bench;
 use letter_diagram::{Diagrams, Node};
-use std::alloc::Global;
-use trial_rows::{Fields, RowError, separate, written};
+use trial_rows::{Row, RowError};
 
 /// Writes numbers, parted by commas, or `-` where there are none.
-pub fn write_numbers(out: &mut String, numbers: &[u32]) -> Result<(), RowError> {
+pub fn write_numbers(row: &mut Row, numbers: &[u32]) {
     if numbers.is_empty() {
-        out.push('-')?;
+        row.write("-");
     }
-    for (place, number) in numbers.iter().enumerate() {
-        separate(out, place, ',')?;
-        write!(out, "{number}")?;
-    }
-    Ok(())
+    row.write_numbers(numbers, ',');
 }
 
 /// Writes the values of a node's map at the letters of the next field.
-pub fn write_values(
-    alloc: Global,
-    diagrams: &Diagrams,
-    node: Node,
-    fields: &mut Fields,
-    out: &mut String,
-) -> Result<(), RowError>
+pub fn write_values(row: &mut Row, diagrams: &Diagrams, node: Node) -> Result<(), RowError>
     requires { node < length diagrams.now }
 {
-    let letters = fields.numbers::<u32>(alloc)?;
+    let letters = row.numbers::<u32>()?;
     for (place, letter) in letters.as_slice().iter().enumerate() {
-        separate(out, place, ',')?;
-        write!(out, "{}", diagrams.read(node, *letter))?;
+        row.separate(place, ',');
+        row.write_number(diagrams.read(node, *letter));
     }
     Ok(())
 }
 
 /// Writes the number of a node, or `?` where no step has made it.
-pub fn write_node(bench: &Bench, node: Node, out: &mut String) -> Result<(), RowError> {
-    match bench
-        .nodes
-        .as_slice()
-        .iter()
-        .position(|known| *known == node)
-    {
-        Some(place) => written(write!(out, "{place}")),
-        None => written(out.push('?')),
+pub fn write_node(row: &mut Row, bench: &Bench, node: Node) {
+    for (place, known) in bench.nodes.as_slice().iter().enumerate() {
+        if *known == node {
+            return row.write_number(place);
+        }
     }
+    row.write("?");
 }

@@ -1,8 +1,8 @@
 //! What comes of a file, as words.
 
 use chess_game::{Position, Side};
-use strategy_file::{ByteWhy, Claim, FileError};
-use trial_rows::{RowError, written};
+use strategy_file::{ByteWhy, Claim, FileError, read_file};
+use trial_rows::{Row, RowError};
 
 fn why_word(why: ByteWhy) -> &'static str {
     match why {
@@ -42,34 +42,38 @@ fn winner_word(winner: Side) -> &'static str {
 
 /// The number of moves, the side to move, the winner where he is Black, the number of men, and for each set its ply, its mask and the number of its
 /// states.
-fn write_claim(out: &mut String, claim: &Claim) -> Result<(), RowError> {
-    let turn = turn_letter(&claim.position);
-    let winner = winner_word(claim.winner);
-    write!(
-        out,
-        "claim {} {turn}{winner} {}",
-        claim.moves,
-        claim.position.count()
-    )?;
+fn write_claim(row: &mut Row, claim: &Claim) {
+    row.write_labelled("claim ", claim.moves);
+    row.write_labelled(" ", turn_letter(&claim.position));
+    row.write(winner_word(claim.winner));
+    row.write_labelled(" ", claim.position.count());
     for set in claim.sets.as_slice() {
-        write!(out, " {}/{}/{}", set.ply, set.mask, set.set.states())?;
+        row.write_labelled(" ", set.ply);
+        row.write_labelled("/", set.mask);
+        row.write_labelled("/", set.set.states());
+    }
+}
+
+fn write_error(row: &mut Row, error: FileError) -> Result<(), RowError> {
+    match error {
+        FileError::Cut { at } => row.write_labelled("cut at ", at),
+        FileError::Byte { at, why } => {
+            row.write_labelled("byte ", at);
+            row.write_labelled(" ", why_word(why));
+        }
+        FileError::Extra { at } => row.write_labelled("extra at ", at),
+        FileError::Memory => return Err(RowError::Memory),
     }
     Ok(())
 }
 
-fn write_error(out: &mut String, error: FileError) -> Result<(), RowError> {
-    match error {
-        FileError::Cut { at } => written(write!(out, "cut at {at}")),
-        FileError::Byte { at, why } => written(write!(out, "byte {at} {}", why_word(why))),
-        FileError::Extra { at } => written(write!(out, "extra at {at}")),
-        FileError::Memory => Err(RowError::Memory),
-    }
-}
-
-/// Writes what came of a file.
-pub fn write_outcome(out: &mut String, outcome: &Result<Claim, FileError>) -> Result<(), RowError> {
-    match outcome {
-        Ok(claim) => write_claim(out, claim),
-        Err(error) => write_error(out, *error),
+/// Writes what comes of bytes that are read.
+pub fn write_read(row: &mut Row, bytes: &[u8]) -> Result<(), RowError> {
+    match read_file(row.alloc, bytes) {
+        Ok(claim) => {
+            write_claim(row, &claim);
+            Ok(())
+        }
+        Err(error) => write_error(row, error),
     }
 }

@@ -5,42 +5,47 @@ ghost use Rattle.winning_sets.specs.declared.origin.Origin.TheVariants.{Plan};
 ghost use Rattle.strategy_file.specs.Claims.{claim_of};
 ghost use Rattle.strategy_file.specs.Fitting.{HasFileOf};
 
-use crate::outcome::write_outcome;
+use crate::outcome::write_read;
 use crate::spelling::spelled;
 use auto_core::Auto;
 use file_writing::{WriteFileError, write_claim, write_file, write_file_1};
 use limits::Budget;
 use std::alloc::Global;
 use strategy_file::{Claim, FileError, Version, read_file};
-use trial_rows::{Fields, Named, RowError, write_truth, written};
+use trial_rows::{Named, Row, RowError};
 use winning_sets::{SolveError, Solved, solve};
 
 /// `file NAME WORDS`: names a file.
-pub fn file_row(
-    alloc: Global,
-    files: &mut Named<Vec<u8>>,
-    fields: &mut Fields,
-) -> Result<(), RowError> {
-    let name = fields.word()?;
-    let bytes = spelled(alloc, fields.rest())?;
-    files.put(alloc, name, bytes)
+pub fn file_row(files: &mut Named<Vec<u8>>, row: &mut Row) -> Result<(), RowError> {
+    let name = row.word()?;
+    let bytes = spelled(row.alloc, row.rest())?;
+    files.put(row.alloc, name, bytes)
 }
 
-/// Writes what comes of bytes that are read.
-fn write_read(alloc: Global, bytes: &[u8], out: &mut String) -> Result<(), RowError> {
-    write_outcome(out, &read_file(alloc, bytes))
+/// `KIND NAME ..`: writes what a row of this kind asks the file of a name.
+pub fn of_file(files: &Named<Vec<u8>>, kind: &str, row: &mut Row) -> Result<(), RowError> {
+    let bytes = files.next(row)?.as_slice();
+    match kind {
+        "read" => write_read(row, bytes),
+        "change" => change_row(bytes, row),
+        "more" => more_row(bytes, row),
+        "cuts" => cuts_row(bytes, row),
+        "accepts" => accepts_row(bytes, row),
+        _ => {
+            let other = files.next(row)?.as_slice();
+            of_two_files(bytes, other, kind, row)
+        }
+    }
 }
 
-/// `read NAME`: what comes of a file.
-pub fn read_row(
-    alloc: Global,
-    files: &Named<Vec<u8>>,
-    fields: &mut Fields,
-    out: &mut String,
-) -> Result<(), RowError> {
-    let bytes = files.get(fields.word()?)?.as_slice();
-    fields.end()?;
-    write_read(alloc, bytes, out)
+/// `KIND NAME OTHER`: writes how many bytes there are of what a row of this kind makes of a file, and whether they are those of the other.
+fn of_two_files(bytes: &[u8], other: &[u8], kind: &str, row: &mut Row) -> Result<(), RowError> {
+    match kind {
+        "write" => write_row(bytes, other, row),
+        "write_1" => write_1_row(bytes, other, row),
+        "migrate" => migrate_row(bytes, other, row),
+        _ => Err(RowError::Kind),
+    }
 }
 
 /// The bytes with others from a place on.
@@ -55,30 +60,19 @@ fn changed(alloc: Global, bytes: &[u8], at: usize, piece: &[u8]) -> Result<Vec<u
 }
 
 /// `change NAME AT WORDS`: what comes of a file whose bytes from a place on are others.
-pub fn change_row(
-    alloc: Global,
-    files: &Named<Vec<u8>>,
-    fields: &mut Fields,
-    out: &mut String,
-) -> Result<(), RowError> {
-    let bytes = files.get(fields.word()?)?.as_slice();
-    let at = fields.number::<usize>()?;
-    let piece = spelled(alloc, fields.rest())?;
-    let changed = changed(alloc, bytes, at, piece.as_slice())?;
-    write_read(alloc, changed.as_slice(), out)
+fn change_row(bytes: &[u8], row: &mut Row) -> Result<(), RowError> {
+    let at = row.number::<usize>()?;
+    let piece = spelled(row.alloc, row.rest())?;
+    let changed = changed(row.alloc, bytes, at, piece.as_slice())?;
+    write_read(row, changed.as_slice())
 }
 
 /// `more NAME WORDS`: what comes of a file with more bytes behind it.
-pub fn more_row(
-    alloc: Global,
-    files: &Named<Vec<u8>>,
-    fields: &mut Fields,
-    out: &mut String,
-) -> Result<(), RowError> {
-    let mut bytes = Vec::from_slice(alloc, files.get(fields.word()?)?.as_slice())?;
-    let piece = spelled(alloc, fields.rest())?;
-    bytes.extend_from_slice(piece.as_slice())?;
-    write_read(alloc, bytes.as_slice(), out)
+fn more_row(bytes: &[u8], row: &mut Row) -> Result<(), RowError> {
+    let piece = spelled(row.alloc, row.rest())?;
+    let mut longer = Vec::from_slice(row.alloc, bytes)?;
+    longer.extend_from_slice(piece.as_slice())?;
+    write_read(row, longer.as_slice())
 }
 
 /// Whether what comes of the first bytes of a file is that it is cut where they end.
@@ -94,23 +88,16 @@ fn is_cut_at(alloc: Global, bytes: &[u8], length: usize) -> Result<bool, RowErro
 }
 
 /// `cuts NAME FROM TO`: how many of the cuts to a length from FROM on and below TO are told as that cut.
-pub fn cuts_row(
-    alloc: Global,
-    files: &Named<Vec<u8>>,
-    fields: &mut Fields,
-    out: &mut String,
-) -> Result<(), RowError> {
-    let bytes = files.get(fields.word()?)?.as_slice();
-    let first = fields.number::<u32>()?;
-    let last = fields.number::<u32>()?;
-    fields.end()?;
+fn cuts_row(bytes: &[u8], row: &mut Row) -> Result<(), RowError> {
+    let (first, last) = row.two_numbers::<u32, u32>()?;
     let mut told = 0u32;
     for length in first..last {
-        if is_cut_at(alloc, bytes, length as usize)? {
+        if is_cut_at(row.alloc, bytes, length as usize)? {
             told = told.saturating_add(1);
         }
     }
-    written(write!(out, "{told}"))
+    row.write_number(told);
+    Ok(())
 }
 
 /// The claim of a file that is one.
@@ -124,50 +111,32 @@ fn claim_in(alloc: Global, bytes: &[u8]) -> Result<Claim, RowError>
 }
 
 /// The set of a ply and a mask.
-fn set_of(alloc: Global, claim: Claim, ply: u8, mask: u8) -> Result<Auto, RowError> {
-    for claimed in claim.sets {
+fn set_of(alloc: Global, claim: &Claim, ply: u8, mask: u8) -> Result<Auto, RowError> {
+    for claimed in claim.sets.as_slice() {
         if claimed.ply == ply && claimed.mask == mask {
-            return Ok(claimed.set.into_auto(alloc)?);
+            return Ok(claimed.set.to_auto(alloc)?);
         }
     }
     Err(RowError::Number)
 }
 
-/// Whether the set accepts the word of these letters.
-fn accepts(set: &Auto, word: &[u32]) -> Result<bool, RowError> {
+/// Writes whether the set accepts the word of these letters.
+fn write_accepts(row: &mut Row, set: &Auto, word: &[u32]) -> Result<(), RowError> {
     let letters = 1u32 << set.tracks().len();
     if word.is_empty() || word.iter().any(|letter| *letter >= letters) {
         return Err(RowError::Condition);
     }
-    Ok(set.accepts(word))
-}
-
-/// Whether a set of the claim of a file accepts a word.
-fn is_accepted(
-    alloc: Global,
-    bytes: &[u8],
-    ply: u8,
-    mask: u8,
-    word: &[u32],
-) -> Result<bool, RowError> {
-    let claim = claim_in(alloc, bytes)?;
-    let set = set_of(alloc, claim, ply, mask)?;
-    accepts(&set, word)
+    row.write_truth(set.accepts(word));
+    Ok(())
 }
 
 /// `accepts NAME PLY MASK LETTERS`: whether a set of the claim that is read accepts a word.
-pub fn accepts_row(
-    alloc: Global,
-    files: &Named<Vec<u8>>,
-    fields: &mut Fields,
-    out: &mut String,
-) -> Result<(), RowError> {
-    let bytes = files.get(fields.word()?)?.as_slice();
-    let ply = fields.number::<u8>()?;
-    let mask = fields.number::<u8>()?;
-    let word = fields.numbers::<u32>(alloc)?;
-    fields.end()?;
-    write_truth(out, is_accepted(alloc, bytes, ply, mask, word.as_slice())?)
+fn accepts_row(bytes: &[u8], row: &mut Row) -> Result<(), RowError> {
+    let (ply, mask) = row.two_numbers::<u8, u8>()?;
+    let word = row.numbers::<u32>()?;
+    let claim = claim_in(row.alloc, bytes)?;
+    let set = set_of(row.alloc, &claim, ply, mask)?;
+    write_accepts(row, &set, word.as_slice())
 }
 
 /// What is solved for the position, the winner and the number of moves of a claim.
@@ -196,74 +165,46 @@ fn solved_in(alloc: Global, bytes: &[u8]) -> Result<Solved, RowError>
     solved_of(alloc, &claim)
 }
 
-/// The bytes of the files that the last two fields name.
-fn two_files<'f>(
-    files: &'f Named<Vec<u8>>,
-    fields: &mut Fields,
-) -> Result<(&'f [u8], &'f [u8]), RowError> {
-    let bytes = files.get(fields.word()?)?.as_slice();
-    let other = files.get(fields.word()?)?.as_slice();
-    fields.end()?;
-    Ok((bytes, other))
-}
-
 /// Writes how many bytes there are, and whether they are those of the other file.
-fn write_bytes(out: &mut String, bytes: &[u8], other: &[u8]) -> Result<(), RowError> {
-    let word = if bytes == other { "same" } else { "other" };
-    written(write!(out, "{} {word}", bytes.len()))
+fn write_sameness(row: &mut Row, bytes: &[u8], other: &[u8]) {
+    row.write_number(bytes.len());
+    row.write(if bytes == other { " same" } else { " other" });
 }
 
 /// Writes what comes of writing a file, and whether that is the other.
 fn write_result(
-    out: &mut String,
+    row: &mut Row,
     file: Result<Vec<u8>, WriteFileError>,
     other: &[u8],
 ) -> Result<(), RowError> {
     match file {
-        Ok(bytes) => write_bytes(out, bytes.as_slice(), other),
-        Err(WriteFileError::TooLarge { length }) => written(write!(out, "too large {length}")),
-        Err(WriteFileError::Memory) => Err(RowError::Memory),
+        Ok(bytes) => write_sameness(row, bytes.as_slice(), other),
+        Err(WriteFileError::TooLarge { length }) => row.write_labelled("too large ", length),
+        Err(WriteFileError::Memory) => return Err(RowError::Memory),
     }
+    Ok(())
 }
 
 /// `write NAME OTHER`: how many bytes version 2 has for the position, the winner and the number of moves of a file, solved anew, and whether they
 /// are those of the other.
-pub fn write_row(
-    alloc: Global,
-    files: &Named<Vec<u8>>,
-    fields: &mut Fields,
-    out: &mut String,
-) -> Result<(), RowError> {
-    let (bytes, other) = two_files(files, fields)?;
-    let solved = solved_in(alloc, bytes)?;
-    write_result(out, write_file(alloc, &solved), other)
+fn write_row(bytes: &[u8], other: &[u8], row: &mut Row) -> Result<(), RowError> {
+    let solved = solved_in(row.alloc, bytes)?;
+    write_result(row, write_file(row.alloc, &solved), other)
 }
 
 /// `write_1 NAME OTHER`: the same of version 1.
-pub fn write_1_row(
-    alloc: Global,
-    files: &Named<Vec<u8>>,
-    fields: &mut Fields,
-    out: &mut String,
-) -> Result<(), RowError> {
-    let (bytes, other) = two_files(files, fields)?;
-    let solved = solved_in(alloc, bytes)?;
+fn write_1_row(bytes: &[u8], other: &[u8], row: &mut Row) -> Result<(), RowError> {
+    let solved = solved_in(row.alloc, bytes)?;
     if !Version::Dense.fits(solved.winner(), &solved.position()) {
         return Err(RowError::Condition);
     }
-    write_result(out, write_file_1(alloc, &solved), other)
+    write_result(row, write_file_1(row.alloc, &solved), other)
 }
 
 /// `migrate NAME OTHER`: how many bytes version 2 has for the claim of a file, and whether they are those of the other.
-pub fn migrate_row(
-    alloc: Global,
-    files: &Named<Vec<u8>>,
-    fields: &mut Fields,
-    out: &mut String,
-) -> Result<(), RowError> {
-    let (bytes, other) = two_files(files, fields)?;
-    let claim = claim_in(alloc, bytes)?;
-    write_result(out, write_claim(alloc, &claim), other)
+fn migrate_row(bytes: &[u8], other: &[u8], row: &mut Row) -> Result<(), RowError> {
+    let claim = claim_in(row.alloc, bytes)?;
+    write_result(row, write_claim(row.alloc, &claim), other)
 }
 
 /// Adds so many states, each a flag 0 and a row of entries that are drawn.
@@ -287,16 +228,10 @@ fn push_noise(bytes: &mut Vec<u8>, states: u32, letters: u32, seed: u64) -> Resu
 
 /// `noise NAME STATES LETTERS SEED WORDS`: names the file of the words and behind them so many states, each a flag 0 and a row of entries that
 /// are drawn.
-pub fn noise_row(
-    alloc: Global,
-    files: &mut Named<Vec<u8>>,
-    fields: &mut Fields,
-) -> Result<(), RowError> {
-    let name = fields.word()?;
-    let states = fields.number::<u32>()?;
-    let letters = fields.number::<u32>()?;
-    let seed = fields.number::<u64>()?;
-    let mut bytes = spelled(alloc, fields.rest())?;
+pub fn noise_row(files: &mut Named<Vec<u8>>, row: &mut Row) -> Result<(), RowError> {
+    let name = row.word()?;
+    let (states, letters, seed) = row.three_numbers::<u32, u32, u64>()?;
+    let mut bytes = spelled(row.alloc, row.rest())?;
     push_noise(&mut bytes, states, letters, seed)?;
-    files.put(alloc, name, bytes)
+    files.put(row.alloc, name, bytes)
 }

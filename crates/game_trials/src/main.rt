@@ -10,15 +10,9 @@ mod solving;
 
 use chess_game::Position;
 use ports::{put_row, shelf_row, sink_row};
-use positions::{
-    attacked_row, king_row, mask_row, move_row, options_row, position_row, ray_row, reply_row,
-    soundness_row, way_row,
-};
-use sessions::game_row;
-use solving::solver_row;
-use std::alloc::Global;
+use positions::{of_position, position_row, ray_row, reply_row};
 use std::process::ExitCode;
-use trial_rows::{Fields, Named, RowError, Rows, answer_script};
+use trial_rows::{Named, Row, RowError, Rows, answer_script};
 
 /// The positions that rows have named.
 #[derive(Drop)]
@@ -26,57 +20,17 @@ struct Games {
     positions: Named<Position>,
 }
 
-/// Writes the answer of a row that asks a position.
-fn of_positions(
-    alloc: Global,
-    positions: &Named<Position>,
-    kind: &str,
-    fields: &mut Fields,
-    out: &mut String,
-) -> Result<(), RowError> {
-    match kind {
-        "soundness" => soundness_row(positions, fields, out),
-        "move" => move_row(positions, fields, out),
-        "king" => king_row(positions, fields, out),
-        "attacked" => attacked_row(positions, fields, out),
-        "way" => way_row(alloc, positions, fields, out),
-        "options" => options_row(alloc, positions, fields, out),
-        "masks" => mask_row(alloc, positions, fields, out),
-        "solver" => solver_row(alloc, positions, fields, out),
-        "game" => game_row(alloc, positions, fields, out),
-        _ => others(alloc, kind, fields, out),
-    }
-}
-
-/// Writes the answer of a row that asks for a ray, reads a reply or calls a port.
-fn others(
-    alloc: Global,
-    kind: &str,
-    fields: &mut Fields,
-    out: &mut String,
-) -> Result<(), RowError> {
-    match kind {
-        "ray" => ray_row(fields, out),
-        "reply" => reply_row(fields, out),
-        "sink" => sink_row(alloc, fields, out),
-        "put" => put_row(alloc, fields, out),
-        "shelf" => shelf_row(alloc, fields, out),
-        _ => Err(RowError::Kind),
-    }
-}
-
 impl Rows for Games {
-    fn answer(
-        &mut self,
-        alloc: Global,
-        kind: &str,
-        fields: &mut Fields,
-        out: &mut String,
-    ) -> Result<(), RowError> {
-        if kind == "position" {
-            return position_row(alloc, &mut self.positions, fields);
+    fn answer(&mut self, kind: &str, row: &mut Row) -> Result<(), RowError> {
+        match kind {
+            "position" => position_row(&mut self.positions, row),
+            "ray" => ray_row(row),
+            "reply" => reply_row(row),
+            "sink" => sink_row(row),
+            "put" => put_row(row),
+            "shelf" => shelf_row(row),
+            _ => of_position(&self.positions, kind, row),
         }
-        of_positions(alloc, &self.positions, kind, fields, out)
     }
 }
 

@@ -1,42 +1,22 @@
 //! Rows that ask positions. A position is named first: `position NAME turn W/W K 0 -2/B K 0 0`, the lines of its text without the
 //! first and the last, parted by `/`.
 
-ghost use Rattle.std.specs.Prelude.{◌≡◌, IfOk};
+ghost use Rattle.std.specs.Prelude.{◌≡◌};
 ghost use Rattle.game_rules.specs.Game.{Sound};
 
+use crate::sessions::game_row;
+use crate::solving::solver_row;
 use chess_game::{
     Frame, Illegal, Kind, Move, Place, Position, Side, Unsound, attacked, free_way, in_check,
     mated, ray, soundness, try_move,
 };
 use chess_text::{MoveText, MoveWhy, PositionReader, Typed, read_move};
 use rule_formula::{Opt, masks, options};
-use std::alloc::Global;
-use trial_rows::{
-    Fields, Named, RowError, numbers, separate, write_bytes, write_truth, written, yes_or_no,
-};
-
-/// The position of the name that the next field is.
-pub fn position_named(
-    positions: &Named<Position>,
-    fields: &mut Fields,
-) -> Result<Position, RowError> {
-    Ok(*positions.get(fields.word()?)?)
-}
-
-/// The same, where it is sound.
-pub fn sound_named(positions: &Named<Position>, fields: &mut Fields) -> Result<Position, RowError>
-    ensures { IfOk result Sound }
-{
-    let position = position_named(positions, fields)?;
-    if soundness(&position).is_err() {
-        return Err(RowError::Condition);
-    }
-    Ok(position)
-}
+use trial_rows::{Named, Row, RowError, numbers};
 
 /// The side of the next field.
-pub fn side(fields: &mut Fields) -> Result<Side, RowError> {
-    match fields.word()? {
+pub fn side(row: &mut Row) -> Result<Side, RowError> {
+    match row.word()? {
         "W" => Ok(Side::White),
         "B" => Ok(Side::Black),
         _ => Err(RowError::Word),
@@ -50,9 +30,9 @@ pub fn side_letter(side: Side) -> char {
     }
 }
 
-/// The kind of man of the next field.
-fn kind(fields: &mut Fields) -> Result<Kind, RowError> {
-    match fields.word()? {
+/// The kind of man of a letter.
+fn kind_of(letter: &str) -> Result<Kind, RowError> {
+    match letter {
         "K" => Ok(Kind::King),
         "Q" => Ok(Kind::Queen),
         "R" => Ok(Kind::Rook),
@@ -84,38 +64,69 @@ fn position_of(lines: &str) -> Result<Position, RowError> {
 }
 
 /// `position NAME LINES`: names a position.
-pub fn position_row(
-    alloc: Global,
-    positions: &mut Named<Position>,
-    fields: &mut Fields,
-) -> Result<(), RowError> {
-    let name = fields.word()?;
-    let position = position_of(fields.rest())?;
-    positions.put(alloc, name, position)
+pub fn position_row(positions: &mut Named<Position>, row: &mut Row) -> Result<(), RowError> {
+    let name = row.word()?;
+    let position = position_of(row.rest())?;
+    positions.put(row.alloc, name, position)
 }
 
-/// `soundness NAME`: whether the position is sound, or the first reason why not.
-pub fn soundness_row(
-    positions: &Named<Position>,
-    fields: &mut Fields,
-    out: &mut String,
-) -> Result<(), RowError> {
-    let position = position_named(positions, fields)?;
-    fields.end()?;
-    match soundness(&position) {
-        Ok(()) => written(out.push_str("sound")),
-        Err(why) => write_unsound(out, why),
+/// `KIND NAME ..`: writes what a row of this kind asks the position of a name.
+pub fn of_position(positions: &Named<Position>, kind: &str, row: &mut Row) -> Result<(), RowError> {
+    let position = positions.next(row)?;
+    match kind {
+        "soundness" => {
+            soundness_row(position, row);
+            Ok(())
+        }
+        "attacked" => attacked_row(position, row),
+        "way" => way_row(position, row),
+        "options" => options_row(position, row),
+        "masks" => mask_row(position, row),
+        _ => of_sound_position(positions, position, kind, row),
     }
 }
 
-fn write_unsound(out: &mut String, why: Unsound) -> Result<(), RowError> {
-    written(match why {
-        Unsound::NoKing(side) => write!(out, "no king {}", side_letter(side)),
-        Unsound::ManyKings(side) => write!(out, "many kings {}", side_letter(side)),
-        Unsound::KingGone(side) => write!(out, "king gone {}", side_letter(side)),
-        Unsound::SameSquare(a, b) => write!(out, "same square {a} {b}"),
-        Unsound::OtherInCheck => out.push_str("other side in check"),
-    })
+/// Writes what a row of this kind asks a position that is sound.
+fn of_sound_position(
+    positions: &Named<Position>,
+    position: &Position,
+    kind: &str,
+    row: &mut Row,
+) -> Result<(), RowError> {
+    if soundness(position).is_err() {
+        return Err(RowError::Condition);
+    }
+    match kind {
+        "move" => move_row(position, row),
+        "king" => {
+            king_row(position, row);
+            Ok(())
+        }
+        "solver" => solver_row(positions, position, row),
+        "game" => game_row(position, row),
+        _ => Err(RowError::Kind),
+    }
+}
+
+/// `soundness NAME`: whether the position is sound, or the first reason why not.
+fn soundness_row(position: &Position, row: &mut Row) {
+    match soundness(position) {
+        Ok(()) => row.write("sound"),
+        Err(why) => write_unsound(row, why),
+    }
+}
+
+fn write_unsound(row: &mut Row, why: Unsound) {
+    match why {
+        Unsound::NoKing(side) => row.write_labelled("no king ", side_letter(side)),
+        Unsound::ManyKings(side) => row.write_labelled("many kings ", side_letter(side)),
+        Unsound::KingGone(side) => row.write_labelled("king gone ", side_letter(side)),
+        Unsound::SameSquare(a, b) => {
+            row.write("same square ");
+            row.write_numbers(&[a, b], ' ');
+        }
+        Unsound::OtherInCheck => row.write("other side in check"),
+    }
 }
 
 pub fn illegal_words(why: Illegal) -> &'static str {
@@ -129,90 +140,81 @@ pub fn illegal_words(why: Illegal) -> &'static str {
     }
 }
 
-/// The square of the next two fields.
-fn square(fields: &mut Fields) -> Result<(i64, i64), RowError> {
-    Ok((fields.number()?, fields.number()?))
-}
-
 /// The move of the next three fields: the man's number, and the square.
-pub fn move_of(fields: &mut Fields) -> Result<Move, RowError> {
-    let man = fields.number()?;
-    let (x, y) = square(fields)?;
+pub fn move_of(row: &mut Row) -> Result<Move, RowError> {
+    let (man, x, y) = row.three_numbers()?;
     Ok(Move { man, x, y })
 }
 
 /// `move NAME M X Y`: the reason why the move is refused, or the live men behind it, the side to move, and whether it is mated.
-pub fn move_row(
-    positions: &Named<Position>,
-    fields: &mut Fields,
-    out: &mut String,
-) -> Result<(), RowError> {
-    let position = sound_named(positions, fields)?;
-    let mv = move_of(fields)?;
-    fields.end()?;
-    match try_move(&position, mv) {
-        Err(why) => written(out.push_str(illegal_words(why))),
-        Ok(made) => write_made(out, &made),
+fn move_row(position: &Position, row: &mut Row) -> Result<(), RowError>
+    requires { Sound position.now }
+{
+    let mv = move_of(row)?;
+    match try_move(position, mv) {
+        Err(why) => {
+            row.write(illegal_words(why));
+            Ok(())
+        }
+        Ok(made) => write_made(row, &made),
     }
 }
 
-fn write_made(out: &mut String, made: &Position) -> Result<(), RowError> {
+fn write_made(row: &mut Row, made: &Position) -> Result<(), RowError> {
     if soundness(made).is_err() {
         return Err(RowError::Condition);
     }
-    let men = made.mask();
-    let turn = side_letter(made.turn());
-    let mate = yes_or_no(mated(made));
-    written(write!(out, "legal men {men} turn {turn} mated {mate}"))
+    row.write_labelled("legal men ", made.mask());
+    row.write_labelled(" turn ", side_letter(made.turn()));
+    write_mated(row, made);
+    Ok(())
+}
+
+/// Writes whether the side to move is mated.
+fn write_mated(row: &mut Row, position: &Position)
+    requires { Sound position.now }
+{
+    row.write(" mated ");
+    row.write_truth(mated(position));
 }
 
 /// `king NAME`: whether the side to move is in check, and whether it is mated.
-pub fn king_row(
-    positions: &Named<Position>,
-    fields: &mut Fields,
-    out: &mut String,
-) -> Result<(), RowError> {
-    let position = sound_named(positions, fields)?;
-    fields.end()?;
-    let check = yes_or_no(in_check(&position));
-    let mate = yes_or_no(mated(&position));
-    written(write!(out, "check {check} mated {mate}"))
+fn king_row(position: &Position, row: &mut Row)
+    requires { Sound position.now }
+{
+    row.write("check ");
+    row.write_truth(in_check(position));
+    write_mated(row, position);
 }
 
 /// `attacked NAME SIDE X Y`: whether a man of the side bears on the square.
-pub fn attacked_row(
-    positions: &Named<Position>,
-    fields: &mut Fields,
-    out: &mut String,
-) -> Result<(), RowError> {
-    let position = position_named(positions, fields)?;
-    let side = side(fields)?;
-    let (x, y) = square(fields)?;
-    fields.end()?;
-    write_truth(out, attacked(&position, side, x, y))
+fn attacked_row(position: &Position, row: &mut Row) -> Result<(), RowError> {
+    let side = side(row)?;
+    let (x, y) = row.two_numbers::<i64, i64>()?;
+    row.write_truth(attacked(position, side, x, y));
+    Ok(())
 }
 
 /// `ray KIND SIDE NUMBER`: the step of a ray, and whether it may be repeated.
-pub fn ray_row(fields: &mut Fields, out: &mut String) -> Result<(), RowError> {
-    let kind = kind(fields)?;
-    let side = side(fields)?;
-    let index = fields.number::<u8>()?;
-    fields.end()?;
-    match ray(kind, side, index) {
+pub fn ray_row(row: &mut Row) -> Result<(), RowError> {
+    let kind = kind_of(row.word()?)?;
+    let side = side(row)?;
+    match ray(kind, side, row.number::<u8>()?) {
         Some(ray) => {
-            let extent = if ray.far { "far" } else { "near" };
-            written(write!(out, "{} {} {extent}", ray.dx, ray.dy))
+            row.write_numbers(&[ray.dx, ray.dy], ' ');
+            row.write(if ray.far { " far" } else { " near" });
         }
-        None => written(out.push_str("none")),
+        None => row.write("none"),
     }
+    Ok(())
 }
 
 /// A frame: `whole`, or its least and greatest x and y.
-pub fn frame(alloc: Global, fields: &mut Fields) -> Result<Frame, RowError> {
-    match fields.word()? {
+pub fn frame(row: &mut Row) -> Result<Frame, RowError> {
+    match row.word()? {
         "whole" => Ok(Frame::whole()),
         edges => {
-            let edges = numbers::<i64>(alloc, edges)?;
+            let edges = numbers::<i64>(row.alloc, edges)?;
             frame_within(edges.as_slice())
         }
     }
@@ -231,17 +233,9 @@ fn frame_within(edges: &[i64]) -> Result<Frame, RowError> {
 }
 
 /// `way NAME MAN RAY FRAME`: the distances that the man may go along the ray, and whom he meets.
-pub fn way_row(
-    alloc: Global,
-    positions: &Named<Position>,
-    fields: &mut Fields,
-    out: &mut String,
-) -> Result<(), RowError> {
-    let position = position_named(positions, fields)?;
-    let number = fields.number::<u8>()?;
-    let index = fields.number::<u8>()?;
-    let frame = frame(alloc, fields)?;
-    fields.end()?;
+fn way_row(position: &Position, row: &mut Row) -> Result<(), RowError> {
+    let (number, index) = row.two_numbers::<u8, u8>()?;
+    let frame = frame(row)?;
     if number < 1 || number > position.count() {
         return Err(RowError::Condition);
     }
@@ -252,72 +246,55 @@ pub fn way_row(
     if let Place::Gone = man.place {
         return Err(RowError::Condition);
     }
-    let way = free_way(&position, number, ray, frame);
+    let way = free_way(position, number, ray, frame);
+    row.write_number(way.near);
+    row.write_labelled(" to ", way.far);
     match way.hits {
-        Some(man) => written(write!(out, "{} to {} hits {man}", way.near, way.far)),
-        None => written(write!(out, "{} to {} hits none", way.near, way.far)),
-    }
-}
-
-/// `reply TEXT`: the move that a line spells, as it is spelled, or why it spells none.
-pub fn reply_row(fields: &mut Fields, out: &mut String) -> Result<(), RowError> {
-    match read_move(fields.rest().as_bytes()) {
-        Ok(Typed::Move(mv)) => write_move(out, mv),
-        Ok(Typed::Quit) => written(out.push_str("quit")),
-        Err(MoveWhy::Shape) => written(out.push_str("shape")),
-        Err(MoveWhy::Number) => written(out.push_str("number")),
-    }
-}
-
-fn write_move(out: &mut String, mv: Move) -> Result<(), RowError> {
-    if mv.man < 1 || mv.man > 8 {
-        return Err(RowError::Condition);
-    }
-    out.push_str("move ")?;
-    write_bytes(out, MoveText::new().write(mv))
-}
-
-/// `options NAME MASK SIDE`: the ways in which the side's men may go, each as man, ray and who is taken.
-pub fn options_row(
-    alloc: Global,
-    positions: &Named<Position>,
-    fields: &mut Fields,
-    out: &mut String,
-) -> Result<(), RowError> {
-    let position = position_named(positions, fields)?;
-    let mask = fields.number::<u8>()?;
-    let side = side(fields)?;
-    fields.end()?;
-    let ways = options(alloc, &position, mask, side)?;
-    write_options(ways.as_slice(), out)
-}
-
-fn write_options(ways: &[Opt], out: &mut String) -> Result<(), RowError> {
-    for (place, way) in ways.iter().enumerate() {
-        separate(out, place, ' ')?;
-        write!(out, "{}/{}/{}", way.man, way.ray, way.taken)?;
+        Some(man) => row.write_labelled(" hits ", man),
+        None => row.write(" hits none"),
     }
     Ok(())
 }
 
-/// `masks NAME`: the sets of live men that there may be in a game from the position.
-pub fn mask_row(
-    alloc: Global,
-    positions: &Named<Position>,
-    fields: &mut Fields,
-    out: &mut String,
-) -> Result<(), RowError> {
-    let position = position_named(positions, fields)?;
-    fields.end()?;
-    let masks = masks(alloc, &position)?;
-    write_masks(out, masks.as_slice(), ' ')
+/// `reply TEXT`: the move that a line spells, as it is spelled, or why it spells none.
+pub fn reply_row(row: &mut Row) -> Result<(), RowError> {
+    match read_move(row.rest().as_bytes()) {
+        Ok(Typed::Move(mv)) => return write_move(row, mv),
+        Ok(Typed::Quit) => row.write("quit"),
+        Err(MoveWhy::Shape) => row.write("shape"),
+        Err(MoveWhy::Number) => row.write("number"),
+    }
+    Ok(())
 }
 
-/// Writes masks, parted by a mark.
-pub fn write_masks(out: &mut String, masks: &[u8], mark: char) -> Result<(), RowError> {
-    for (place, mask) in masks.iter().enumerate() {
-        separate(out, place, mark)?;
-        write!(out, "{mask}")?;
+fn write_move(row: &mut Row, mv: Move) -> Result<(), RowError> {
+    if mv.man < 1 || mv.man > 8 {
+        return Err(RowError::Condition);
     }
+    row.write("move ");
+    row.write_bytes(MoveText::new().write(mv));
+    Ok(())
+}
+
+/// `options NAME MASK SIDE`: the ways in which the side's men may go, each as man, ray and who is taken.
+fn options_row(position: &Position, row: &mut Row) -> Result<(), RowError> {
+    let mask = row.number::<u8>()?;
+    let side = side(row)?;
+    let ways = options(row.alloc, position, mask, side)?;
+    write_options(row, ways.as_slice());
+    Ok(())
+}
+
+fn write_options(row: &mut Row, ways: &[Opt]) {
+    for (place, way) in ways.iter().enumerate() {
+        row.separate(place, ' ');
+        row.write_numbers(&[way.man, way.ray, way.taken], '/');
+    }
+}
+
+/// `masks NAME`: the sets of live men that there may be in a game from the position.
+fn mask_row(position: &Position, row: &mut Row) -> Result<(), RowError> {
+    let masks = masks(row.alloc, position)?;
+    row.write_numbers(masks.as_slice(), ' ');
     Ok(())
 }

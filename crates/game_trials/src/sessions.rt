@@ -1,133 +1,127 @@
 //! Rows that play games: the winner by a session, and the other side by moves that stand in the row.
 
 ghost use Rattle.std.specs.Prelude.{◌≤◌, ◌≡◌};
+ghost use Rattle.game_rules.specs.Game.{Sound};
 
-use crate::positions::{frame, illegal_words, move_of, side, sound_named};
-use chess_game::{Frame, Move, Position, Side};
+use crate::positions::{frame, illegal_words, move_of, side};
+use chess_game::{Frame, Position, Side};
 use chess_text::position_bytes;
-use game_session::{Session, TooWide};
+use game_session::{Played, Session, TooWide};
 use std::alloc::Global;
-use trial_rows::{Fields, Named, RowError, Rows, answer_steps, write_truth, written, yes_or_no};
+use trial_rows::{Row, RowError, Rows, answer_steps};
 use winning_sets::{SolveError, Solved, solve};
 
-/// A solved position, where the budget sufficed.
-fn solved(
-    alloc: Global,
-    positions: &Named<Position>,
-    fields: &mut Fields,
-) -> Result<Solved, RowError> {
-    let position = sound_named(positions, fields)?;
-    let winner = side(fields)?;
-    let moves = fields.number::<u8>()?;
-    let budget = fields.budget()?;
+/// The session of a position that is won.
+fn session_of(alloc: Global, solved: Solved, frame: Frame) -> Result<Session, RowError> {
+    if !solved.verdict() {
+        return Err(RowError::Condition);
+    }
+    match Session::begin(alloc, solved, frame) {
+        Ok(session) => Ok(session),
+        Err(_) => Err(RowError::Memory),
+    }
+}
+
+/// `WINNER MOVES BUDGET FRAME`: the session of the position, where the budget suffices.
+fn session(position: &Position, row: &mut Row) -> Result<Session, RowError>
+    requires { Sound position.now }
+{
+    let winner = side(row)?;
+    let moves = row.number::<u8>()?;
+    let budget = row.budget()?;
+    let frame = frame(row)?;
     if moves > 20 {
         return Err(RowError::Condition);
     }
-    match solve(alloc, &position, winner, moves, budget) {
-        Ok(solved) => Ok(solved),
+    match solve(row.alloc, position, winner, moves, budget) {
+        Ok(solved) => session_of(row.alloc, solved, frame),
         Err(SolveError::Over(_)) => Err(RowError::Over),
         Err(SolveError::Memory) => Err(RowError::Memory),
     }
 }
 
-/// A game that a row plays.
-#[derive(Drop)]
-struct Game {
-    session: Session,
+/// Writes the winner's move, its ray and distance, and whether it mates.
+fn write_played(row: &mut Row, played: &Played) {
+    row.write_number(played.mv.man);
+    row.write_labelled(" ", played.mv.x);
+    row.write_labelled(" ", played.mv.y);
+    row.write_labelled(" ray ", played.ray);
+    row.write_labelled(" distance ", played.distance);
+    row.write(" mated ");
+    row.write_truth(played.mated);
 }
 
-/// The game of a position that is won.
-fn game_of(alloc: Global, solved: Solved, frame: Frame) -> Result<Game, RowError> {
-    if !solved.verdict() {
-        return Err(RowError::Condition);
-    }
-    match Session::begin(alloc, solved, frame) {
-        Ok(session) => Ok(Game { session }),
-        Err(_) => Err(RowError::Memory),
-    }
-}
-
-/// `win`: the winner's move, its ray and distance, and whether it mates; or `wide`.
-fn win_step(session: &mut Session, out: &mut String) -> Result<(), RowError> {
+/// `win`: the winner's move, or `wide`.
+fn win_step(session: &mut Session, row: &mut Row) -> Result<(), RowError> {
     if session.position().turn() != session.winner() {
         return Err(RowError::Condition);
     }
     match session.win_move() {
-        Ok(played) => {
-            let Move { man, x, y } = played.mv;
-            written(write!(
-                out,
-                "{man} {x} {y} ray {} distance {} mated {}",
-                played.ray,
-                played.distance,
-                yes_or_no(played.mated)
-            ))
-        }
-        Err(TooWide) => written(out.push_str("wide")),
+        Ok(played) => write_played(row, &played),
+        Err(TooWide) => row.write("wide"),
     }
+    Ok(())
 }
 
 /// `other M X Y`: whether the other side's move is made, or why not.
-fn other_step(
-    session: &mut Session,
-    fields: &mut Fields,
-    out: &mut String,
-) -> Result<(), RowError> {
-    let mv = move_of(fields)?;
+fn other_step(session: &mut Session, row: &mut Row) -> Result<(), RowError> {
+    let mv = move_of(row)?;
     if session.position().turn() != session.winner().other() {
         return Err(RowError::Condition);
     }
-    match session.other_move(mv) {
-        Ok(()) => written(out.push_str("made")),
-        Err(why) => written(out.push_str(illegal_words(why))),
-    }
+    row.write(match session.other_move(mv) {
+        Ok(()) => "made",
+        Err(why) => illegal_words(why),
+    });
+    Ok(())
 }
 
 /// Writes the lines of a position's text without the first and the last, parted by commas.
-fn write_position(alloc: Global, position: &Position, out: &mut String) -> Result<(), RowError> {
-    let text = position_bytes(alloc, position, Side::White)?;
+fn write_position(row: &mut Row, position: &Position) -> Result<(), RowError> {
+    let text = position_bytes(row.alloc, position, Side::White)?;
     let mut lines = 0u8;
     for byte in text.as_slice() {
         if *byte == b'\n' {
             lines = lines.saturating_add(1);
             if lines > 1 && lines < 2 + position.count() {
-                out.push(',')?;
+                row.write(",");
             }
         } else if lines > 0 && lines < 2 + position.count() {
-            out.push(*byte as char)?;
+            row.write_mark(*byte as char);
         }
     }
     Ok(())
 }
 
+/// A game that a row plays.
+struct Game {
+    session: Session,
+}
+
+impl Drop for Game {
+    fn drop(self) {
+        let Game { session: _ } = self;
+    }
+}
+
 impl Rows for Game {
-    fn answer(
-        &mut self,
-        alloc: Global,
-        kind: &str,
-        fields: &mut Fields,
-        out: &mut String,
-    ) -> Result<(), RowError> {
+    fn answer(&mut self, kind: &str, row: &mut Row) -> Result<(), RowError> {
         match kind {
-            "win" => win_step(&mut self.session, out),
-            "other" => other_step(&mut self.session, fields, out),
-            "left" => written(write!(out, "{}", self.session.moves_left())),
-            "over" => write_truth(out, self.session.over()),
-            "position" => write_position(alloc, &self.session.position(), out),
-            _ => Err(RowError::Word),
+            "win" => return win_step(&mut self.session, row),
+            "other" => return other_step(&mut self.session, row),
+            "position" => return write_position(row, &self.session.position()),
+            "left" => row.write_number(self.session.moves_left()),
+            "over" => row.write_truth(self.session.over()),
+            _ => return Err(RowError::Word),
         }
+        Ok(())
     }
 }
 
 /// `game NAME WINNER MOVES BUDGET FRAME STEP/STEP ..`: what the steps answer, parted by `/`.
-pub fn game_row(
-    alloc: Global,
-    positions: &Named<Position>,
-    fields: &mut Fields,
-    out: &mut String,
-) -> Result<(), RowError> {
-    let solved = solved(alloc, positions, fields)?;
-    let frame = frame(alloc, fields)?;
-    let mut game = game_of(alloc, solved, frame)?;
-    answer_steps(alloc, &mut game, fields.rest(), '/', out)
+pub fn game_row(position: &Position, row: &mut Row) -> Result<(), RowError>
+    requires { Sound position.now }
+{
+    let session = session(position, row)?;
+    answer_steps(&mut Game { session }, row, '/')
 }

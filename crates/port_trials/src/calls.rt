@@ -2,129 +2,105 @@
 
 use desk_base::{FetchError, KeepError, Line, LineError, LineReader, Shelf, Source, put_all};
 use mate_ports::{FolderShelf, StdSink, StdSource};
-use std::alloc::Global;
 use std::fs;
 use std::fs::Files;
 use std::io::Write;
-use trial_rows::{Fields, RowError, written};
+use trial_rows::{Row, RowError};
 
 /// The most lines that a row reads.
 const MOST_LINES: u32 = 100;
 
 /// Writes bytes, each as a character, but LF as `/`.
-pub fn write_bytes(out: &mut String, bytes: &[u8]) -> Result<(), RowError> {
+pub fn write_lines(row: &mut Row, bytes: &[u8]) {
     for byte in bytes {
-        out.push(if *byte == b'\n' { '/' } else { *byte as char })?;
+        row.write_mark(if *byte == b'\n' { '/' } else { *byte as char });
+    }
+}
+
+/// `keep NAME TEXT`: whether the folder keeps the text.
+pub fn keep_row<R: Files>(system: &R, row: &mut Row) -> Result<(), RowError> {
+    let name = row.word()?;
+    let text = row.rest();
+    match FolderShelf::new(system).keep(row.alloc, name, text.as_bytes()) {
+        Ok(()) => row.write("kept"),
+        Err(KeepError::Failed) => row.write("failed"),
+        Err(KeepError::Memory) => return Err(RowError::Memory),
     }
     Ok(())
 }
 
-/// `keep NAME TEXT`: whether the folder keeps the text.
-pub fn keep_row<R: Files>(
-    alloc: Global,
-    system: &R,
-    fields: &mut Fields,
-    out: &mut String,
-) -> Result<(), RowError> {
-    let mut shelf = FolderShelf::new(system);
-    let name = fields.word()?;
-    match shelf.keep(alloc, name, fields.rest().as_bytes()) {
-        Ok(()) => written(out.push_str("kept")),
-        Err(KeepError::Failed) => written(out.push_str("failed")),
-        Err(KeepError::Memory) => Err(RowError::Memory),
-    }
-}
-
 /// `fetch NAME LIMIT`: what the folder has under the name, or why it gives nothing.
-pub fn fetch_row<R: Files>(
-    alloc: Global,
-    system: &R,
-    fields: &mut Fields,
-    out: &mut String,
-) -> Result<(), RowError> {
-    let mut shelf = FolderShelf::new(system);
-    let name = fields.word()?;
-    let limit = fields.number::<usize>()?;
-    fields.end()?;
-    match shelf.fetch(alloc, name, limit) {
+pub fn fetch_row<R: Files>(system: &R, row: &mut Row) -> Result<(), RowError> {
+    let name = row.word()?;
+    let limit = row.number::<usize>()?;
+    match FolderShelf::new(system).fetch(row.alloc, name, limit) {
         Ok(Some(bytes)) => {
-            out.push_str("found ")?;
-            write_bytes(out, bytes.as_slice())
+            row.write("found ");
+            write_lines(row, bytes.as_slice());
         }
-        Ok(None) => written(out.push_str("none")),
-        Err(FetchError::Failed) => written(out.push_str("failed")),
-        Err(FetchError::TooLong) => written(out.push_str("too long")),
-        Err(FetchError::Memory) => Err(RowError::Memory),
+        Ok(None) => row.write("none"),
+        Err(FetchError::Failed) => row.write("failed"),
+        Err(FetchError::TooLong) => row.write("too long"),
+        Err(FetchError::Memory) => return Err(RowError::Memory),
     }
+    Ok(())
 }
 
 /// Writes the lines of a source, and how they end.
-fn write_lines<S: Source>(source: &mut S, out: &mut String) -> Result<(), RowError> {
+fn write_source<S: Source>(source: &mut S, row: &mut Row) -> Result<(), RowError> {
     let mut reader = LineReader::new();
     for _ in 0..MOST_LINES {
         match reader.next_line(source) {
             Ok(Line::Full(_)) => {
-                write_bytes(out, reader.line())?;
-                out.push('/')?;
+                write_lines(row, reader.line());
+                row.write("/");
             }
-            Ok(Line::End) => return written(out.push_str("end")),
-            Err(LineError::TooLong) => return written(out.push_str("long")),
-            Err(LineError::Cut) => return written(out.push_str("cut")),
-            Err(LineError::Read) => return written(out.push_str("failed")),
+            Ok(Line::End) => return Ok(row.write("end")),
+            Err(LineError::TooLong) => return Ok(row.write("long")),
+            Err(LineError::Cut) => return Ok(row.write("cut")),
+            Err(LineError::Read) => return Ok(row.write("failed")),
         }
     }
     Err(RowError::Condition)
 }
 
 /// `read NAME`: the lines of a file, how they end, and the count of faults of its source.
-pub fn read_row<R: Files>(
-    system: &R,
-    fields: &mut Fields,
-    out: &mut String,
-) -> Result<(), RowError> {
-    let Ok(file) = fs::open(system, fields.word()?) else {
+pub fn read_row<R: Files>(system: &R, row: &mut Row) -> Result<(), RowError> {
+    let Ok(file) = fs::open(system, row.word()?) else {
         return Err(RowError::Name);
     };
-    fields.end()?;
     let mut source = StdSource::new(file);
-    write_lines(&mut source, out)?;
+    write_source(&mut source, row)?;
     let (_file, faults) = source.into_parts();
-    write!(out, " {faults}")?;
+    row.write_labelled(" ", faults);
     Ok(())
 }
 
 /// Writes whether all of a text is written to a file, and the count of faults of its sink.
-fn put_text<W: Write + Drop>(file: W, text: &str, out: &mut String) -> Result<(), RowError> {
+fn put_text<W: Write + Drop>(file: W, text: &str, row: &mut Row) {
     let mut sink = StdSink::new(file);
-    let word = match put_all(&mut sink, text.as_bytes()) {
+    row.write(match put_all(&mut sink, text.as_bytes()) {
         Ok(()) => "all",
         Err(_) => "failed",
-    };
+    });
     let (_file, faults) = sink.into_parts();
-    write!(out, "{word} {faults}")?;
-    Ok(())
+    row.write_labelled(" ", faults);
 }
 
 /// `write NAME TEXT`: whether all of a text is written to a new file.
-pub fn write_row<R: Files>(
-    system: &R,
-    fields: &mut Fields,
-    out: &mut String,
-) -> Result<(), RowError> {
-    match fs::create(system, fields.word()?) {
-        Ok(file) => put_text(file, fields.rest(), out),
-        Err(_) => Err(RowError::Name),
+pub fn write_row<R: Files>(system: &R, row: &mut Row) -> Result<(), RowError> {
+    match fs::create(system, row.word()?) {
+        Ok(file) => put_text(file, row.rest(), row),
+        Err(_) => return Err(RowError::Name),
     }
+    Ok(())
 }
 
 /// `refused NAME TEXT`: the same of a file that is open for reading alone.
-pub fn refused_row<R: Files>(
-    system: &R,
-    fields: &mut Fields,
-    out: &mut String,
-) -> Result<(), RowError> {
-    match fs::open(system, fields.word()?) {
-        Ok(file) => put_text(file, fields.rest(), out),
-        Err(_) => Err(RowError::Name),
+pub fn refused_row<R: Files>(system: &R, row: &mut Row) -> Result<(), RowError> {
+    match fs::open(system, row.word()?) {
+        Ok(file) => put_text(file, row.rest(), row),
+        Err(_) => return Err(RowError::Name),
     }
+    Ok(())
 }

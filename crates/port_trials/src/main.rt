@@ -9,9 +9,8 @@ mod runs;
 use calls::{fetch_row, keep_row, read_row, refused_row, write_row};
 use desk_base::MemFiles;
 use runs::{memory_row, run_row};
-use std::alloc::Global;
 use std::process::ExitCode;
-use trial_rows::{Fields, RowError, Rows, answer_script};
+use trial_rows::{Row, RowError, Rows, answer_script};
 
 /// Where the files are that rows name: those of the working folder, and those in memory, which stay from row to row.
 #[derive(Drop)]
@@ -21,21 +20,15 @@ struct Places<'a> {
 }
 
 impl<'a> Rows for Places<'a> {
-    fn answer(
-        &mut self,
-        alloc: Global,
-        kind: &str,
-        fields: &mut Fields,
-        out: &mut String,
-    ) -> Result<(), RowError> {
+    fn answer(&mut self, kind: &str, row: &mut Row) -> Result<(), RowError> {
         match kind {
-            "keep" => keep_row(alloc, self.system, fields, out),
-            "fetch" => fetch_row(alloc, self.system, fields, out),
-            "read" => read_row(self.system, fields, out),
-            "write" => write_row(self.system, fields, out),
-            "refused" => refused_row(self.system, fields, out),
-            "run" => run_row(alloc, self.system, fields, out),
-            "memory" => memory_row(alloc, self.system, &mut self.memory, fields, out),
+            "keep" => keep_row(self.system, row),
+            "fetch" => fetch_row(self.system, row),
+            "read" => read_row(self.system, row),
+            "write" => write_row(self.system, row),
+            "refused" => refused_row(self.system, row),
+            "run" => run_row(self.system, row),
+            "memory" => memory_row(self.system, &mut self.memory, row),
             _ => Err(RowError::Kind),
         }
     }

@@ -1,6 +1,6 @@
 //! Rows that perform a run of the program.
 
-use crate::calls::write_bytes;
+use crate::calls::write_lines;
 use desk_base::MemFiles;
 use mate_desk::Status;
 use mate_ports::{FolderShelf, StdSink, StdSource, perform, perform_in_memory};
@@ -8,7 +8,7 @@ use std::alloc::Global;
 use std::fs::Files;
 use std::io::Read;
 use std::{fs, mem};
-use trial_rows::{Fields, RowError};
+use trial_rows::{Row, RowError};
 
 /// The file of the working folder to which a run writes.
 const OUTPUT: &str = "output";
@@ -35,47 +35,54 @@ fn bytes_of<R: Files>(alloc: Global, system: &R, name: &str) -> Result<Vec<u8>, 
 }
 
 /// Writes how a run ended, and what it wrote.
-fn write_run(out: &mut String, status: Status, output: &[u8]) -> Result<(), RowError> {
-    write!(out, "{} ", status.code())?;
-    write_bytes(out, output)
+fn write_run(row: &mut Row, status: Status, output: &[u8]) {
+    row.write_number(status.code());
+    row.write(" ");
+    write_lines(row, output);
 }
 
-/// `run INPUT WORDS`: the status of a run on a file of the working folder and all files that it has, and what it wrote to a file.
-pub fn run_row<R: Files>(
+/// The status of a run on files of the working folder.
+fn performed<R: Files>(
     alloc: Global,
     system: &R,
-    fields: &mut Fields,
-    out: &mut String,
-) -> Result<(), RowError> {
-    let Ok(input) = fs::open(system, fields.word()?) else {
+    input: &str,
+    words: Vec<String>,
+) -> Result<Status, RowError> {
+    let Ok(input) = fs::open(system, input) else {
         return Err(RowError::Name);
     };
     let Ok(output) = fs::create(system, OUTPUT) else {
         return Err(RowError::Name);
     };
-    let words = words_of(alloc, fields.rest())?;
     let mut source = StdSource::new(input);
     let mut sink = StdSink::new(output);
     let mut shelf = FolderShelf::new(system);
-    let status = perform(Ok(words), &mut source, &mut sink, &mut shelf, alloc);
-    let wrote = bytes_of(alloc, system, OUTPUT)?;
-    write_run(out, status, wrote.as_slice())
+    Ok(perform(Ok(words), &mut source, &mut sink, &mut shelf, alloc))
+}
+
+/// `run INPUT WORDS`: the status of a run on a file of the working folder and all files that it has, and what it wrote to a file.
+pub fn run_row<R: Files>(system: &R, row: &mut Row) -> Result<(), RowError> {
+    let input = row.word()?;
+    let words = words_of(row.alloc, row.rest())?;
+    let status = performed(row.alloc, system, input, words)?;
+    let wrote = bytes_of(row.alloc, system, OUTPUT)?;
+    write_run(row, status, wrote.as_slice());
+    Ok(())
 }
 
 /// `memory INPUT WORDS`: the same over the bytes of the file, a vector and the files in memory, and how many bytes of the input were not taken.
 pub fn memory_row<R: Files>(
-    alloc: Global,
     system: &R,
     files: &mut MemFiles,
-    fields: &mut Fields,
-    out: &mut String,
+    row: &mut Row,
 ) -> Result<(), RowError> {
-    let input = bytes_of(alloc, system, fields.word()?)?;
-    let words = words_of(alloc, fields.rest())?;
+    let alloc = row.alloc;
+    let input = bytes_of(alloc, system, row.word()?)?;
+    let words = words_of(alloc, row.rest())?;
     let before = mem::replace(files, MemFiles::new(alloc));
     let ran = perform_in_memory(Ok(words), input.as_slice(), Vec::new(alloc), before, alloc)?;
     *files = ran.files;
-    write_run(out, ran.status, ran.output.as_slice())?;
-    write!(out, " {}", ran.rest.len())?;
+    write_run(row, ran.status, ran.output.as_slice());
+    row.write_labelled(" ", ran.rest.len());
     Ok(())
 }

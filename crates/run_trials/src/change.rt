@@ -57,19 +57,28 @@ pub fn change_bytes(change: Change, bytes: &mut Vec<u8>) -> Result<(), ScriptWhy
     Ok(())
 }
 
-/// The change that the words say: `cut at K`, `byte K is V` or `append V`.
-pub fn read_change(words: &[&str]) -> Result<Change, ScriptWhy> {
-    match words {
-        ["cut", "at", length] => Ok(Change::Cut {
-            length: read_number(length)?,
-        }),
-        ["byte", at, "is", value] => Ok(Change::Byte {
-            at: read_number(at)?,
-            value: read_number(value)?,
-        }),
-        ["append", value] => Ok(Change::Append {
-            value: read_number(value)?,
-        }),
-        _ => Err(ScriptWhy::Unknown),
+/// The change that a text says: `cut at K`, `byte K is V` or `append V`.
+pub fn read_change(text: &str) -> Result<Change, ScriptWhy> {
+    if let Some(length) = text.strip_prefix("cut at ") {
+        let length = read_number(length)?;
+        return Ok(Change::Cut { length });
     }
+    if let Some(value) = text.strip_prefix("append ") {
+        let value = read_number(value)?;
+        return Ok(Change::Append { value });
+    }
+    read_byte_change(text)
+}
+
+/// `byte K is V`.
+fn read_byte_change(text: &str) -> Result<Change, ScriptWhy> {
+    let Some((place, value)) = text.split_once(" is ") else {
+        return Err(ScriptWhy::Unknown);
+    };
+    let Some(at) = place.strip_prefix("byte ") else {
+        return Err(ScriptWhy::Unknown);
+    };
+    let at = read_number(at)?;
+    let value = read_number(value)?;
+    Ok(Change::Byte { at, value })
 }

@@ -1,7 +1,7 @@
 //! Why a script is not performed to its end.
 
 use std::alloc::{AllocError, AllocFailed};
-use std::io;
+use trial_rows::RowError;
 
 /// Why a line of a script cannot be read, or not be done.
 #[derive(Clone, Copy)]
@@ -10,7 +10,7 @@ pub enum ScriptWhy {
     Long,
     /// The script ends within it.
     Cut,
-    /// It is not UTF-8.
+    /// A word of it, or what a run wrote, is not UTF-8.
     NotText,
     /// It has no form of a line.
     Unknown,
@@ -67,45 +67,8 @@ impl<T: Drop> From<AllocFailed<T>> for ScriptWhy {
     }
 }
 
-/// A line of a script that cannot be read or done.
-#[derive(Clone, Copy)]
-pub struct Refusal {
-    /// The number of the line, counted from 1.
-    pub line: u64,
-    pub why: ScriptWhy,
-}
-
-/// The refusal of the line of this number, where it is not done.
-pub fn at_line(line: u64, done: Result<(), ScriptWhy>) -> Result<(), Refusal> {
-    match done {
-        Ok(()) => Ok(()),
-        Err(why) => Err(Refusal { line, why }),
-    }
-}
-
-/// Why a script is not performed to its end.
-#[derive(Clone, Copy)]
-pub enum Stop {
-    /// One of its lines is refused.
-    Script(Refusal),
-    /// It cannot be read, nothing more can be written, or there is no memory for a run.
-    Host,
-}
-
-impl From<Refusal> for Stop {
-    fn from(refusal: Refusal) -> Self {
-        Stop::Script(refusal)
-    }
-}
-
-impl From<AllocError> for Stop {
-    fn from(_error: AllocError) -> Self {
-        Stop::Host
-    }
-}
-
-impl From<io::Error> for Stop {
-    fn from(_error: io::Error) -> Self {
-        Stop::Host
+impl From<RowError> for ScriptWhy {
+    fn from(_error: RowError) -> Self {
+        ScriptWhy::Memory
     }
 }

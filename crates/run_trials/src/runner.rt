@@ -1,147 +1,171 @@
-//! Performing the runs of a script.
+//! Performing the texts and the runs of a script.
 
-use crate::fault::{Refusal, ScriptWhy, Stop, at_line};
-use crate::report::write_run;
-use crate::statement::{Piece, Statement};
-use crate::store::{Question, Stock, write_told};
-use crate::trial::{Case, Trial};
+use crate::case::Case;
+use crate::fault::ScriptWhy;
+use crate::range::{Range, range_of, spelled_at};
+use crate::script::Line;
+use crate::spelling::push_piece;
+use crate::stock::{Stock, write_told};
 use mate_desk::run;
 use std::alloc::Global;
-use std::io::Write;
-use std::mem;
+use trial_rows::Answer;
 
-/// Performs the runs of a script as its lines come, and writes what comes of each.
-#[derive(Drop)]
-pub struct Runner<W: Write + Drop> {
-    alloc: Global,
-    out: W,
+/// Performs the blocks of a script, and writes what comes of each run.
+pub struct Runner {
+    pub alloc: Global,
+    /// What is written so far.
+    pub report: Answer,
+    /// The number of the line that is read.
+    pub line: u64,
     stock: Stock,
-    block: Block,
     runs: u64,
 }
 
-/// What the next lines belong to.
-#[derive(Drop)]
-enum Block {
-    Nothing,
-    Text(NamedText),
-    Trial(Trial),
+impl Drop for Runner {
+    fn drop(self) {
+        let Runner {
+            alloc: _,
+            report: _,
+            line: _,
+            stock: _,
+            runs: _,
+        } = self;
+    }
 }
 
-/// A text whose lines are coming.
-#[derive(Drop)]
-struct NamedText {
-    /// The number of the line that names it.
-    line: u64,
-    name: String,
-    bytes: Vec<u8>,
-}
-
-impl<W: Write + Drop> Runner<W> {
-    pub fn new(alloc: Global, out: W) -> Self {
+impl Runner {
+    pub fn new(alloc: Global) -> Self {
         Runner {
             alloc,
-            out,
+            report: Answer::new(alloc),
+            line: 0,
             stock: Stock::new(alloc),
-            block: Block::Nothing,
             runs: 0,
         }
     }
 
-    /// Takes what the line of this number says. A text or a run is closed by the next one.
-    pub fn take(&mut self, line: u64, statement: Statement) -> Result<(), Stop> {
-        match statement {
-            Statement::Remark => Ok(()),
-            Statement::Piece(part) => Ok(at_line(line, self.block.add(line, part))?),
-            Statement::Text(name) => {
-                let bytes = Vec::new(self.alloc);
-                self.begin(Block::Text(NamedText { line, name, bytes }))
-            }
-            Statement::Run(head) => self.begin(Block::Trial(Trial::new(self.alloc, line, head))),
-        }
-    }
-
-    /// Closes the last text or run, and writes how many runs there were.
-    pub fn finish(&mut self) -> Result<(), Stop> {
-        self.begin(Block::Nothing)?;
-        let runs = self.runs;
-        writeln!(self.out, "{runs} runs")?;
-        Ok(())
+    /// Writes how many runs there were.
+    pub fn finish(&mut self) {
+        self.report.write_number(self.runs);
+        self.report.write(" runs\n");
     }
 
     /// Writes which line is refused, and why.
-    pub fn refuse(&mut self, refusal: Refusal) -> Result<(), Stop> {
-        let line = refusal.line;
-        let words = refusal.why.words();
-        writeln!(self.out, "script line {line}: {words}")?;
+    pub fn refuse(&mut self, why: ScriptWhy) {
+        self.report.write("script line ");
+        self.report.write_number(self.line);
+        self.report.write(": ");
+        self.report.write(why.words());
+        self.report.write("\n");
+    }
+
+    /// Keeps a text, or does a run, with what stands under it.
+    pub fn perform_block(&mut self, block: &[Line]) -> Result<(), ScriptWhy> {
+        let Some((head, body)) = block.split_first() else {
+            return Ok(());
+        };
+        self.line = head.number;
+        if let Some(name) = head.text.strip_prefix("text ") {
+            return self.keep_text(name.trim_end(), body);
+        }
+        if !head.text.starts_with("run") {
+            return Err(ScriptWhy::Stray);
+        }
+        self.perform_run(block)
+    }
+
+    /// Keeps the text of this name.
+    fn keep_text(&mut self, name: &str, body: &[Line]) -> Result<(), ScriptWhy> {
+        if self.stock.has_text(name) {
+            return Err(ScriptWhy::Taken);
+        }
+        let mut bytes = Vec::new(self.alloc);
+        for line in body {
+            self.line = line.number;
+            let Some(piece) = line.text.strip_prefix('|') else {
+                return Err(ScriptWhy::Stray);
+            };
+            push_piece(self.alloc, &mut bytes, piece)?;
+        }
+        self.stock.name_text(self.alloc, name, bytes)
+    }
+
+    /// Does the cases of a run, one after another: one for each number of its range, or only one.
+    fn perform_run(&mut self, block: &[Line]) -> Result<(), ScriptWhy> {
+        let range = self.range(block)?;
+        for number in range.first..=range.last {
+            self.perform_case(block, number)?;
+        }
         Ok(())
     }
 
-    /// Closes what is open, and has the next lines belong to the block.
-    fn begin(&mut self, block: Block) -> Result<(), Stop> {
-        match mem::replace(&mut self.block, block) {
-            Block::Nothing => Ok(()),
-            Block::Text(NamedText { line, name, bytes }) => {
-                Ok(at_line(line, self.stock.texts.add(name, bytes))?)
+    /// The range of a run. At most one of its lines has one.
+    fn range(&mut self, block: &[Line]) -> Result<Range, ScriptWhy> {
+        let mut found = None;
+        for line in block {
+            self.line = line.number;
+            if let Some(range) = range_of(line.text)? {
+                if found.is_some() {
+                    return Err(ScriptWhy::Range);
+                }
+                found = Some(range);
             }
-            Block::Trial(trial) => self.perform_cases(&trial),
         }
+        Ok(found.unwrap_or(Range { first: 0, last: 0 }))
     }
 
-    /// Does the cases of a run, one after another.
-    fn perform_cases(&mut self, trial: &Trial) -> Result<(), Stop> {
-        let cases = trial.cases();
-        for number in cases.first..=cases.last {
-            let case = trial.case(self.alloc, &mut self.stock, number)?;
-            self.perform(case)?;
+    /// Does a run in one case, and writes what comes of it and what is to be told of files.
+    fn perform_case(&mut self, block: &[Line], number: u32) -> Result<(), ScriptWhy> {
+        let mut case = Case::new(self.alloc);
+        for line in block {
+            self.line = line.number;
+            case.add(self.alloc, &mut self.stock, line.text, number)?;
         }
-        Ok(())
+        self.perform(&mut case)?;
+        self.tell_all(block, number)
     }
 
-    /// Does a run, and writes what comes of it and what is to be told of files.
-    fn perform(&mut self, case: Case) -> Result<(), Stop> {
-        let Case {
-            title,
-            words,
-            given,
-            questions,
-        } = case;
-        let (mut source, mut sink) = given.open(self.alloc)?;
+    /// Does a run, and writes what comes of it.
+    fn perform(&mut self, case: &mut Case) -> Result<(), ScriptWhy> {
+        let mut source = case.source(self.alloc);
+        let mut sink = case.sink(self.alloc)?;
         let shelf = &mut self.stock.shelf;
-        let status = run(self.alloc, &words, &mut source, &mut sink, shelf);
+        let status = run(self.alloc, &case.words, &mut source, &mut sink, shelf);
         self.runs = self.runs.saturating_add(1);
-        write_run(&mut self.out, title.as_str(), sink.bytes(), status.code())?;
-        self.tell(questions.as_slice())
+        self.report.write(case.title.text()?);
+        self.write_run(sink.bytes(), status.code())
     }
 
-    /// Writes what is to be told of files.
-    fn tell(&mut self, questions: &[Question]) -> Result<(), Stop> {
-        for question in questions {
-            write_told(&mut self.out, &self.stock.shelf, question)?;
+    /// Writes the output of a run as it is, and its code. Where the output does not end with LF, a line says so.
+    fn write_run(&mut self, output: &[u8], code: u8) -> Result<(), ScriptWhy> {
+        let Ok(output) = str::from_utf8(output) else {
+            return Err(ScriptWhy::NotText);
+        };
+        self.report.write("\n");
+        self.report.write(output);
+        if !output.is_empty() && !output.ends_with('\n') {
+            self.report.write("\n(no LF)\n");
+        }
+        self.report.write("code ");
+        self.report.write_number(code);
+        self.report.write("\n");
+        Ok(())
+    }
+
+    /// Writes what the lines of a run tell of files.
+    fn tell_all(&mut self, block: &[Line], number: u32) -> Result<(), ScriptWhy> {
+        for line in block {
+            if line.text.starts_with("tell ") {
+                self.line = line.number;
+                self.tell(line.text, number)?;
+            }
         }
         Ok(())
     }
-}
 
-impl Block {
-    /// Adds a part to the text or the run that is open.
-    fn add(&mut self, line: u64, part: Piece) -> Result<(), ScriptWhy> {
-        match self {
-            Block::Nothing => Err(ScriptWhy::Stray),
-            Block::Text(text) => text.add(part),
-            Block::Trial(trial) => trial.add(line, part),
-        }
-    }
-}
-
-impl NamedText {
-    fn add(&mut self, part: Piece) -> Result<(), ScriptWhy> {
-        match part {
-            Piece::Bytes(bytes) => {
-                self.bytes.extend_from_slice(bytes.as_slice())?;
-                Ok(())
-            }
-            Piece::Setting(_) => Err(ScriptWhy::Stray),
-        }
+    /// `tell NAME` or `tell NAME at A for N`, in one case.
+    fn tell(&mut self, text: &str, number: u32) -> Result<(), ScriptWhy> {
+        let line = spelled_at(self.alloc, text, number);
+        write_told(&mut self.report, &self.stock.shelf, line.text()?)
     }
 }

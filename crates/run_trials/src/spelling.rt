@@ -4,6 +4,7 @@ ghost use Rattle.std.specs.Prelude.{◌<◌, IfOk};
 ghost use Rattle.run_trials.specs.Spelling.{AreDigits, Begins, BeginsWithDigits, Escapes, IsDigit, Spells};
 
 use crate::fault::ScriptWhy;
+use crate::number::read_number;
 use std::alloc::Global;
 
 /// The bytes that the text spells. Each byte is spelled by itself, but a backslash by `\\`; `\n` is LF, `\r` is CR, and `\xHH` is the
@@ -74,5 +75,57 @@ fn read_digit(digit: u8) -> Result<u8, ScriptWhy>
         b'0'..=b'9' => Ok(digit - b'0'),
         b'a'..=b'f' => Ok(digit - b'a' + 10),
         _ => Err(ScriptWhy::Escape),
+    }
+}
+
+/// Adds the bytes behind a bar: a line with its LF; behind `-`, a text as it is; behind `* N`, a text N times.
+pub fn push_piece(alloc: Global, out: &mut Vec<u8>, piece: &str) -> Result<(), ScriptWhy> {
+    if let Some(text) = piece.strip_prefix("- ") {
+        return push_bytes(alloc, out, text, 1);
+    }
+    if let Some(repeated) = piece.strip_prefix("* ") {
+        return push_repeated(alloc, out, repeated);
+    }
+    if let Some(line) = piece.strip_prefix(' ') {
+        push_bytes(alloc, out, line, 1)?;
+    } else if !piece.is_empty() {
+        return Err(ScriptWhy::Unknown);
+    }
+    out.push(b'\n')?;
+    Ok(())
+}
+
+/// Adds the bytes of `N TEXT`: those of the text, N times.
+fn push_repeated(alloc: Global, out: &mut Vec<u8>, repeated: &str) -> Result<(), ScriptWhy> {
+    let Some((count, text)) = repeated.split_once(' ') else {
+        return Err(ScriptWhy::Unknown);
+    };
+    push_bytes(alloc, out, text, read_number(count)?)
+}
+
+/// Adds the bytes that a text spells so many times.
+fn push_bytes(alloc: Global, out: &mut Vec<u8>, text: &str, count: u16) -> Result<(), ScriptWhy> {
+    let bytes = read_bytes(alloc, text)?;
+    for _ in 0..count {
+        out.extend_from_slice(bytes.as_slice())?;
+    }
+    Ok(())
+}
+
+/// Reads the words behind `run`. The empty word is spelled `""`, and an odd byte by its escape.
+pub fn read_words(alloc: Global, words: &mut Vec<String>, line: &str) -> Result<(), ScriptWhy> {
+    for word in line.split_whitespace() {
+        words.push(read_word(alloc, word)?)?;
+    }
+    Ok(())
+}
+
+fn read_word(alloc: Global, word: &str) -> Result<String, ScriptWhy> {
+    if word == "\"\"" {
+        return Ok(String::new(alloc));
+    }
+    match String::from_utf8(read_bytes(alloc, word)?) {
+        Ok(word) => Ok(word),
+        Err(_) => Err(ScriptWhy::NotText),
     }
 }

@@ -4,7 +4,6 @@ ghost use Rattle.std.specs.Prelude.{◌≡◌, ◌↔◌, [], Some, None, Ok, Er
 ghost use Rattle.trial_rows.specs.Fields.{IsNextField};
 
 use crate::errors::RowError;
-use limits::Budget;
 use std::alloc::Global;
 use std::marker::Model;
 use std::num::ParseIntError;
@@ -74,24 +73,6 @@ impl<'a> Fields<'a> {
             None => Ok(()),
             Some(_) => Err(RowError::Rest),
         }
-    }
-
-    /// The number of the next field.
-    pub fn number<T: FromStr<Err = ParseIntError>>(&mut self) -> Result<T, RowError> {
-        number(self.word()?)
-    }
-
-    /// The numbers of the next field, parted by commas. The field `-` has none.
-    pub fn numbers<T: FromStr<Err = ParseIntError> + Drop>(
-        &mut self,
-        alloc: Global,
-    ) -> Result<Vec<T>, RowError> {
-        numbers(alloc, self.word()?)
-    }
-
-    /// A budget of states, from 1 to 200000.
-    pub fn budget(&mut self) -> Result<Budget, RowError> {
-        Budget::checked(self.number()?).ok_or(RowError::Number)
     }
 }
 

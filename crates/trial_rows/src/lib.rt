@@ -2,14 +2,16 @@
 //! what it answers. A row is a word for its kind, and fields, parted by one space each.
 #![tactic(auto)]
 
+mod answer;
 mod errors;
 mod fields;
 mod named;
+mod row;
 mod script;
-mod writing;
 
+pub use answer::Answer;
 pub use errors::RowError;
 pub use fields::{Fields, number, numbers};
 pub use named::Named;
+pub use row::Row;
 pub use script::{Rows, answer_script, answer_steps};
-pub use writing::{separate, write_bytes, write_truth, written, yes_or_no};

@@ -3,6 +3,7 @@
 ghost use Rattle.std.specs.Prelude.{◌≡◌};
 
 use crate::errors::RowError;
+use crate::row::Row;
 use std::alloc::Global;
 
 /// A thing and its name.
@@ -34,6 +35,11 @@ impl<T: Drop> Named<T> {
             }
         }
         found
+    }
+
+    /// The thing of the name that the next field is.
+    pub fn next(&self, row: &mut Row) -> Result<&T, RowError> {
+        self.get(row.word()?)
     }
 
     /// Names a thing.
