@@ -38,7 +38,8 @@ pub fn sink_row(row: &mut Row) -> Result<(), RowError> {
 /// `put FAIL MOST ROOM TEXT`: whether all of a text is written, and what is.
 pub fn put_row(row: &mut Row) -> Result<(), RowError> {
     let mut sink = sink_of(row)?;
-    row.write(match put_all(&mut sink, row.rest().as_bytes()) {
+    let text = row.rest();
+    row.write(match put_all(&mut sink, text.as_bytes()) {
         Ok(()) => "all written ",
         Err(_) => "failed written ",
     });

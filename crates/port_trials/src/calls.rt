@@ -21,7 +21,8 @@ pub fn write_lines(row: &mut Row, bytes: &[u8]) {
 pub fn keep_row<R: Files>(system: &R, row: &mut Row) -> Result<(), RowError> {
     let name = row.word()?;
     let text = row.rest();
-    match FolderShelf::new(system).keep(row.alloc, name, text.as_bytes()) {
+    let mut shelf = FolderShelf::new(system);
+    match shelf.keep(row.alloc, name, text.as_bytes()) {
         Ok(()) => row.write("kept"),
         Err(KeepError::Failed) => row.write("failed"),
         Err(KeepError::Memory) => return Err(RowError::Memory),
@@ -33,7 +34,8 @@ pub fn keep_row<R: Files>(system: &R, row: &mut Row) -> Result<(), RowError> {
 pub fn fetch_row<R: Files>(system: &R, row: &mut Row) -> Result<(), RowError> {
     let name = row.word()?;
     let limit = row.number::<usize>()?;
-    match FolderShelf::new(system).fetch(row.alloc, name, limit) {
+    let mut shelf = FolderShelf::new(system);
+    match shelf.fetch(row.alloc, name, limit) {
         Ok(Some(bytes)) => {
             row.write("found ");
             write_lines(row, bytes.as_slice());
@@ -46,19 +48,28 @@ pub fn fetch_row<R: Files>(system: &R, row: &mut Row) -> Result<(), RowError> {
     Ok(())
 }
 
+/// The next line of a source is written, or how the lines end. Says whether they do.
+fn write_next<S: Source>(reader: &mut LineReader, source: &mut S, row: &mut Row) -> bool {
+    match reader.next_line(source) {
+        Ok(Line::Full(_)) => {
+            write_lines(row, reader.line());
+            row.write("/");
+            return false;
+        }
+        Ok(Line::End) => row.write("end"),
+        Err(LineError::TooLong) => row.write("long"),
+        Err(LineError::Cut) => row.write("cut"),
+        Err(LineError::Read) => row.write("failed"),
+    }
+    true
+}
+
 /// Writes the lines of a source, and how they end.
 fn write_source<S: Source>(source: &mut S, row: &mut Row) -> Result<(), RowError> {
     let mut reader = LineReader::new();
     for _ in 0..MOST_LINES {
-        match reader.next_line(source) {
-            Ok(Line::Full(_)) => {
-                write_lines(row, reader.line());
-                row.write("/");
-            }
-            Ok(Line::End) => return Ok(row.write("end")),
-            Err(LineError::TooLong) => return Ok(row.write("long")),
-            Err(LineError::Cut) => return Ok(row.write("cut")),
-            Err(LineError::Read) => return Ok(row.write("failed")),
+        if write_next(&mut reader, source, row) {
+            return Ok(());
         }
     }
     Err(RowError::Condition)

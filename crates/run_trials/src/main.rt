@@ -18,6 +18,15 @@ use script::perform;
 use std::io;
 use std::io::Write;
 use std::process::ExitCode;
+use trial_rows::Answer;
+
+/// Writes a report to the standard output, and says whether that could be done.
+fn is_told(rt: &HostRuntime, report: &Answer) -> bool {
+    match report.text() {
+        Ok(text) => io::writer(rt).write_all(text.as_bytes()).is_ok(),
+        Err(_) => false,
+    }
+}
 
 fn main(rt: HostRuntime) -> ExitCode {
     let Ok(script) = io::read_to_string(rt.alloc(), rt.reader()) else {
@@ -25,10 +34,8 @@ fn main(rt: HostRuntime) -> ExitCode {
     };
     let mut runner = Runner::new(rt.alloc());
     let is_done = perform(&mut runner, script.as_str());
-    match runner.report.text() {
-        Ok(text) if io::writer(&rt).write_all(text.as_bytes()).is_ok() && is_done => {
-            ExitCode::SUCCESS
-        }
-        _ => ExitCode::FAILURE,
+    if is_told(&rt, &runner.report) && is_done {
+        return ExitCode::SUCCESS;
     }
+    ExitCode::FAILURE
 }
