@@ -22,7 +22,7 @@ struct Ranged<'a> {
 }
 
 /// The parts of a line that has a range.
-fn ranged(text: &str) -> Option<Ranged<'_>> {
+fn split_at_range(text: &str) -> Option<Ranged<'_>> {
     let (left, right) = text.split_once(" .. ")?;
     let (front, first) = left.rsplit_once(' ')?;
     let (last, back) = right.split_once(' ').unwrap_or((right, ""));
@@ -39,7 +39,7 @@ pub fn range_of(text: &str) -> Result<Option<Range>, ScriptWhy> {
     if text.starts_with('|') {
         return Ok(None);
     }
-    let Some(ranged) = ranged(text.trim_end()) else {
+    let Some(ranged) = split_at_range(text.trim_end()) else {
         return Ok(None);
     };
     let first = read_number(ranged.first)?;
@@ -54,7 +54,7 @@ pub fn range_of(text: &str) -> Result<Option<Range>, ScriptWhy> {
 pub fn spelled_at(alloc: Global, text: &str, number: u32) -> Answer {
     let text = text.trim_end();
     let mut line = Answer::new(alloc);
-    let Some(ranged) = ranged(text) else {
+    let Some(ranged) = split_at_range(text) else {
         line.write(text);
         return line;
     };

@@ -1,4 +1,4 @@
-use Rattle.std.proofs.Common.{rules, ◌≡◌, List, [], ◌++◌, ℕ, length, subst}
+use Rattle.std.proofs.Common.{rules, ◌≡◌, List, [], ℕ, length, subst}
 use Rattle.std.proofs.lemmas.List.{append-nil, nil_from_length}
 use Rattle.run_trials.specs.Spelling.{Spells}
 use Rattle.run_trials.proofs.spelling.read_bytes.Goals as goal
