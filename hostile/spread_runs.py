@@ -34,16 +34,16 @@ class Runs:
     """The program and the counter, in a folder; what was counted, and what was found."""
 
     def __init__(self, program, counter, folder, most):
-        self.program, self.counter, self.folder, self.most = program, counter, folder, most
+        self.program, self.counter, self.folder, self.most, self.seconds = program, counter, folder, most, SECONDS
         self.counts, self.steps, self.wrong = collections.Counter(), collections.Counter(), 0
 
     def ended(self, words, text):
-        return subprocess.run(words, cwd=self.folder, input=text, capture_output=True, timeout=SECONDS).stdout.decode()
+        return subprocess.run(words, cwd=self.folder, input=text, capture_output=True, timeout=self.seconds).stdout.decode()
 
-    def compare(self, kind, counted, words, text, answered, most=None):
+    def compare(self, kind, counted, words, text, answered):
         """The counter's words, the program's words before the budget, and whether an output is an answer."""
         try:
-            records = self.ended([self.counter, *counted, str(most or self.most)], text).splitlines()
+            records = self.ended([self.counter, *counted, str(self.most)], text).splitlines()
         except subprocess.TimeoutExpired:
             self.counts["too long"] += 1
             return
@@ -171,11 +171,13 @@ def plan_runs(draw, runs):
 
 
 def known_runs(runs):
-    """A step of `win` and one of `stale` are the last that budgets name."""
+    """A step of `win` and one of `stale` are the last that budgets name. They may take longer."""
+    most, runs.most, runs.seconds = runs.most, 4000, 10 * SECONDS
     equal = lambda said, end: said == end + "\n"
-    runs.compare("plans", ["decide", "1"], ["decide", "1"], FAR_KNIGHT, equal, 4000)
+    runs.compare("plans", ["decide", "1"], ["decide", "1"], FAR_KNIGHT, equal)
     (runs.folder / "a").write_bytes(hemmed(16))
     runs.compare("other claims", ["check", "a"], ["check", "a"], b"", equal)
+    runs.most, runs.seconds = most, SECONDS
 
 
 def formula_runs(draw, runs):
