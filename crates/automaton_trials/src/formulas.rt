@@ -40,35 +40,20 @@ fn write_compiled(row: &mut Row, answer: Result<Auto, CompileError>) -> Result<(
     Ok(())
 }
 
-/// Compiles a closed formula with a memo, and writes what that answers.
-fn compiled(memo: &mut Memo, f: &Formula, row: &mut Row) -> Result<(), RowError>
-    requires { IsQuestion (tree_of f.now) }
-{
-    let sets = SetTable::new(row.alloc);
-    write_compiled(row, memo.compile(row.alloc, f, &sets))
-}
-
 /// Compiles the closed formula of a text with a memo, and writes what that answers.
 fn write_formula(memo: &mut Memo, text: &str, row: &mut Row) -> Result<(), RowError> {
-    match formula(row.alloc, text) {
-        Ok(f) => compiled(memo, &f, row),
-        Err(why) => Err(why),
-    }
-}
-
-/// Compiles closed formulas, parted by `/`, one after the other.
-fn write_formulas(memo: &mut Memo, row: &mut Row) -> Result<(), RowError> {
-    for (place, text) in row.rest().split('/').enumerate() {
-        row.separate(place, '/');
-        write_formula(memo, text, row)?;
-    }
-    Ok(())
+    let f = formula(row.alloc, text)?;
+    let sets = SetTable::new(row.alloc);
+    write_compiled(row, memo.compile(row.alloc, &f, &sets))
 }
 
 /// `memo BUDGET FORMULA/FORMULA ..`: whether the formulas hold, which one memo compiles, and what it keeps then.
 pub fn write_memo(row: &mut Row) -> Result<(), RowError> {
     let mut memo = Memo::new(row.alloc, row.budget()?);
-    write_formulas(&mut memo, row)?;
+    for (place, text) in row.rest().split('/').enumerate() {
+        row.separate(place, '/');
+        write_formula(&mut memo, text, row)?;
+    }
     row.write_labelled(" kept ", memo.kept());
     row.write_labelled(" found ", memo.found());
     Ok(())

@@ -1,6 +1,5 @@
 //! Variables, by their letters.
 
-use std::alloc::Global;
 use track_word::Var;
 use trial_rows::{Row, RowError};
 
@@ -14,31 +13,20 @@ fn var_of(field: &str) -> Result<Var, RowError> {
 
 /// The variable of the next field.
 pub fn var(row: &mut Row) -> Result<Var, RowError> {
-    var_of(row.word()?)
+    row.word().and_then(var_of)
 }
 
 /// The variables of the next field, parted by commas. The field `-` has none.
 pub fn vars(row: &mut Row) -> Result<Vec<Var>, RowError> {
-    match row.word()? {
-        "-" => Ok(Vec::new(row.alloc)),
-        letters => vars_of(row.alloc, letters),
+    let field = row.word()?;
+    let mut vars = Vec::new(row.alloc);
+    if field == "-" {
+        return Ok(vars);
     }
-}
-
-fn vars_of(alloc: Global, letters: &str) -> Result<Vec<Var>, RowError> {
-    let mut vars = Vec::new(alloc);
-    for letter in letters.split(',') {
+    for letter in field.split(',') {
         vars.push(var_of(letter)?)?;
     }
     Ok(vars)
-}
-
-/// Writes the letter of a variable.
-fn write_var(row: &mut Row, var: Var) {
-    match var.0 {
-        0..=15 => row.write_mark((b'a' + var.0) as char),
-        number => row.write_number(number),
-    }
 }
 
 /// Writes the letters of variables, parted by commas, or `-` where there are none.
@@ -48,6 +36,9 @@ pub fn write_vars(row: &mut Row, vars: &[Var]) {
     }
     for (place, var) in vars.iter().enumerate() {
         row.separate(place, ',');
-        write_var(row, *var);
+        match var.0 {
+            0..=15 => row.write_mark((b'a' + var.0) as char),
+            number => row.write_number(number),
+        }
     }
 }

@@ -13,10 +13,10 @@ mod spelling;
 mod table_text;
 mod tables;
 
-use answers::write_answer;
+use answers::{write_asked, write_same, write_told};
 use formulas::write_memo;
 use reduced_auto::ReducedAuto;
-use spelling::{Reader, automaton};
+use spelling::{MOST_DEPTH, automaton};
 use std::process::ExitCode;
 use trial_rows::{Named, Row, RowError, Rows, answer_script};
 
@@ -29,7 +29,7 @@ struct Automata {
 /// `set NAME A`: names an automaton.
 fn name_automaton(named: &mut Named<ReducedAuto>, row: &mut Row) -> Result<(), RowError> {
     let name = row.word()?;
-    let set = automaton(Reader::new(named), row)?;
+    let set = automaton(named, MOST_DEPTH, row)?;
     named.put(row.alloc, name, set)
 }
 
@@ -38,7 +38,9 @@ impl Rows for Automata {
         match kind {
             "set" => name_automaton(&mut self.named, row),
             "memo" => write_memo(row),
-            _ => write_answer(Reader::new(&self.named), kind, row),
+            "same" => write_same(&self.named, row),
+            "accepts" | "member" | "periods" | "rays" => write_asked(&self.named, kind, row),
+            _ => write_told(&self.named, kind, row),
         }
     }
 }

@@ -2,8 +2,8 @@
 
 ghost use Rattle.std.specs.Prelude.{◌≤◌, IsTrue};
 ghost use Rattle.track_word.specs.Word.{IsWord};
-ghost use Rattle.auto_core.specs.Integers.{DecidesIntegers};
 
+use crate::reduced_auto::check_stable;
 use crate::tables::{are_below, width_of};
 use auto_core::Auto;
 use limits::MOST_TRACKS;
@@ -30,19 +30,9 @@ fn accepts(alloc: Global, a: &Auto, text: &str) -> Result<bool, RowError> {
     Ok(a.accepts(word.as_slice()))
 }
 
-/// `accepts WORDS A`: which words are accepted. Words are parted by `/`, and the letters of a word by commas.
-pub fn write_words(row: &mut Row, a: &Auto, words: &str) -> Result<(), RowError> {
-    for (place, word) in words.split('/').enumerate() {
-        row.separate(place, ' ');
-        row.write_truth(accepts(row.alloc, a, word)?);
-    }
-    Ok(())
-}
-
 /// Whether the tuple of a text is in the automaton's set.
-fn has_member(alloc: Global, a: &Auto, text: &str) -> Result<bool, RowError>
-    requires { DecidesIntegers a.now }
-{
+fn has_member(alloc: Global, a: &Auto, text: &str) -> Result<bool, RowError> {
+    check_stable(alloc, a)?;
     let values = numbers::<i64>(alloc, text)?;
     if values.len() != a.tracks().len() {
         return Err(RowError::Condition);
@@ -50,13 +40,16 @@ fn has_member(alloc: Global, a: &Auto, text: &str) -> Result<bool, RowError>
     Ok(a.member(values.as_slice()))
 }
 
-/// `member TUPLES A`: which tuples of integers are in the set.
-pub fn write_tuples(row: &mut Row, a: &Auto, tuples: &str) -> Result<(), RowError>
-    requires { DecidesIntegers a.now }
-{
-    for (place, tuple) in tuples.split('/').enumerate() {
+/// `accepts WORDS A` and `member TUPLES A`: which words are accepted, and which tuples are in the set. They are parted by `/`, and the numbers of
+/// each by commas.
+pub fn write_truths(row: &mut Row, kind: &str, a: &Auto, texts: &str) -> Result<(), RowError> {
+    for (place, text) in texts.split('/').enumerate() {
         row.separate(place, ' ');
-        row.write_truth(has_member(row.alloc, a, tuple)?);
+        let truth = match kind {
+            "accepts" => accepts(row.alloc, a, text),
+            _ => has_member(row.alloc, a, text),
+        };
+        row.write_truth(truth?);
     }
     Ok(())
 }

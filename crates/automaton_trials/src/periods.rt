@@ -5,6 +5,7 @@ ghost use Rattle.auto_core.specs.Integers.{DecidesIntegers};
 ghost use Rattle.auto_core.specs.Reduced.{IsReduced};
 ghost use Rattle.period_sets.specs.Question.{t_var};
 
+use crate::reduced_auto::check_stable;
 use auto_core::Auto;
 use limits::Budget;
 use period_sets::{PeriodError, Periodic, describe_set};
@@ -26,38 +27,28 @@ fn write_periodic(row: &mut Row, periodic: &Periodic) {
     row.write_labelled(" rests ", periodic.rests);
 }
 
-/// Writes why nothing is told of a set.
-fn write_error(row: &mut Row, error: PeriodError) -> Result<(), RowError> {
-    match error {
-        PeriodError::Over { step } => row.write_labelled("over ", step),
-        PeriodError::NoPeriod => row.write("no period"),
-        PeriodError::Far => row.write("far"),
-        PeriodError::Many => row.write("many"),
-        PeriodError::Memory => return Err(RowError::Memory),
-    }
-    Ok(())
-}
-
-/// Writes what is told of the set of an automaton of the variable of described sets.
+/// Writes what is told of the set of an automaton of the variable of described sets, or why nothing is.
 fn describe(row: &mut Row, a: &Auto, budget: Budget) -> Result<(), RowError>
     requires reduced { IsReduced a.now }
     requires tracks { a.now.tracks ≡ t_var ∷ [] }
     requires decides { DecidesIntegers a.now }
 {
     match describe_set(row.alloc, a, budget) {
-        Ok(periodic) => {
-            write_periodic(row, &periodic);
-            Ok(())
-        }
-        Err(error) => write_error(row, error),
+        Ok(periodic) => write_periodic(row, &periodic),
+        Err(PeriodError::Over { step }) => row.write_labelled("over ", step),
+        Err(PeriodError::NoPeriod) => row.write("no period"),
+        Err(PeriodError::Far) => row.write("far"),
+        Err(PeriodError::Many) => row.write("many"),
+        Err(PeriodError::Memory) => return Err(RowError::Memory),
     }
+    Ok(())
 }
 
 /// `periods BUDGET A`: from where on the set of an automaton of one track repeats, and what is in it.
 pub fn write_periods(row: &mut Row, a: &Auto, budget: &str) -> Result<(), RowError>
-    requires reduced { IsReduced a.now }
-    requires decides { DecidesIntegers a.now }
+    requires { IsReduced a.now }
 {
+    check_stable(row.alloc, a)?;
     let Some(budget) = Budget::checked(number(budget)?) else {
         return Err(RowError::Number);
     };

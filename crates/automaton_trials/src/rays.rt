@@ -4,11 +4,10 @@ ghost use Rattle.std.specs.Prelude.{◌≡◌, ◌≤◌, IfOk, IsTrue, length};
 ghost use Rattle.auto_core.specs.Integers.{DecidesIntegers};
 ghost use Rattle.auto_search.specs.TupleRay.{IsTupleRay};
 
+use crate::reduced_auto::check_stable;
 use auto_core::Auto;
 use auto_search::{Few, Search, TupleRay};
 use std::alloc::Global;
-use std::num::ParseIntError;
-use std::str::FromStr;
 use trial_rows::{Row, RowError, number};
 
 /// The greatest distance that may be asked for.
@@ -34,57 +33,28 @@ fn is_tuple_ray(way: &TupleRay) -> bool
     way.dy >= -2 && way.dy <= 2
 }
 
-/// The two numbers of a field.
-fn pair<T: FromStr<Err = ParseIntError> + Copy>(field: &str) -> Result<(T, T), RowError> {
-    let Some((first, second)) = field.split_once(',') else {
+/// A ray through a tuple of an automaton's tracks: the next two fields are the places of the two tracks that it moves on, and what a step adds
+/// there.
+fn ray_through<'a>(fixed: &'a [i64], a: &Auto, row: &mut Row) -> Result<TupleRay<'a>, RowError>
+    ensures count { IfOk result (λ way. length way.fixed.now ≡ length a.now.tracks) }
+    ensures way { IfOk result IsTupleRay }
+{
+    let tracks = row.numbers()?;
+    let slopes = row.numbers()?;
+    let (&[x_track, y_track], &[dx, dy]) = (tracks.as_slice(), slopes.as_slice()) else {
         return Err(RowError::Word);
     };
-    Ok((number(first)?, number(second)?))
-}
-
-/// A ray as it is spelled: the tuple at distance 0, the places of the two tracks that it moves on, and what a step adds there.
-#[derive(Drop)]
-struct Spelled {
-    fixed: Vec<i64>,
-    tracks: (u8, u8),
-    slopes: (i8, i8),
-}
-
-impl Spelled {
-    fn read(row: &mut Row) -> Result<Self, RowError> {
-        Ok(Spelled {
-            fixed: row.numbers()?,
-            tracks: pair(row.word()?)?,
-            slopes: pair(row.word()?)?,
-        })
+    let way = TupleRay {
+        fixed,
+        x_track,
+        y_track,
+        dx,
+        dy,
+    };
+    if !is_tuple_ray(&way) || fixed.len() != a.tracks().len() {
+        return Err(RowError::Condition);
     }
-
-    fn way(&self) -> TupleRay<'_> {
-        TupleRay {
-            fixed: self.fixed.as_slice(),
-            x_track: self.tracks.0,
-            y_track: self.tracks.1,
-            dx: self.slopes.0,
-            dy: self.slopes.1,
-        }
-    }
-}
-
-/// Writes how many there are.
-fn write_few(row: &mut Row, few: Few) {
-    row.write(match few {
-        Few::Zero => "zero",
-        Few::One => "one",
-        Few::More => "more",
-    });
-}
-
-/// Writes the least distance, where there is one.
-fn write_least(row: &mut Row, least: Option<u128>) {
-    match least {
-        Some(distance) => row.write_number(distance),
-        None => row.write("none"),
-    }
+    Ok(way)
 }
 
 /// Writes the least distance of those that the next fields bound.
@@ -99,7 +69,41 @@ fn ask_least(search: &mut Search, a: &Auto, way: &TupleRay, row: &mut Row) -> Re
     if far > MOST_DISTANCE {
         return Err(RowError::Condition);
     }
-    write_least(row, search.least_on_ray(a, way, near, far));
+    match search.least_on_ray(a, way, near, far) {
+        Some(distance) => row.write_number(distance),
+        None => row.write("none"),
+    }
+    Ok(())
+}
+
+/// Writes how many there are.
+fn write_few(row: &mut Row, few: Few) {
+    row.write(match few {
+        Few::Zero => "zero",
+        Few::One => "one",
+        Few::More => "more",
+    });
+}
+
+/// Writes the answer to a question along a ray.
+fn ask_along(
+    search: &mut Search,
+    a: &Auto,
+    way: &TupleRay,
+    question: &str,
+    row: &mut Row,
+) -> Result<(), RowError>
+    requires decides { DecidesIntegers a.now }
+    requires room { length a.now.accept ≤ search.old }
+    requires count { length way.now.fixed.now ≡ length a.now.tracks }
+    requires way { IsTupleRay way.now }
+    ensures kept { search.new ≡ search.old }
+{
+    match question {
+        "least" => return ask_least(search, a, way, row),
+        "count" => write_few(row, search.count_on_ray(a, way)),
+        _ => return Err(RowError::Word),
+    }
     Ok(())
 }
 
@@ -110,17 +114,9 @@ fn ask(search: &mut Search, a: &Auto, row: &mut Row) -> Result<(), RowError>
     ensures kept { search.new ≡ search.old }
 {
     let question = row.word()?;
-    let spelled = Spelled::read(row)?;
-    let way = spelled.way();
-    if !is_tuple_ray(&way) || way.fixed.len() != a.tracks().len() {
-        return Err(RowError::Condition);
-    }
-    match question {
-        "least" => return ask_least(search, a, &way, row),
-        "count" => write_few(row, search.count_on_ray(a, &way)),
-        _ => return Err(RowError::Word),
-    }
-    Ok(())
+    let fixed = row.numbers()?;
+    let way = ray_through(fixed.as_slice(), a, row)?;
+    ask_along(search, a, &way, question, row)
 }
 
 /// Writes the answers to the questions that are left, by one search.
@@ -138,10 +134,13 @@ fn ask_all(search: &mut Search, a: &Auto, row: &mut Row) -> Result<(), RowError>
     Ok(())
 }
 
-/// A search with room for so many states, where the automaton has no more.
-fn reserved(alloc: Global, states: u32, a: &Auto) -> Result<Search, RowError>
-    ensures { IfOk result (λ search. length a.now.accept ≤ search) }
+/// A search for the set of an automaton that has no more states than there is to be room for.
+fn reserved(alloc: Global, states: &str, a: &Auto) -> Result<Search, RowError>
+    ensures decides { IfOk result (λ _. DecidesIntegers a.now) }
+    ensures room { IfOk result (λ search. length a.now.accept ≤ search) }
 {
+    check_stable(alloc, a)?;
+    let states = number(states)?;
     if states > MOST_RESERVED || a.states() > states {
         return Err(RowError::Condition);
     }
@@ -149,9 +148,7 @@ fn reserved(alloc: Global, states: u32, a: &Auto) -> Result<Search, RowError>
 }
 
 /// `rays STATES A QUESTION ..`: the answers of one search, which has room for so many states.
-pub fn write_rays(row: &mut Row, a: &Auto, states: &str) -> Result<(), RowError>
-    requires { DecidesIntegers a.now }
-{
-    let mut search = reserved(row.alloc, number(states)?, a)?;
+pub fn write_rays(row: &mut Row, a: &Auto, states: &str) -> Result<(), RowError> {
+    let mut search = reserved(row.alloc, states, a)?;
     ask_all(&mut search, a, row)
 }

@@ -8,7 +8,6 @@ ghost use Rattle.auto_core.specs.Reduced.{IsReduced};
 
 use auto_bool::{Connective, difference, join, meet, not};
 use auto_core::Auto;
-use auto_project::forget;
 use auto_reduce::{reduce, sign_stable};
 use auto_walk::Grown;
 use limits::{Budget, MOST_TRACKS};
@@ -41,13 +40,6 @@ impl Model for ReducedAuto {
 }
 
 impl ReducedAuto {
-    fn new(auto: Auto) -> ReducedAuto
-        requires { IsReduced auto }
-        ensures { result ≡ auto }
-    {
-        ReducedAuto { auto }
-    }
-
     pub fn auto(&self) -> &Auto
         ensures is { result.now ≡ self.now }
         ensures reduced { IsReduced result.now }
@@ -66,7 +58,7 @@ impl ReducedAuto {
 /// The reduced automaton of the same words.
 fn reduced(alloc: Global, a: &Auto) -> Result<ReducedAuto, RowError> {
     match reduce(alloc, a) {
-        Ok(auto) => Ok(ReducedAuto::new(auto)),
+        Ok(auto) => Ok(ReducedAuto { auto }),
         Err(_) => Err(RowError::Memory),
     }
 }
@@ -100,7 +92,7 @@ pub fn check_stable(alloc: Global, a: &Auto) -> Result<(), RowError>
 }
 
 /// Refuses a comparison whose parts are not such as may be.
-fn check_atom(alloc: Global, terms: &[(i8, Var)], rel: Rel, bound: i32) -> Result<(), RowError>
+pub fn check_atom(alloc: Global, terms: &[(i8, Var)], rel: Rel, bound: i32) -> Result<(), RowError>
     ensures { IfOk result (λ _. IsAtom terms.now bound) }
 {
     match lin(alloc, terms, rel, bound) {
@@ -108,17 +100,6 @@ fn check_atom(alloc: Global, terms: &[(i8, Var)], rel: Rel, bound: i32) -> Resul
         Err(LinWhy::Memory) => Err(RowError::Memory),
         Err(_) => Err(RowError::Condition),
     }
-}
-
-/// The automaton of a comparison, where its parts are such as may be.
-pub fn comparison(
-    alloc: Global,
-    terms: &[(i8, Var)],
-    rel: Rel,
-    bound: i32,
-) -> Result<ReducedAuto, RowError> {
-    check_atom(alloc, terms, rel, bound)?;
-    made(alloc, Auto::lin(alloc, terms, rel, bound))
 }
 
 /// How many tracks there are.
@@ -165,17 +146,7 @@ pub fn joined(
 /// The other words.
 pub fn others(alloc: Global, a: &ReducedAuto) -> Result<ReducedAuto, RowError> {
     match not(alloc, a.auto()) {
-        Ok(auto) => Ok(ReducedAuto::new(auto)),
+        Ok(auto) => Ok(ReducedAuto { auto }),
         Err(_) => Err(RowError::Memory),
     }
-}
-
-/// What some integer of a variable makes true.
-pub fn forgotten(
-    alloc: Global,
-    a: &ReducedAuto,
-    var: Var,
-    budget: Budget,
-) -> Result<ReducedAuto, RowError> {
-    grown(alloc, forget(alloc, a.auto(), var, budget))
 }
