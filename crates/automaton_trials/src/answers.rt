@@ -4,7 +4,7 @@ ghost use Rattle.std.specs.Prelude.{◌≡◌, IsTrue};
 ghost use Rattle.auto_core.specs.Reduced.{IsReduced};
 
 use crate::letters::write_vars;
-use crate::members::write_truths;
+use crate::members::{write_tuples, write_words};
 use crate::periods::write_periods;
 use crate::rays::write_rays;
 use crate::reduced_auto::ReducedAuto;
@@ -41,9 +41,10 @@ pub fn write_asked(named: &Named<ReducedAuto>, kind: &str, row: &mut Row) -> Res
     let set = automaton(named, MOST_DEPTH, row)?;
     let a = set.auto();
     match kind {
+        "accepts" => write_words(row, a, word),
+        "member" => write_tuples(row, a, word),
         "periods" => write_periods(row, a, word),
-        "rays" => write_rays(row, a, word),
-        _ => write_truths(row, kind, a, word),
+        _ => write_rays(row, a, word),
     }
 }
 

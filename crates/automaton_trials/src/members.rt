@@ -2,6 +2,7 @@
 
 ghost use Rattle.std.specs.Prelude.{◌≤◌, IsTrue};
 ghost use Rattle.track_word.specs.Word.{IsWord};
+ghost use Rattle.auto_core.specs.Integers.{DecidesIntegers};
 
 use crate::reduced_auto::check_stable;
 use crate::tables::{are_below, width_of};
@@ -31,8 +32,9 @@ fn accepts(alloc: Global, a: &Auto, text: &str) -> Result<bool, RowError> {
 }
 
 /// Whether the tuple of a text is in the automaton's set.
-fn has_member(alloc: Global, a: &Auto, text: &str) -> Result<bool, RowError> {
-    check_stable(alloc, a)?;
+fn has_member(alloc: Global, a: &Auto, text: &str) -> Result<bool, RowError>
+    requires { DecidesIntegers a.now }
+{
     let values = numbers::<i64>(alloc, text)?;
     if values.len() != a.tracks().len() {
         return Err(RowError::Condition);
@@ -40,16 +42,21 @@ fn has_member(alloc: Global, a: &Auto, text: &str) -> Result<bool, RowError> {
     Ok(a.member(values.as_slice()))
 }
 
-/// `accepts WORDS A` and `member TUPLES A`: which words are accepted, and which tuples are in the set. They are parted by `/`, and the numbers of
-/// each by commas.
-pub fn write_truths(row: &mut Row, kind: &str, a: &Auto, texts: &str) -> Result<(), RowError> {
-    for (place, text) in texts.split('/').enumerate() {
+/// `accepts WORDS A`: which words are accepted. Words are parted by `/`, and the letters of a word by commas.
+pub fn write_words(row: &mut Row, a: &Auto, words: &str) -> Result<(), RowError> {
+    for (place, word) in words.split('/').enumerate() {
         row.separate(place, ' ');
-        let truth = match kind {
-            "accepts" => accepts(row.alloc, a, text),
-            _ => has_member(row.alloc, a, text),
-        };
-        row.write_truth(truth?);
+        row.write_truth(accepts(row.alloc, a, word)?);
+    }
+    Ok(())
+}
+
+/// `member TUPLES A`: which tuples of integers are in the set. Tuples are parted by `/`, and the integers of a tuple by commas.
+pub fn write_tuples(row: &mut Row, a: &Auto, tuples: &str) -> Result<(), RowError> {
+    check_stable(row.alloc, a)?;
+    for (place, tuple) in tuples.split('/').enumerate() {
+        row.separate(place, ' ');
+        row.write_truth(has_member(row.alloc, a, tuple)?);
     }
     Ok(())
 }

@@ -7,6 +7,7 @@ use crate::positions::{frame, illegal_words, move_of, side};
 use chess_game::{Frame, Position, Side};
 use chess_text::position_bytes;
 use game_session::{Played, Session, TooWide};
+use limits::MOST_MOVES;
 use std::alloc::Global;
 use trial_rows::{Row, RowError, Rows, answer_steps};
 use winning_sets::{SolveError, Solved, solve};
@@ -30,7 +31,7 @@ fn session(position: &Position, row: &mut Row) -> Result<Session, RowError>
     let moves = row.number::<u8>()?;
     let budget = row.budget()?;
     let frame = frame(row)?;
-    if moves > 20 {
+    if moves > MOST_MOVES {
         return Err(RowError::Condition);
     }
     match solve(row.alloc, position, winner, moves, budget) {

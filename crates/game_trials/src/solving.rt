@@ -7,6 +7,7 @@ use crate::positions::{side, side_letter};
 use auto_core::Auto;
 use auto_reduce::sign_stable;
 use chess_game::Position;
+use limits::MOST_MOVES;
 use trial_rows::{Named, Row, RowError, Rows, answer_steps};
 use winning_sets::{SolveError, Solved, Solver};
 
@@ -30,7 +31,7 @@ impl Drop for Bench<'_> {
 impl<'a> Bench<'a> {
     /// Whether the winner mates within so many moves.
     fn solve(&mut self, moves: u8) -> Result<bool, RowError>
-        requires { moves ≤ 20 }
+        requires { moves ≤ MOST_MOVES }
     {
         match self.solver.solve(moves) {
             Ok(solved) => {
@@ -51,7 +52,7 @@ impl<'a> Bench<'a> {
 /// `solve MOVES`: whether the winner mates within so many moves.
 fn solve_step(bench: &mut Bench, row: &mut Row) -> Result<(), RowError> {
     let moves = row.number::<u8>()?;
-    if moves > 20 {
+    if moves > MOST_MOVES {
         return Err(RowError::Condition);
     }
     let is_mate = bench.solve(moves)?;

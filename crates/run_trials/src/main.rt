@@ -16,17 +16,8 @@ mod stock;
 use runner::Runner;
 use script::perform;
 use std::io;
-use std::io::Write;
 use std::process::ExitCode;
-use trial_rows::Answer;
-
-/// Writes a report to the standard output, and says whether that could be done.
-fn is_told(rt: &HostRuntime, report: &Answer) -> bool {
-    match report.text() {
-        Ok(text) => io::writer(rt).write_all(text.as_bytes()).is_ok(),
-        Err(_) => false,
-    }
-}
+use trial_rows::is_told;
 
 fn main(rt: HostRuntime) -> ExitCode {
     let Ok(script) = io::read_to_string(rt.alloc(), rt.reader()) else {

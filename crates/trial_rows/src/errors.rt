@@ -1,5 +1,8 @@
 //! Why a row has no answer.
 
+ghost use Rattle.std.specs.Prelude.{◌≡◌};
+ghost use Rattle.trial_rows.specs.declared.errors.RowError.TheVariants.{Memory};
+
 use std::alloc::{AllocError, AllocFailed};
 
 /// Why a row has no answer.
@@ -46,12 +49,16 @@ impl RowError {
 }
 
 impl From<AllocError> for RowError {
+    ghost from_gives = { λ _ why. why ≡ Memory };
+
     fn from(_error: AllocError) -> Self {
         RowError::Memory
     }
 }
 
 impl<T: Drop> From<AllocFailed<T>> for RowError {
+    ghost from_gives = { λ _ why. why ≡ Memory };
+
     fn from(_error: AllocFailed<T>) -> Self {
         RowError::Memory
     }

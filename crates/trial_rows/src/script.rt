@@ -89,7 +89,7 @@ fn write_rows<R: Rows>(alloc: Global, rows: &mut R, script: &str, out: &mut Answ
 }
 
 /// Writes all answers to the standard output, and says whether that could be done.
-fn is_told(rt: &HostRuntime, out: &Answer) -> bool {
+pub fn is_told(rt: &HostRuntime, out: &Answer) -> bool {
     match out.text() {
         Ok(text) => io::writer(rt).write_all(text.as_bytes()).is_ok(),
         Err(_) => false,
