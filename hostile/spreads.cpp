@@ -2,7 +2,7 @@
 // pairs and sets of their states. It shares nothing with the program. The words of a formula, its steps and their spread are those of
 // docs/FORMATS.md, of crates/auto_core/specs/Spread.antt and of crates/formula_auto/specs/Step.antt, the formulas of the rules those of
 // crates/rule_formula/specs/Trees.antt, the lists of steps those of crates/mate_plan/specs/Plan.antt and crates/claim_plan/specs/CheckPlan.antt, and
-// the formulas of distances those of crates/first_sets/specs/RayFormula.antt and crates/period_sets/specs/Question.antt.
+// the formulas of distances those of crates/first_distances/specs/RayFormula.antt and crates/period_sets/specs/Question.antt.
 //
 // usage: spreads decide N MOST < TEXT    the plan of N moves of a position text
 //        spreads describe N MOST < TEXT  this plan, and the formulas of the distances of first moves behind it

@@ -2,8 +2,8 @@
 use Rattle.std.proofs.Common.{◌≡◌, ◌≢◌, ℕ, List, [], ◌∷◌, refl, sym, ap, ◌∙◌, subst}
 use Rattle.std.specs.List.{All}
 use Rattle.std.proofs.lemmas.List.Elements.{All-head, All-tail}
-use Rattle.line_fields.specs.Blanks.{HasNoBlank}
-use Rattle.line_fields.proofs.Blanks.{no_blank_within, same_parts}
+use Rattle.text_fields.specs.Blanks.{HasNoBlank}
+use Rattle.text_fields.proofs.Blanks.{no_blank_within, same_parts}
 use Rattle.arith_desk.specs.Line.{AreFields, parted}
 
 parted_same : (fs gs : List (List ℕ)) → fs ≢ [] → gs ≢ [] → All HasNoBlank fs → All HasNoBlank gs → parted fs ≡ parted gs → fs ≡ gs

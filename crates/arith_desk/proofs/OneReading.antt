@@ -9,7 +9,7 @@ use Rattle.std.proofs.lemmas.List.Elements.{All-head, All-tail}
 use Rattle.track_word.specs.declared.tracks.Var.{Var}
 use Rattle.track_word.specs.declared.atoms.Rel.TheVariants.{Le, Eq}
 use Rattle.track_word.specs.Atom.{IsAtom, IsBound, IsCoefficient}
-use Rattle.arith_desk.specs.declared.words.Connective.TheVariants.{And, Or}
+use Rattle.arith_desk.specs.declared.words.BinaryOp.TheVariants.{And, Or}
 use Rattle.arith_desk.specs.declared.words.Quantifier.TheVariants as quantifiers
 use Rattle.arith_desk.specs.declared.words.Word.{Word}
 use Rattle.arith_desk.specs.declared.words.Word.TheVariants.{Not, Join, Bind, Compare}

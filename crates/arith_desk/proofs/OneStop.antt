@@ -9,7 +9,7 @@ use Rattle.track_word.specs.declared.tracks.Var.{Var}
 use Rattle.track_word.specs.declared.atoms.Rel.{Rel}
 use Rattle.track_word.specs.Atom.{IsAtom, IsBound, IsCoefficient, IsDistinct}
 use Rattle.lin_formula.specs.Free.{IsOneOf}
-use Rattle.arith_desk.specs.declared.words.Connective.{Connective}
+use Rattle.arith_desk.specs.declared.words.BinaryOp.{BinaryOp}
 use Rattle.arith_desk.specs.declared.words.Quantifier.{Quantifier}
 use Rattle.arith_desk.specs.declared.words.Word.{Word}
 use Rattle.arith_desk.specs.declared.words.Word.TheVariants.{Not, Join, Bind, Compare}
@@ -43,7 +43,7 @@ inv_not {fields} rest e (at_letter _ q _ more _ is h) = absurd (let w = (behind 
 inv_not {fields} rest e (in_body _ q x _ more _ low fresh is h) = absurd (let w = (behind fields Not (Bind q) rest (letter x ∷ more) e is).0 in cc)
 inv_not {fields} rest e (in_comparison _ rel _ more _ is h) = absurd (let w = (behind fields Not (Compare rel) rest more e is).0 in cc)
 
-inv_join : (c : Connective) {scope : List Var} {fields : List (List ℕ)} (rest : List (List ℕ)) {left : ℕ} → fields ≡ word_text (Join c) ∷ rest → Stops scope fields left → StopsJoined scope rest left
+inv_join : (c : BinaryOp) {scope : List Var} {fields : List (List ℕ)} (rest : List (List ℕ)) {left : ℕ} → fields ≡ word_text (Join c) ∷ rest → Stops scope fields left → StopsJoined scope rest left
 inv_join c {fields} rest {left} e (at_word _ _ _ h) = absurd (no_word_fails fields rest (Join c) left e h)
 inv_join c {fields} rest e (behind_not _ _ more _ is h) = absurd (let w = (behind fields (Join c) Not rest more e is).0 in cc)
 inv_join c {scope} {fields} rest {left} e (in_first _ d _ more _ is h) = inl (subst (λ l. Stops scope l left) (sym (behind fields (Join c) (Join d) rest more e is).1) h)

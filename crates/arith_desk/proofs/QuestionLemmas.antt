@@ -7,8 +7,8 @@ use Rattle.track_word.specs.Atom.{term_vars}
 use Rattle.lin_formula.specs.Tree.{Tree, IsWellMade, free_vars, memberships, steps, vars_of}
 use Rattle.lin_formula.specs.Free.{IsFree, IsOneOf}
 use Rattle.lin_formula.proofs.FreeVars.{free_vars-free, one_of-with_var, one_of-with_vars}
-use Rattle.arith_desk.specs.declared.words.Connective.{Connective}
-use Rattle.arith_desk.specs.declared.words.Connective.TheVariants.{And, Or}
+use Rattle.arith_desk.specs.declared.words.BinaryOp.{BinaryOp}
+use Rattle.arith_desk.specs.declared.words.BinaryOp.TheVariants.{And, Or}
 use Rattle.arith_desk.specs.declared.words.Quantifier.{Quantifier}
 use Rattle.arith_desk.specs.declared.words.Quantifier.TheVariants as quantifiers
 use Rattle.arith_desk.specs.Line.{AreFields, parted}
@@ -20,7 +20,7 @@ known_terms scope [] x known is = absurd is
 known_terms scope (t ∷ terms) x known (inl is) = subst (λ y. IsOneOf y scope) (sym is) (All-head (λ t. IsOneOf t.1 scope) t terms known)
 known_terms scope (t ∷ terms) x known (inr is) = known_terms scope terms x (All-tail (λ t. IsOneOf t.1 scope) t terms known) is
 
-free_join : (connective : Connective) (f g : Tree) (x : Var) → IsFree x (join connective f g) → IsFree x f ⊎ IsFree x g
+free_join : (connective : BinaryOp) (f g : Tree) (x : Var) → IsFree x (join connective f g) → IsFree x f ⊎ IsFree x g
 free_join And f g x h = h
 free_join Or f g x h = h
 
@@ -48,7 +48,7 @@ none_of : (vars : List Var) → ((x : Var) → IsOneOf x vars → ⊥) → vars 
 none_of [] none = refl
 none_of (x ∷ xs) none = absurd (none x (inl refl))
 
-well_join : (connective : Connective) (f g : Tree) → IsWellMade f → IsWellMade g → IsWellMade (join connective f g)
+well_join : (connective : BinaryOp) (f g : Tree) → IsWellMade f → IsWellMade g → IsWellMade (join connective f g)
 well_join And f g a b = (a, b)
 well_join Or f g a b = (a, b)
 
@@ -62,7 +62,7 @@ well_made scope (Denied f) proper = well_made scope f proper
 well_made scope (Joined connective f g) proper = well_join connective (meaning f) (meaning g) (well_made scope f proper.0) (well_made scope g proper.1)
 well_made scope (Bound quantifier x f) proper = well_bind quantifier x (meaning f) (well_made (x ∷ scope) f proper.2)
 
-names_join : (connective : Connective) (f g : Tree) → memberships f ≡ [] → memberships g ≡ [] → memberships (join connective f g) ≡ []
+names_join : (connective : BinaryOp) (f g : Tree) → memberships f ≡ [] → memberships g ≡ [] → memberships (join connective f g) ≡ []
 names_join And f g a b = ap (λ l. l ++ memberships g) a ∙ b
 names_join Or f g a b = ap (λ l. l ++ memberships g) a ∙ b
 
@@ -87,7 +87,7 @@ letters_more : (y : Var) (ys : List Var) → y.0 < 16 → AreLetters ys → (x :
 letters_more y ys low a x (inl h) = subst (λ (z : Var). z.0 < 16) (sym h) low
 letters_more y ys low a x (inr h) = a x h
 
-letters_join : (connective : Connective) (f g : Tree) → AreLetters (vars_of f) → AreLetters (vars_of g) → AreLetters (vars_of (join connective f g))
+letters_join : (connective : BinaryOp) (f g : Tree) → AreLetters (vars_of f) → AreLetters (vars_of g) → AreLetters (vars_of (join connective f g))
 letters_join And f g a b = λ x h. letters_both (vars_of f) (vars_of g) a b x ((one_of-with_vars x (vars_of f) (vars_of g)).0 h)
 letters_join Or f g a b = λ x h. letters_both (vars_of f) (vars_of g) a b x ((one_of-with_vars x (vars_of f) (vars_of g)).0 h)
 
@@ -111,7 +111,7 @@ all_letters : (vars : List Var) → AreLetters vars → All (λ x. x.0 < 16) var
 all_letters [] h = All-nil (λ x. x.0 < 16)
 all_letters (x ∷ xs) h = All-cons (λ x. x.0 < 16) x xs (h x (inl refl)) (all_letters xs (λ y is. h y (inr is)))
 
-steps_join : (connective : Connective) (f g : Tree) → length (steps (join connective f g)) ≡ length (steps f) + length (steps g) + 1
+steps_join : (connective : BinaryOp) (f g : Tree) → length (steps (join connective f g)) ≡ length (steps f) + length (steps g) + 1
 steps_join And f g = simp length-append (omega arith)
 steps_join Or f g = simp length-append (omega arith)
 

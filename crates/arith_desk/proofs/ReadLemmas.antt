@@ -14,7 +14,7 @@ use Rattle.auto_core.proofs.Orders.{same-var}
 use Rattle.lin_formula.specs.Tree as tree
 use Rattle.lin_formula.specs.Tree.{Tree}
 use Rattle.lin_formula.specs.Free.{IsOneOf}
-use Rattle.arith_desk.specs.declared.words.Connective.{Connective}
+use Rattle.arith_desk.specs.declared.words.BinaryOp.{BinaryOp}
 use Rattle.arith_desk.specs.declared.words.Quantifier.{Quantifier}
 use Rattle.arith_desk.specs.declared.words.Word.TheVariants.{Not, Join, Bind, Compare}
 use Rattle.arith_desk.specs.declared.errors.Stop.{Stop}
@@ -70,7 +70,7 @@ read_not scope fields rest more f made front r is = record {
   means = is ∙ ap (λ t. tree.Not t) r.means;
 }
 
-pub read_joined : {connective : Connective} {scope : List Var} (fields : List (List ℕ)) {rest more : List (List ℕ)} {f : Tree} → fields ≡ word_text (Join connective) ∷ rest
+pub read_joined : {connective : BinaryOp} {scope : List Var} (fields : List (List ℕ)) {rest more : List (List ℕ)} {f : Tree} → fields ≡ word_text (Join connective) ∷ rest
     → IsReadJoined connective scope rest f more → IsRead scope fields f more
 read_joined {connective} fields {more} front r = record {
   typed = Joined connective r.first r.second;
@@ -97,7 +97,7 @@ read_comparison {rel} fields front r = record {
   means = r.means;
 }
 
-pub joined_reads : (connective : Connective) (scope : List Var) (fields mid rest : List (List ℕ)) (f g made : Tree) → IsRead scope fields f mid → IsRead scope mid g rest
+pub joined_reads : (connective : BinaryOp) (scope : List Var) (fields mid rest : List (List ℕ)) (f g made : Tree) → IsRead scope fields f mid → IsRead scope mid g rest
     → made ≡ join connective f g → IsReadJoined connective scope fields made rest
 joined_reads connective scope fields mid rest f g made a b is = record {
   first = a.typed;
@@ -194,7 +194,7 @@ stops_later scope terms (suc due) fields one two left a x some factor known unus
     let less : suc due - 1 ≡ due = omega arith in
     inr (inr (a, x, two, factor, known, unused, front ∙ ap (λ l. signed_decimal a ∷ l) second, subst (λ n. StopsTerms scope (terms ++ (a, x) ∷ []) n two left) less h))
 
-pub stops_joined : (connective : Connective) (scope : List Var) (fields rest : List (List ℕ)) (left : ℕ) → fields ≡ word_text (Join connective) ∷ rest
+pub stops_joined : (connective : BinaryOp) (scope : List Var) (fields rest : List (List ℕ)) (left : ℕ) → fields ≡ word_text (Join connective) ∷ rest
     → StopsJoined scope rest left → Stops scope fields left
 stops_joined connective scope fields rest left front (inl h) = in_first scope connective fields rest left front h
 stops_joined connective scope fields rest left front (inr (f, more, proper, is, h)) =

@@ -1,7 +1,7 @@
 -- The fields of a line, one after another.
 use Rattle.std.proofs.Common.{◌≡◌, ◌≢◌, ℕ, List, [], ◌∷◌, ◌++◌, refl, ap, ◌∙◌, append_assoc}
 use Rattle.std.proofs.lemmas.List.Elements.{All-cons, All-nil}
-use Rattle.line_fields.specs.Blanks.{HasNoBlank}
+use Rattle.text_fields.specs.Blanks.{HasNoBlank}
 use Rattle.arith_desk.specs.Line.{AddsFields, parted}
 
 pub one_field : (line : List ℕ) (old new : List (List ℕ)) → HasNoBlank line → new ≡ old ++ line ∷ [] → AddsFields line old new

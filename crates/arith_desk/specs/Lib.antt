@@ -1,4 +1,4 @@
-pub use Rattle.line_fields.specs.Blanks
+pub use Rattle.text_fields.specs.Blanks
 pub use Rattle.track_word.specs.Atom
 pub use Rattle.lin_formula.specs.Tree
 pub use Rattle.lin_formula.specs.TreeOf

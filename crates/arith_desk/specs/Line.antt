@@ -2,7 +2,7 @@
 use Rattle.std.specs.Prelude.{◌≡◌, ◌≢◌, ℕ, List, [], ◌∷◌, ◌++◌, map}
 use Rattle.std.specs.Borrow.{Bor}
 use Rattle.std.specs.List.{All}
-use Rattle.line_fields.specs.Blanks.{HasNoBlank}
+use Rattle.text_fields.specs.Blanks.{HasNoBlank}
 
 -- fields with one blank between each two
 abbrev pub parted : List (List ℕ) → List ℕ

@@ -11,7 +11,7 @@ use Rattle.lin_formula.specs.Tree.{Tree}
 use Rattle.lin_formula.specs.TreeOf.{tree_of}
 use Rattle.lin_formula.specs.declared.formula.Formula.{Formula}
 use Rattle.lin_formula.specs.Free.{IsOneOf}
-use Rattle.arith_desk.specs.declared.words.Connective.{Connective}
+use Rattle.arith_desk.specs.declared.words.BinaryOp.{BinaryOp}
 use Rattle.arith_desk.specs.declared.words.Quantifier.{Quantifier}
 use Rattle.arith_desk.specs.declared.errors.ArithError.{ArithError}
 use Rattle.arith_desk.specs.declared.errors.ArithError.TheVariants.{Field, Memory}
@@ -68,7 +68,7 @@ pub record IsRead (scope : List Var) (fields : List (List ℕ)) (f : Tree) (rest
   pub means : f ≡ meaning typed
 
 -- the fields begin with two formulas
-pub record IsReadJoined (connective : Connective) (scope : List Var) (fields : List (List ℕ)) (f : Tree)
+pub record IsReadJoined (connective : BinaryOp) (scope : List Var) (fields : List (List ℕ)) (f : Tree)
     (rest : List (List ℕ)) : Type 0 where
   pub first : Typed
   pub second : Typed

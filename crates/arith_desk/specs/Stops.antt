@@ -6,7 +6,7 @@ use Rattle.std.specs.Fmt.{signed_decimal}
 use Rattle.track_word.specs.declared.tracks.Var.{Var}
 use Rattle.track_word.specs.declared.atoms.Rel.{Rel}
 use Rattle.lin_formula.specs.Free.{IsOneOf}
-use Rattle.arith_desk.specs.declared.words.Connective.{Connective}
+use Rattle.arith_desk.specs.declared.words.BinaryOp.{BinaryOp}
 use Rattle.arith_desk.specs.declared.words.Quantifier.{Quantifier}
 use Rattle.arith_desk.specs.declared.words.Word.{Word}
 use Rattle.arith_desk.specs.declared.words.Word.TheVariants.{Not, Join, Bind, Compare}
@@ -60,10 +60,10 @@ pub data Stops : List Var → List (List ℕ) → ℕ → Type 0 where
   at_word : (scope : List Var) (fields : List (List ℕ)) (left : ℕ) → Fails IsWord fields left → Stops scope fields left
   behind_not : (scope : List Var) (fields rest : List (List ℕ)) (left : ℕ) → fields ≡ word_text Not ∷ rest
       → Stops scope rest left → Stops scope fields left
-  in_first : (scope : List Var) (connective : Connective) (fields rest : List (List ℕ)) (left : ℕ)
+  in_first : (scope : List Var) (connective : BinaryOp) (fields rest : List (List ℕ)) (left : ℕ)
       → fields ≡ word_text (Join connective) ∷ rest
       → Stops scope rest left → Stops scope fields left
-  in_second : (scope : List Var) (connective : Connective) (first : Typed) (fields rest : List (List ℕ)) (left : ℕ)
+  in_second : (scope : List Var) (connective : BinaryOp) (first : Typed) (fields rest : List (List ℕ)) (left : ℕ)
       → IsProper scope first → fields ≡ word_text (Join connective) ∷ (spelled first ++ rest)
       → Stops scope rest left → Stops scope fields left
   at_letter : (scope : List Var) (quantifier : Quantifier) (fields rest : List (List ℕ)) (left : ℕ)

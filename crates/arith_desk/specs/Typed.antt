@@ -8,8 +8,8 @@ use Rattle.track_word.specs.Atom.{IsAtom}
 use Rattle.lin_formula.specs.Tree as tree
 use Rattle.lin_formula.specs.Tree.{Tree}
 use Rattle.lin_formula.specs.Free.{IsOneOf}
-use Rattle.arith_desk.specs.declared.words.Connective.{Connective}
-use Rattle.arith_desk.specs.declared.words.Connective.TheVariants.{And, Or}
+use Rattle.arith_desk.specs.declared.words.BinaryOp.{BinaryOp}
+use Rattle.arith_desk.specs.declared.words.BinaryOp.TheVariants.{And, Or}
 use Rattle.arith_desk.specs.declared.words.Quantifier.{Quantifier}
 use Rattle.arith_desk.specs.declared.words.Quantifier.TheVariants as quantifiers
 use Rattle.arith_desk.specs.declared.words.Word.TheVariants as words
@@ -19,7 +19,7 @@ use Rattle.arith_desk.specs.Words.{word_text, letter}
 pub data Typed : Type 0 where
   Compared : Rel → List (ℤ × Var) → ℤ → Typed
   Denied : Typed → Typed
-  Joined : Connective → Typed → Typed → Typed
+  Joined : BinaryOp → Typed → Typed → Typed
   Bound : Quantifier → Var → Typed → Typed
 
 -- the fields of terms, a coefficient and a letter each
@@ -36,7 +36,7 @@ spelled (Denied f) = word_text words.Not ∷ spelled f
 spelled (Joined connective f g) = word_text (words.Join connective) ∷ (spelled f ++ spelled g)
 spelled (Bound quantifier x f) = word_text (words.Bind quantifier) ∷ letter x ∷ spelled f
 
-abbrev pub join : Connective → Tree → Tree → Tree
+abbrev pub join : BinaryOp → Tree → Tree → Tree
 join And f g = tree.And f g
 join Or f g = tree.Or f g
 

@@ -2,7 +2,7 @@
 use Rattle.std.specs.Prelude.{◌≡◌, ◌≢◌, ℕ, ◌+◌, List, [], ◌∷◌, ℤ, pos, negsuc, ◌≤ℤ◌, Option, Some, None, codes}
 use Rattle.track_word.specs.declared.tracks.Var.{Var}
 use Rattle.track_word.specs.declared.atoms.Rel.TheVariants.{Le, Eq}
-use Rattle.arith_desk.specs.declared.words.Connective.TheVariants.{And, Or}
+use Rattle.arith_desk.specs.declared.words.BinaryOp.TheVariants.{And, Or}
 use Rattle.arith_desk.specs.declared.words.Quantifier.TheVariants as quantifiers
 use Rattle.arith_desk.specs.declared.words.Word.{Word}
 use Rattle.arith_desk.specs.declared.words.Word.TheVariants.{Not, Join, Bind, Compare}

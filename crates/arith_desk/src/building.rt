@@ -5,7 +5,7 @@ ghost use Rattle.lin_formula.specs.Tree as tree;
 ghost use Rattle.lin_formula.specs.TreeOf.{tree_of};
 ghost use Rattle.arith_desk.specs.Typed.{bind, join};
 
-use crate::words::{Connective, Quantifier};
+use crate::words::{BinaryOp, Quantifier};
 use lin_formula::{Formula, LinWhy};
 use std::alloc::{AllocError, Global};
 use track_word::{Rel, Var};
@@ -40,15 +40,15 @@ pub fn denied(alloc: Global, f: Formula) -> Result<Formula, AllocError>
 /// Both formulas hold, or one of them does.
 pub fn joined(
     alloc: Global,
-    connective: Connective,
+    connective: BinaryOp,
     f: Formula,
     g: Formula,
 ) -> Result<Formula, AllocError>
     ensures { IfOk result (λ made. tree_of made ≡ join connective (tree_of f) (tree_of g)) }
 {
     let made = match connective {
-        Connective::And => lin_formula::and(alloc, f, g),
-        Connective::Or => lin_formula::or(alloc, f, g),
+        BinaryOp::And => lin_formula::and(alloc, f, g),
+        BinaryOp::Or => lin_formula::or(alloc, f, g),
     };
     match made {
         Ok(made) => Ok(made),

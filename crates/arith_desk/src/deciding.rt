@@ -15,7 +15,7 @@ ghost use Rattle.arith_desk.specs.Truth.{with_zero as with_zero_tree};
 
 use crate::building::joined;
 use crate::slots::is_one_of;
-use crate::words::Connective;
+use crate::words::BinaryOp;
 use auto_core::Auto;
 use auto_reduce::is_empty;
 use auto_search::{Search, TupleRay};
@@ -108,7 +108,7 @@ fn seek(alloc: Global, var: Var, body: &Formula, budget: Budget) -> Result<Truth
 fn with_zero(alloc: Global, f: &Formula) -> Result<Formula, AllocError>
     ensures { IfOk result (λ made. tree_of made ≡ with_zero_tree (tree_of f.now)) }
 {
-    joined(alloc, Connective::And, copy(alloc, f)?, value(Var(16), 0))
+    joined(alloc, BinaryOp::And, copy(alloc, f)?, value(Var(16), 0))
 }
 
 /// The number nearest to 0 that stands in the set beside 0.

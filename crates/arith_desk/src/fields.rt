@@ -2,8 +2,8 @@
 ghost use Rattle.std.specs.Prelude.{OnOk};
 ghost use Rattle.arith_desk.specs.Line.{AddsFields, texts};
 
-use line_fields::split_at_blank;
 use std::alloc::AllocError;
+use text_fields::split_at_blank;
 
 /// Adds the fields of a line.
 pub fn push_fields<'a>(fields: &mut Vec<&'a [u8]>, line: &'a [u8]) -> Result<(), AllocError>

@@ -10,7 +10,7 @@ use crate::building::{bound as bound_formula, compared, denied, joined as joined
 use crate::errors::{ArithError, Stop};
 use crate::fields::push_fields;
 use crate::slots::{Fields, count, factor, fresh_letter, front, known_letter, number, stop_at};
-use crate::words::{Connective, Quantifier, Word, word_of};
+use crate::words::{BinaryOp, Quantifier, Word, word_of};
 use limits::MOST_LINE_BYTES;
 use lin_formula::Formula;
 use std::alloc::{AllocError, Global};
@@ -75,7 +75,7 @@ fn formula<'a>(
 #[cycle(formula)]
 fn joined<'a>(
     alloc: Global,
-    connective: Connective,
+    connective: BinaryOp,
     fields: Fields<'a>,
     scope: &[Var],
 ) -> Result<(Formula, Fields<'a>), Stop>

@@ -4,12 +4,12 @@ ghost use Rattle.std.specs.Fmt.{signed_decimal};
 ghost use Rattle.track_word.specs.declared.tracks.Var.{Var};
 ghost use Rattle.arith_desk.specs.Words.{IsNamed, letter};
 
-use line_fields::read_number;
+use text_fields::read_number;
 use track_word::{Rel, Var};
 
 /// What two formulas are joined by.
 #[derive(Clone, Copy, PartialEq, Eq)]
-pub enum Connective {
+pub enum BinaryOp {
     And,
     Or,
 }
@@ -27,7 +27,7 @@ pub enum Quantifier {
 #[derive(Clone, Copy, PartialEq, Eq)]
 pub enum Word {
     Not,
-    Join(Connective),
+    Join(BinaryOp),
     Bind(Quantifier),
     Compare(Rel),
 }
@@ -40,10 +40,10 @@ pub fn word_of(field: &[u8]) -> Option<Word>
         return Some(Word::Not);
     }
     if field == b"and".as_slice() {
-        return Some(Word::Join(Connective::And));
+        return Some(Word::Join(BinaryOp::And));
     }
     if field == b"or".as_slice() {
-        return Some(Word::Join(Connective::Or));
+        return Some(Word::Join(BinaryOp::Or));
     }
     if field == b"ex".as_slice() {
         return Some(Word::Bind(Quantifier::Ex));

@@ -69,15 +69,15 @@ right_decides Or false = refl
 right_decides AndNot true = refl
 right_decides AndNot false = refl
 
-module _ (g : Absorbing) (tracks : List Var) (a b : Automaton) (connective : Connective) (sinks : AreSinks a b connective g) where
+module _ (g : Absorbing) (tracks : List Var) (a b : Automaton) (connective : Connective) (deciding_states : AreSinks a b connective g) where
   decided : (p q : ℕ) → Absorbs g p q → combined connective (is_final a p) (is_final b q) ≡ deciding connective
-  decided p q (inl e) = ap (λ f. combined connective f (is_final b q)) (sinks.left p e).accepts ∙ left_decides connective (is_final b q)
-  decided p q (inr e) = ap (λ f. combined connective (is_final a p) f) (sinks.right q e).accepts ∙ right_decides connective (is_final a p)
+  decided p q (inl e) = ap (λ f. combined connective f (is_final b q)) (deciding_states.left p e).accepts ∙ left_decides connective (is_final b q)
+  decided p q (inr e) = ap (λ f. combined connective (is_final a p) f) (deciding_states.right q e).accepts ∙ right_decides connective (is_final a p)
 
   -- an absorbing state stays
   stays : (p q letter : ℕ) → Absorbs g p q → Absorbs g (next_state a p (restrict tracks a.tracks letter)) (next_state b q (restrict tracks b.tracks letter))
-  stays p q letter (inl e) = inl (e ∙ ap Some (sym ((sinks.left p e).stays (restrict tracks a.tracks letter) (restrict-below tracks a.tracks letter))))
-  stays p q letter (inr e) = inr (e ∙ ap Some (sym ((sinks.right q e).stays (restrict tracks b.tracks letter) (restrict-below tracks b.tracks letter))))
+  stays p q letter (inl e) = inl (e ∙ ap Some (sym ((deciding_states.left p e).stays (restrict tracks a.tracks letter) (restrict-below tracks a.tracks letter))))
+  stays p q letter (inr e) = inr (e ∙ ap Some (sym ((deciding_states.right q e).stays (restrict tracks b.tracks letter) (restrict-below tracks b.tracks letter))))
 
   stands-on : (x y x' y' : ℕ) → StandsFor g x' y' x y → StandsFor g (absorbed g x' y').0 (absorbed g x' y').1 x y
   stands-on x y x' y' (inl (e, f)) =
@@ -114,7 +114,7 @@ pub record IsPairOf (a b : Automaton) (place : List ℕ) : Type 0 where
   pub right_known : right < length b.accept
   pub is : place ≡ left ∷ right ∷ []
 
-module _ (g : Absorbing) (tracks : List Var) (a b : Automaton) (connective : Connective) (a_valid : IsAutomaton a) (b_valid : IsAutomaton b) (sinks : AreSinks a b connective g) where
+module _ (g : Absorbing) (tracks : List Var) (a b : Automaton) (connective : Connective) (a_valid : IsAutomaton a) (b_valid : IsAutomaton b) (deciding_states : AreSinks a b connective g) where
   stand_in-known : (o p : Option ℕ) → ((state : ℕ) → o ≡ Some state → state < length a.accept) → ((state : ℕ) → p ≡ Some state → state < length b.accept)
       → ((stand_in o p).0 < length a.accept) × ((stand_in o p).1 < length b.accept)
   stand_in-known (Some l) p left right = (left l refl, b_valid.some_state)
@@ -126,7 +126,7 @@ module _ (g : Absorbing) (tracks : List Var) (a b : Automaton) (connective : Con
     where
       one : absorbed g x y ≡ stand_in g.left g.right → ((absorbed g x y).0 < length a.accept) × ((absorbed g x y).1 < length b.accept)
       one e = subst (λ (p : ℕ × ℕ). (p.0 < length a.accept) × (p.1 < length b.accept)) (sym e)
-          (stand_in-known g.left g.right (λ state is. (sinks.left state is).known) (λ state is. (sinks.right state is).known))
+          (stand_in-known g.left g.right (λ state is. (deciding_states.left state is).known) (λ state is. (deciding_states.right state is).known))
 
       by : (b' c : Bool) → absorbs g.left x ≡ b' → absorbs g.right y ≡ c → ((absorbed g x y).0 < length a.accept) × ((absorbed g x y).1 < length b.accept)
       by true c e f = one (absorbed-left g x y e)

@@ -75,9 +75,9 @@ module _ (tracks : List Var) (a b : Automaton) (connective : Connective) where
 pub states_at : (g : Absorbing) (tracks : List Var) (a b : Automaton) (connective : Connective) (pairs : List (ℕ × ℕ)) (number left right : ℕ) → IsAutomaton a → IsAutomaton b
     → AreSinks a b connective g → slice_get pairs number ≡ Some (left, right) → AreNumbered (absorbing_walker g tracks a b connective) (map place_of_pair pairs)
     → (left < length a.accept) × (right < length b.accept)
-states_at g tracks a b connective pairs number left right a_valid b_valid sinks at numbered =
+states_at g tracks a b connective pairs number left right a_valid b_valid deciding_states at numbered =
     let r = All-at (IsReached (absorbing_walker g tracks a b connective)) (map place_of_pair pairs) number (left ∷ right ∷ []) (get_pair pairs number (left, right) at) numbered.reached in
-    let pair = place-pair_of g tracks a b connective a_valid b_valid sinks r.word r.is_word.nonempty in
+    let pair = place-pair_of g tracks a b connective a_valid b_valid deciding_states r.word r.is_word.nonempty in
     let e = sym pair.is ∙ r.leads in
     (subst (λ n. n < length a.accept) (first_of_two _ _ _ _ e) pair.left_known, subst (λ n. n < length b.accept) (second_of_two _ _ _ _ e) pair.right_known)
 
@@ -138,7 +138,7 @@ but_true true false = (λ h. (refl, λ e. true≢false (sym e)), λ h. refl)
 but_true false q = (λ h. absurd (true≢false (sym h)), λ h. absurd (true≢false (sym h.0)))
 
 -- an automaton that accepts the words that lead to accepting pairs accepts those of the product
-module _ (g : Absorbing) (a b m : Automaton) (connective : Connective) (sinks : AreSinks a b connective g) (tracks : m.tracks ≡ with_vars a.tracks b.tracks)
+module _ (g : Absorbing) (a b m : Automaton) (connective : Connective) (deciding_states : AreSinks a b connective g) (tracks : m.tracks ≡ with_vars a.tracks b.tracks)
     (words : (word : List ℕ) → IsWord (length (with_vars a.tracks b.tracks)) word
     → Accepts m word ↔ IsTrue ((absorbing_walker g (with_vars a.tracks b.tracks) a b connective).final (place_of (absorbing_walker g (with_vars a.tracks b.tracks) a b connective) word))) where
   accepts-combined : {word : List ℕ} → IsWord (length m.tracks) word
@@ -147,7 +147,7 @@ module _ (g : Absorbing) (a b m : Automaton) (connective : Connective) (sinks : 
       let is_all = subst (λ t. IsWord (length t) word) tracks is in
       let flag : (absorbing_walker g (with_vars a.tracks b.tracks) a b connective).final (place_of (absorbing_walker g (with_vars a.tracks b.tracks) a b connective) word)
       ≡ combined connective (is_final a (state_of a (part_of (with_vars a.tracks b.tracks) a.tracks word))) (is_final b (state_of b (part_of (with_vars a.tracks b.tracks) b.tracks word))) =
-      same-flag g (with_vars a.tracks b.tracks) a b connective sinks word is.nonempty
+      same-flag g (with_vars a.tracks b.tracks) a b connective deciding_states word is.nonempty
       ∙ ap (both_walker a b connective).final (place_of-pair (with_vars a.tracks b.tracks) a b connective word is.nonempty) in
       let accepts = words word is_all in
       subst (λ t. Accepts m word ↔ IsTrue (combined connective (is_final a (state_of a (part_of t a.tracks word))) (is_final b (state_of b (part_of t b.tracks word))))) (sym tracks)
@@ -157,29 +157,29 @@ pub IsProduct-words : (g : Absorbing) (a b m : Automaton) (connective : Connecti
     → ((word : List ℕ) → IsWord (length (with_vars a.tracks b.tracks)) word
     → Accepts m word ↔ IsTrue ((absorbing_walker g (with_vars a.tracks b.tracks) a b connective).final (place_of (absorbing_walker g (with_vars a.tracks b.tracks) a b connective) word)))
     → AllReached m → IsProduct a b connective m
-IsProduct-words g a b m connective sinks tracks words reached = record { tracks = tracks; words = accepts connective sinks words; reached = reached }
+IsProduct-words g a b m connective deciding_states tracks words reached = record { tracks = tracks; words = accepts connective deciding_states words; reached = reached }
   where
     accepts : (connective : Connective) → AreSinks a b connective g
         → ((word : List ℕ) → IsWord (length (with_vars a.tracks b.tracks)) word
         → Accepts m word ↔ IsTrue ((absorbing_walker g (with_vars a.tracks b.tracks) a b connective).final (place_of (absorbing_walker g (with_vars a.tracks b.tracks) a b connective) word)))
         → AcceptsBy connective a b m
-    accepts And sinks words = λ word is. let one = accepts-combined g a b m And sinks tracks words is in let two = both_true _ _ in (λ h. two.0 (one.0 h), λ h. one.1 (two.1 h))
-    accepts Or sinks words = λ word is. let one = accepts-combined g a b m Or sinks tracks words is in let two = one_true _ _ in (λ h. two.0 (one.0 h), λ h. one.1 (two.1 h))
-    accepts AndNot sinks words = λ word is. let one = accepts-combined g a b m AndNot sinks tracks words is in let two = but_true _ _ in (λ h. two.0 (one.0 h), λ h. one.1 (two.1 h))
+    accepts And deciding_states words = λ word is. let one = accepts-combined g a b m And deciding_states tracks words is in let two = both_true _ _ in (λ h. two.0 (one.0 h), λ h. one.1 (two.1 h))
+    accepts Or deciding_states words = λ word is. let one = accepts-combined g a b m Or deciding_states tracks words is in let two = one_true _ _ in (λ h. two.0 (one.0 h), λ h. one.1 (two.1 h))
+    accepts AndNot deciding_states words = λ word is. let one = accepts-combined g a b m AndNot deciding_states tracks words is in let two = but_true _ _ in (λ h. two.0 (one.0 h), λ h. one.1 (two.1 h))
 
 -- the automaton of a walk over pairs is that of the product
-pub IsProduct-walked : (g : Absorbing) (a b m : Automaton) (connective : Connective) → AreSinks a b connective g
+pub IsProduct-explored : (g : Absorbing) (a b m : Automaton) (connective : Connective) → AreSinks a b connective g
     → IsWalked (absorbing_walker g (with_vars a.tracks b.tracks) a b connective) m → IsProduct a b connective m
-IsProduct-walked g a b m connective sinks walked = IsProduct-words g a b m connective sinks walked.tracks walked.words walked.reached
+IsProduct-explored g a b m connective deciding_states explored = IsProduct-words g a b m connective deciding_states explored.tracks explored.words explored.reached
 
 -- the states of a numbered pair, however the pairs are listed
 pub states_in : {g : Absorbing} (tracks : List Var) {a b : Automaton} {connective : Connective} (pairs listed : List (ℕ × ℕ)) (number : ℕ) → IsAutomaton a → IsAutomaton b
     → AreSinks a b connective g → listed ≡ pairs → number < length (map place_of_pair pairs) → AreNumbered (absorbing_walker g tracks a b connective) (map place_of_pair pairs)
     → ((get_or listed number (0, 0)).0 < length a.accept) × ((get_or listed number (0, 0)).1 < length b.accept)
-states_in {g} tracks {a} {b} {connective} pairs listed number a_valid b_valid sinks same known numbered =
+states_in {g} tracks {a} {b} {connective} pairs listed number a_valid b_valid deciding_states same known numbered =
     let within : number < length pairs = let l = length-map pairs place_of_pair in omega (arith, l, known) in
     let at = slice_get-get_or pairs number (0, 0) within in
-    let found = states_at g tracks a b connective pairs number (get_or pairs number (0, 0)).0 (get_or pairs number (0, 0)).1 a_valid b_valid sinks at numbered in (
+    let found = states_at g tracks a b connective pairs number (get_or pairs number (0, 0)).0 (get_or pairs number (0, 0)).1 a_valid b_valid deciding_states at numbered in (
       subst (λ (l : List (ℕ × ℕ)). (get_or {A = ℕ × ℕ} l number (0, 0)).0 < length a.accept) (sym same) found.0,
       subst (λ (l : List (ℕ × ℕ)). (get_or {A = ℕ × ℕ} l number (0, 0)).1 < length b.accept) (sym same) found.1,
     )

@@ -37,7 +37,7 @@ pub struct Both<'a> {
     ghost are_tracks: { AreTracks tracks.items },
     ghost left_side: { IsSide tracks.items left.now product.sides.left },
     ghost right_side: { IsSide tracks.items right.now product.sides.right },
-    ghost sinks: { AreSinks left.now right.now connective product.sides.absorbing },
+    ghost deciding_states: { AreSinks left.now right.now connective product.sides.absorbing },
 }
 
 impl<'a> Both<'a> {
@@ -49,7 +49,7 @@ impl<'a> Both<'a> {
         absorbing: Absorbing,
     ) -> Result<Self, AllocError>
         requires tracks { length (with_vars left.now.tracks right.now.tracks) ≤ MOST_TRACKS }
-        requires sinks { AreSinks left.now right.now connective absorbing }
+        requires deciding_states { AreSinks left.now right.now connective absorbing }
         ensures left { IfOk result (λ both. both.left.now ≡ left.now) }
         ensures right { IfOk result (λ both. both.right.now ≡ right.now) }
         ensures connective { IfOk result (λ both. both.connective ≡ connective) }

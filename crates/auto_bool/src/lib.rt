@@ -20,4 +20,4 @@ pub use nothing::none_of;
 pub use one_side::side;
 pub use operand::{Operand, fits_with_itself, operand_by};
 pub use product::{difference, join, meet, pairs_fit};
-pub use sink::sinks;
+pub use sink::deciding_states;

@@ -4,18 +4,18 @@ ghost use Rattle.track_word.specs.Tracks.{IsAscending};
 ghost use Rattle.auto_bool.specs.Sides.{IsSide, AreAmong};
 
 use auto_core::Auto;
-use diagram_product::LentSide;
+use diagram_product::LentReader;
 use limits::MOST_TRACKS;
 use std::alloc::{AllocError, Global};
 use track_word::{Var, places_of};
 
 /// The nodes of an automaton, where they stand, read over more tracks.
-pub fn side<'a>(alloc: Global, all: &[Var], a: &'a Auto) -> Result<LentSide<'a>, AllocError>
+pub fn side<'a>(alloc: Global, all: &[Var], a: &'a Auto) -> Result<LentReader<'a>, AllocError>
     requires all { length all.now ≤ MOST_TRACKS }
     requires ascending { IsAscending all.now }
     requires among { AreAmong all.now a.now.tracks }
     ensures { IfOk result (λ side. IsSide all.now a.now (Some side)) }
 {
     let places = places_of(alloc, all, a.tracks())?;
-    Ok(LentSide::new(a.diagrams(), places))
+    Ok(LentReader::new(a.diagrams(), places))
 }

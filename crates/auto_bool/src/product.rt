@@ -9,9 +9,9 @@ ghost use Rattle.auto_bool.specs.Words.{AcceptsBy, AcceptsBoth, AcceptsEither, A
 
 use crate::both::Both;
 use crate::connective::Connective;
-use crate::sink::sinks;
+use crate::sink::deciding_states;
 use auto_core::Auto;
-use auto_walk::{Grown, walked};
+use auto_walk::{Grown, explored};
 use diagram_product::Absorbing;
 use limits::{Budget, MOST_TRACKS};
 use std::alloc::Global;
@@ -69,8 +69,8 @@ fn absorbed_product(
     ensures ok { IfOk result (IsProduct a.now b.now connective) }
     ensures few { IfOk result (λ m. length m.accept ≤ budget) }
 {
-    let both = Both::new(alloc, a, b, connective, sinks(a, b, connective))?;
-    let m = walked(alloc, both, budget)?;
+    let both = Both::new(alloc, a, b, connective, deciding_states(a, b, connective))?;
+    let m = explored(alloc, both, budget)?;
     Ok(m)
 }
 
@@ -90,7 +90,7 @@ fn exact_product(
     ensures many { result ≡ Err Grown.Over → MoreThan (both_walker a.now b.now connective) budget }
 {
     let both = Both::new(alloc, a, b, connective, Absorbing::nothing())?;
-    walked(alloc, both, budget)
+    explored(alloc, both, budget)
 }
 
 /// The automaton of the words over the tracks of both that both accept, each word read on the argument's own tracks: the product of

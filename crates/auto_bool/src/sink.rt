@@ -8,8 +8,8 @@ use diagram_product::Absorbing;
 use letter_diagram::Shape;
 
 /// The first state of either side, where there is such, that decides for good what the connective gives.
-pub fn sinks(a: &Auto, b: &Auto, connective: Connective) -> Absorbing
-    ensures sinks { AreSinks a.now b.now connective result }
+pub fn deciding_states(a: &Auto, b: &Auto, connective: Connective) -> Absorbing
+    ensures deciding_states { AreSinks a.now b.now connective result }
     ensures first { AreFirstSinks a.now b.now connective result }
 {
     Absorbing {

@@ -11,7 +11,7 @@ use Rattle.track_word.specs.declared.atoms.Rel.{Rel}
 use Rattle.track_word.specs.Atom.{Compares}
 use Rattle.letter_diagram.specs.declared.diagrams.Shape.{Shape}
 use Rattle.letter_diagram.specs.Diagram.{Grows}
-use Rattle.auto_core.specs.declared.sums.Span.{Span}
+use Rattle.auto_core.specs.declared.sums.ValueRange.{ValueRange}
 use Rattle.auto_core.specs.Sums.{gain, loss, IsNear, IsSmall, IsSpan, IsSpanOf, IsSumRow, AreSumRows, AreFlagsOf}
 use Rattle.auto_core.proofs.SumRows.{IsSumRow-grows}
 
@@ -42,7 +42,7 @@ loss-small (negsuc n) h = omega (arith, ints, h)
 pub SFits-near : {z : ℤ} → IsNear 0 z → SFits w32 z
 SFits-near near = let low = near.low in let high = near.high in omega (arith, ints, low, high)
 
-pub AreFlagsOf-push : {rel : Rel} {bound : ℤ} {span : Span} {flags : List Bool} (b : Bool) (state : ℕ) → length flags ≡ state → AreFlagsOf rel bound span flags
+pub AreFlagsOf-push : {rel : Rel} {bound : ℤ} {span : ValueRange} {flags : List Bool} (b : Bool) (state : ℕ) → length flags ≡ state → AreFlagsOf rel bound span flags
     → IsTrue b ↔ Compares rel (span.low +ℤ pos state) bound → AreFlagsOf rel bound span (flags ++ b ∷ [])
 AreFlagsOf-push {flags} b state size are is = record {
   tells = λ i h. elim (cases_lt i (length flags)) [
@@ -54,14 +54,14 @@ AreFlagsOf-push {flags} b state size are is = record {
   ];
 }
 
-pub AreSumRows-grows : {old new : List Shape} {weights : List ℤ} {span : Span} {nodes : List ℕ} → Grows old new → AreSumRows old weights span nodes → AreSumRows new weights span nodes
+pub AreSumRows-grows : {old new : List Shape} {weights : List ℤ} {span : ValueRange} {nodes : List ℕ} → Grows old new → AreSumRows old weights span nodes → AreSumRows new weights span nodes
 AreSumRows-grows grows are =
     record {
       rows =
           λ i h. IsSumRow-grows grows (are.rows i h);
     }
 
-pub AreSumRows-push : {shapes : List Shape} {weights : List ℤ} {span : Span} {nodes : List ℕ} {node : ℕ} (state : ℕ) → length nodes ≡ state → AreSumRows shapes weights span nodes
+pub AreSumRows-push : {shapes : List Shape} {weights : List ℤ} {span : ValueRange} {nodes : List ℕ} {node : ℕ} (state : ℕ) → length nodes ≡ state → AreSumRows shapes weights span nodes
     → IsSumRow shapes weights span 0 ((span.low +ℤ pos state) +ℤ (span.low +ℤ pos state)) node → AreSumRows shapes weights span (nodes ++ node ∷ [])
 AreSumRows-push {nodes} {node} state size are is = record {
   rows = λ i h. elim (cases_lt i (length nodes)) [
@@ -74,16 +74,16 @@ AreSumRows-push {nodes} {node} state size are is = record {
 }
 
 -- a row that was made for a number that is twice the state's value
-pub IsSumRow-doubled : {shapes : List Shape} {weights : List ℤ} {span : Span} (state : ℕ) {sum : ℤ} {node : ℕ} → IsNear 0 sum
+pub IsSumRow-doubled : {shapes : List Shape} {weights : List ℤ} {span : ValueRange} (state : ℕ) {sum : ℤ} {node : ℕ} → IsNear 0 sum
     → sum ≡ (span.low +ℤ pos state) +ℤ (span.low +ℤ pos state) → IsSumRow shapes weights span 0 (to_z w32 (of_z w32 sum)) node
     → IsSumRow shapes weights span 0 ((span.low +ℤ pos state) +ℤ (span.low +ℤ pos state)) node
 IsSumRow-doubled {shapes} {weights} {span} state {sum} {node} near same is = subst (λ s. IsSumRow shapes weights span 0 s node) (to_z-of_z w32 sum (SFits-near near) ∙ same) is
 
-pub flag-is : (rel : Rel) (bound : ℤ) {span : Span} (state : ℕ) (value : ℤ) (b : Bool) → IsSpan span → (span.low +ℤ pos state) ≤ℤ span.high → value ≡ span.low +ℤ pos state
+pub flag-is : (rel : Rel) (bound : ℤ) {span : ValueRange} (state : ℕ) (value : ℤ) (b : Bool) → IsSpan span → (span.low +ℤ pos state) ≤ℤ span.high → value ≡ span.low +ℤ pos state
     → IsTrue b ↔ Compares rel (to_z w32 (of_z w32 value)) bound → IsTrue b ↔ Compares rel (span.low +ℤ pos state) bound
 flag-is rel bound {span} state value b is within same tells = subst (λ v. IsTrue b ↔ Compares rel v bound) (roundtrip value span state is within same) tells
   where
-    roundtrip : (value : ℤ) (span : Span) (state : ℕ) → IsSpan span → (span.low +ℤ pos state) ≤ℤ span.high
+    roundtrip : (value : ℤ) (span : ValueRange) (state : ℕ) → IsSpan span → (span.low +ℤ pos state) ≤ℤ span.high
         → value ≡ span.low +ℤ pos state → to_z w32 (of_z w32 value) ≡ span.low +ℤ pos state
     roundtrip value span state is within same = let low = is.low in let high = is.high in omega (arith, ints, low, high, within, same)
 

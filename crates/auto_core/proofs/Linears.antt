@@ -10,7 +10,7 @@ use Rattle.track_word.specs.Tracks.{IsAscending, place, word_values}
 use Rattle.track_word.specs.Atom.{IsAtom, IsCoefficient, sum_of, term_vars, atom_tracks}
 use Rattle.letter_diagram.specs.declared.diagrams.Shape.{Shape}
 use Rattle.letter_diagram.specs.Diagram.{map_at, LooksBelow}
-use Rattle.auto_core.specs.declared.sums.Span.{Span}
+use Rattle.auto_core.specs.declared.sums.ValueRange.{ValueRange}
 use Rattle.auto_core.specs.Automaton.{Automaton, IsAutomaton, width, first_state, next_state, state_of}
 use Rattle.auto_core.specs.Words.{AcceptsWhere}
 use Rattle.auto_core.specs.Rows.{AreRows, row_of, rows_of}
@@ -76,10 +76,10 @@ module _ (terms ordered : List (ℤ × Var)) (tracks : List Var) (weights : List
       ∙ total-sum tracks ordered word ∙ ap (λ l. sum_of l (word_values tracks word)) are.is
       ∙ sum-ordered terms (word_values tracks word) ∙ ap (λ t. sum_of terms (word_values t word)) tracks-atom
 
-stands-within : (span : Span) (x : ℤ) (s states : ℕ) → StandsFor span x s → pos states +ℤ span.low ≡ span.high +ℤ pos 1 → s < states
+stands-within : (span : ValueRange) (x : ℤ) (s states : ℕ) → StandsFor span x s → pos states +ℤ span.low ≡ span.high +ℤ pos 1 → s < states
 stands-within span x s states is count = let w = is.within in omega (arith, ints, w, count)
 
-row-narrow : (shapes : List Shape) (weights : List ℤ) {span : Span} (sum : ℤ) (node tracks : ℕ) → IsSpan span → length weights ≡ tracks → IsSumRow shapes weights span 0 sum node
+row-narrow : (shapes : List Shape) (weights : List ℤ) {span : ValueRange} (sum : ℤ) (node tracks : ℕ) → IsSpan span → length weights ≡ tracks → IsSumRow shapes weights span 0 sum node
     → LooksBelow shapes node tracks
 row-narrow shapes weights {span} sum node tracks is size row = record {
   same = λ a b bits.
@@ -89,7 +89,7 @@ row-narrow shapes weights {span} sum node tracks is size row = record {
 }
 
 -- the nodes of the rows of sums are rows of an automaton
-pub AreRows-sums : (tracks : List Var) {shapes : List Shape} {weights opposite : List ℤ} {span : Span} {first : ℕ} {rows : List ℕ} (accept : List Bool) → IsSpan span
+pub AreRows-sums : (tracks : List Var) {shapes : List Shape} {weights opposite : List ℤ} {span : ValueRange} {first : ℕ} {rows : List ℕ} (accept : List Bool) → IsSpan span
     → IsAscending tracks → length tracks ≤ 8 → length weights ≡ length tracks → length opposite ≡ length tracks
     → pos (length rows) +ℤ span.low ≡ span.high +ℤ pos 1 → pos (length accept) +ℤ span.low ≡ span.high +ℤ pos 1 → IsSumRow shapes opposite span 0 (pos 0) first
     → AreSumRows shapes weights span rows → AreRows tracks shapes first rows accept
@@ -114,7 +114,7 @@ AreRows-sums tracks {shapes} {weights} {opposite} {span} {first} {rows} accept i
           (map_at shapes (get_or rows i d) letter) (length accept) ((at i d h).map letter) count;
     }
 
-module _ (a : Automaton) (shapes : List Shape) (weights opposite : List ℤ) (bound : ℤ) (span : Span) (first : ℕ) (rows : List ℕ)
+module _ (a : Automaton) (shapes : List Shape) (weights opposite : List ℤ) (bound : ℤ) (span : ValueRange) (first : ℕ) (rows : List ℕ)
     (is_span : IsSpanOf weights bound span) (negative : opposite ≡ map neg_ℤ weights)
     (first_is : a.first ≡ row_of shapes (width a) first) (next_is : a.next ≡ rows_of shapes (width a) rows) (states : length rows ≡ length a.accept)
     (first_row : IsSumRow shapes opposite span 0 (pos 0) first) (are : AreSumRows shapes weights span rows) where

@@ -8,7 +8,7 @@ use Rattle.track_word.proofs.LetterBits.{bit_cases}
 use Rattle.track_word.specs.declared.atoms.Rel.{Rel}
 use Rattle.track_word.specs.declared.atoms.Rel.TheVariants.{Le, Eq}
 use Rattle.track_word.specs.Atom.{Compares}
-use Rattle.auto_core.specs.declared.sums.Span.{Span}
+use Rattle.auto_core.specs.declared.sums.ValueRange.{ValueRange}
 use Rattle.auto_core.specs.Sums.{gain, loss, weight_from, IsSpan, IsSpanOf, StandsFor}
 
 -- what a letter adds lies between what the weights can take away and what they can add
@@ -54,14 +54,14 @@ weight-same (w ∷ weights) track a b same =
     ∙ ap (λ z. (w *ℤ pos (bit_at b track)) +ℤ z) (weight-same weights (suc track) a b (λ k h. same k (omega (arith, h))))
 
 -- a sum has one state
-pub StandsFor-one : {span : Span} (x : ℤ) (s t : ℕ) → IsSpan span → StandsFor span x s → StandsFor span x t → s ≡ t
+pub StandsFor-one : {span : ValueRange} (x : ℤ) (s t : ℕ) → IsSpan span → StandsFor span x s → StandsFor span x t → s ≡ t
 StandsFor-one {span} x s t is a b =
     by_lt_z x span.low (λ h. let h' : x ≤ℤ span.low = omega (arith, ints, h) in a.below h' ∙ sym (b.below h'))
     (λ low. by_lt_z span.high x (λ h. let h' : span.high ≤ℤ x = omega (arith, ints, h) in let p = a.above h' in let q = b.above h' in omega (arith, ints, p, q))
     (λ high. let p = a.between low high in let q = b.between low high in omega (arith, ints, p, q)))
 
 -- one more letter after a sum, from the value of its state
-pub StandsFor-more : {weights : List ℤ} {bound : ℤ} {span : Span} (x d : ℤ) (s t : ℕ) → IsSpanOf weights bound span
+pub StandsFor-more : {weights : List ℤ} {bound : ℤ} {span : ValueRange} (x d : ℤ) (s t : ℕ) → IsSpanOf weights bound span
     → IsBetween (sum_by loss weights) (sum_by gain weights) d → StandsFor span x s
     → StandsFor span (((span.low +ℤ pos s) +ℤ (span.low +ℤ pos s)) +ℤ d) t → StandsFor span (x +ℤ x +ℤ d) t
 StandsFor-more {span} x d s t is between here there =
@@ -98,7 +98,7 @@ StandsFor-more {span} x d s t is between here there =
     subst (λ z. StandsFor span z t) (let e : ((span.low +ℤ pos s) +ℤ (span.low +ℤ pos s)) +ℤ d ≡ x +ℤ x +ℤ d = omega (arith, ints, same) in e) there))
 
 -- the value of a sum's state compares with the bound as the sum does
-pub Compares-state : (rel : Rel) {weights : List ℤ} {bound : ℤ} {span : Span} {x : ℤ} {s : ℕ} → IsSpanOf weights bound span → StandsFor span x s
+pub Compares-state : (rel : Rel) {weights : List ℤ} {bound : ℤ} {span : ValueRange} {x : ℤ} {s : ℕ} → IsSpanOf weights bound span → StandsFor span x s
     → Compares rel (span.low +ℤ pos s) bound ↔ Compares rel x bound
 Compares-state rel {bound} {span} {x} {s} is here =
     let lower = is.below in

@@ -9,10 +9,10 @@ use Rattle.std.proofs.lemmas.List.{drop_more}
 use Rattle.track_word.proofs.LetterBits.{bit_cases}
 use Rattle.letter_diagram.specs.declared.diagrams.Shape.{Shape}
 use Rattle.letter_diagram.specs.Diagram.{map_at, top_track, chosen, Grows}
-use Rattle.auto_core.specs.declared.sums.Span.{Span}
+use Rattle.auto_core.specs.declared.sums.ValueRange.{ValueRange}
 use Rattle.auto_core.specs.Sums.{weight_from, StandsFor, IsSumRow, RemembersSums, key_eq}
 
-pub IsSumRow-grows : {old new : List Shape} {weights : List ℤ} {span : Span} {track : ℕ} {sum : ℤ} {node : ℕ} → Grows old new → IsSumRow old weights span track sum node
+pub IsSumRow-grows : {old new : List Shape} {weights : List ℤ} {span : ValueRange} {track : ℕ} {sum : ℤ} {node : ℕ} → Grows old new → IsSumRow old weights span track sum node
     → IsSumRow new weights span track sum node
 IsSumRow-grows {node} grows is =
     let known = is.known in
@@ -25,7 +25,7 @@ IsSumRow-grows {node} grows is =
       top = omega arith;
     }
 
-pub RemembersSums-grows : {S : Type 0} {old new : List Shape} {weights : List ℤ} {span : Span} {memo : HashMap (ℕ × ℤ) ℕ S} → Grows old new → RemembersSums old weights span memo
+pub RemembersSums-grows : {S : Type 0} {old new : List Shape} {weights : List ℤ} {span : ValueRange} {memo : HashMap (ℕ × ℤ) ℕ S} → Grows old new → RemembersSums old weights span memo
     → RemembersSums new weights span memo
 RemembersSums-grows grows all = record { rows = λ track sum node at. IsSumRow-grows grows (all.rows track sum node at) }
 
@@ -35,7 +35,7 @@ key_eq-true a c b d h = (Decides-and (nat_eq a c) (int_eq b d) (Decides-eqb a c)
 some-same : (a b : ℕ) → Some a ≡ Some b → a ≡ b
 some-same a b e = cc
 
-pub RemembersSums-insert : {S : Type 0} {shapes : List Shape} {weights : List ℤ} {span : Span} {memo : HashMap (ℕ × ℤ) ℕ S} (new : HashMap (ℕ × ℤ) ℕ S) {track : ℕ} {sum : ℤ} {node : ℕ}
+pub RemembersSums-insert : {S : Type 0} {shapes : List Shape} {weights : List ℤ} {span : ValueRange} {memo : HashMap (ℕ × ℤ) ℕ S} (new : HashMap (ℕ × ℤ) ℕ S) {track : ℕ} {sum : ℤ} {node : ℕ}
     → RemembersSums shapes weights span memo → Updates key_eq memo new (track, sum) (Some node)
     → IsSumRow shapes weights span track sum node → RemembersSums shapes weights span new
 RemembersSums-insert {shapes} {weights} {span} new {track} {sum} {node} all updates is = record {
@@ -52,7 +52,7 @@ RemembersSums-insert {shapes} {weights} {span} new {track} {sum} {node} all upda
         subst P same (subst (IsSumRow shapes weights span track sum) one is)
     by t s n at false e = all.rows t s n (sym (updates.2 (t, s) e) ∙ at)
 
-pub IsSumRow-leaf : (shapes : List Shape) (weights : List ℤ) {span : Span} (track : ℕ) {sum : ℤ} (node : ℕ) {state : ℕ} → track ≡ length weights → track ≤ 20 → node < length shapes
+pub IsSumRow-leaf : (shapes : List Shape) (weights : List ℤ) {span : ValueRange} (track : ℕ) {sum : ℤ} (node : ℕ) {state : ℕ} → track ≡ length weights → track ≤ 20 → node < length shapes
     → ((letter : ℕ) → map_at shapes node letter ≡ state) → top_track shapes node ≡ 20 → StandsFor span sum state
     → IsSumRow shapes weights span track sum node
 IsSumRow-leaf shapes weights {span} track {sum} node {state} end few known map top stands = record {
@@ -67,7 +67,7 @@ IsSumRow-leaf shapes weights {span} track {sum} node {state} end few known map t
     all-dropped [] = refl
     all-dropped (w ∷ weights) = all-dropped weights
 
-pub IsSumRow-test : {shapes : List Shape} {weights : List ℤ} {span : Span} (track : ℕ) {sum : ℤ} (weight : ℤ) (low high node : ℕ) → track < length weights
+pub IsSumRow-test : {shapes : List Shape} {weights : List ℤ} {span : ValueRange} (track : ℕ) {sum : ℤ} (weight : ℤ) (low high node : ℕ) → track < length weights
     → weight ≡ get_or weights track (pos 0) → node < length shapes → track ≤ top_track shapes node
     → ((letter : ℕ) → map_at shapes node letter ≡ chosen shapes track low high letter) → IsSumRow shapes weights span (track + 1) sum low
     → IsSumRow shapes weights span (track + 1) (sum +ℤ weight) high → IsSumRow shapes weights span track sum node
@@ -101,7 +101,7 @@ IsSumRow-test {shapes} {weights} {span} track {sum} weight low high node within 
     set : (sum weight rest : ℤ) (bit : ℕ) → bit ≡ 1 → (sum +ℤ weight) +ℤ rest ≡ sum +ℤ ((weight *ℤ pos bit) +ℤ rest)
     set sum weight rest bit o = rw o (omega (arith, ints))
 
-pub RemembersSums-empty : {S : Type 0} (shapes : List Shape) (weights : List ℤ) (span : Span) (memo : HashMap (ℕ × ℤ) ℕ S) → IsEmpty memo → RemembersSums shapes weights span memo
+pub RemembersSums-empty : {S : Type 0} (shapes : List Shape) (weights : List ℤ) (span : ValueRange) (memo : HashMap (ℕ × ℤ) ℕ S) → IsEmpty memo → RemembersSums shapes weights span memo
 RemembersSums-empty shapes weights span memo empty = record {
   rows = λ track sum node at. absurd (nothing node (rw empty at at));
 }

@@ -10,7 +10,7 @@ use Rattle.track_word.specs.Tracks.{IsAscending}
 use Rattle.track_word.specs.Atom.{Compares}
 use Rattle.letter_diagram.specs.declared.diagrams.Shape.{Shape}
 use Rattle.letter_diagram.specs.Diagram.{map_at, top_track}
-use Rattle.auto_core.specs.declared.sums.Span.{Span}
+use Rattle.auto_core.specs.declared.sums.ValueRange.{ValueRange}
 
 -- terms ascending by their variables, with one more
 abbrev pub with_term : ℤ × Var → List (ℤ × Var) → List (ℤ × Var)
@@ -75,13 +75,13 @@ pub record IsNear (track : ℕ) (sum : ℤ) : Type 0 where
   pub high : sum ≤ℤ pos (3000 + 64 * track)
 
 -- at least two values, not far from 0
-pub record IsSpan (span : Span) : Type 0 where
+pub record IsSpan (span : ValueRange) : Type 0 where
   pub some : (span.low +ℤ pos 1) ≤ℤ span.high
   pub low : negsuc 1499 ≤ℤ span.low
   pub high : span.high ≤ℤ pos 1499
 
 -- the bound lies within, and from an end no letter leads back
-pub record IsSpanOf (weights : List ℤ) (bound : ℤ) (span : Span) : Type 0 where
+pub record IsSpanOf (weights : List ℤ) (bound : ℤ) (span : ValueRange) : Type 0 where
   pub is_span : IsSpan span
   pub below : (span.low +ℤ pos 1) ≤ℤ bound
   pub above : (bound +ℤ pos 1) ≤ℤ span.high
@@ -90,14 +90,14 @@ pub record IsSpanOf (weights : List ℤ) (bound : ℤ) (span : Span) : Type 0 wh
   pub size : span.high ≤ℤ (span.low +ℤ pos (reach_of weights + unsigned_abs bound + 2))
 
 -- the state of the sum: its distance from the lowest value, or an end
-pub record StandsFor (span : Span) (sum : ℤ) (state : ℕ) : Type 0 where
+pub record StandsFor (span : ValueRange) (sum : ℤ) (state : ℕ) : Type 0 where
   pub within : (span.low +ℤ pos state) ≤ℤ span.high
   pub below : sum ≤ℤ span.low → state ≡ 0
   pub between : span.low ≤ℤ sum → sum ≤ℤ span.high → span.low +ℤ pos state ≡ sum
   pub above : span.high ≤ℤ sum → span.low +ℤ pos state ≡ span.high
 
 -- the node's map leads a letter to the state of the sum and the weights of its bits from a track on
-pub record IsSumRow (shapes : List Shape) (weights : List ℤ) (span : Span) (track : ℕ) (sum : ℤ) (node : ℕ) : Type
+pub record IsSumRow (shapes : List Shape) (weights : List ℤ) (span : ValueRange) (track : ℕ) (sum : ℤ) (node : ℕ) : Type
     0 where
   pub known : node < length shapes
   pub map : (letter : ℕ)
@@ -108,17 +108,17 @@ abbrev pub key_eq : ℕ × ℤ → ℕ × ℤ → Bool
 key_eq p q = nat_eq p.0 q.0 && int_eq p.1 q.1
 
 -- the nodes in a memo are such
-pub record RemembersSums {S : Type 0} (shapes : List Shape) (weights : List ℤ) (span : Span)
+pub record RemembersSums {S : Type 0} (shapes : List Shape) (weights : List ℤ) (span : ValueRange)
     (memo : HashMap (ℕ × ℤ) ℕ S) : Type 0 where
   pub rows : (track : ℕ) (sum : ℤ) (node : ℕ) → get key_eq memo (track, sum) ≡ Some node
       → IsSumRow shapes weights span track sum node
 
 -- the rows of the states, whose values are doubled by a letter
-pub record AreSumRows (shapes : List Shape) (weights : List ℤ) (span : Span) (nodes : List ℕ) : Type 0 where
+pub record AreSumRows (shapes : List Shape) (weights : List ℤ) (span : ValueRange) (nodes : List ℕ) : Type 0 where
   pub rows : (i : ℕ) → i < length nodes
       → IsSumRow shapes weights span 0 ((span.low +ℤ pos i) +ℤ (span.low +ℤ pos i)) (slice_index nodes i)
 
 -- the flags tell whether the states' values compare with the bound
-pub record AreFlagsOf (rel : Rel) (bound : ℤ) (span : Span) (flags : List Bool) : Type 0 where
+pub record AreFlagsOf (rel : Rel) (bound : ℤ) (span : ValueRange) (flags : List Bool) : Type 0 where
   pub tells : (i : ℕ) → i < length flags
       → IsTrue (slice_index_or flags i false) ↔ Compares rel (span.low +ℤ pos i) bound

@@ -13,7 +13,7 @@ ghost use Rattle.auto_core.specs.Sums.{ordered_terms, IsSmall, IsSumRow, AreSumR
 ghost use Rattle.auto_core.specs.Words.{AcceptsWhere};
 
 use crate::auto::Auto;
-use crate::sums::{Span, row};
+use crate::sums::{ValueRange, row};
 use crate::terms::{coefficients, negated, ordered, variables};
 use letter_diagram::{Diagrams, Node};
 use std::alloc::{AllocError, Global};
@@ -76,7 +76,7 @@ fn sum_automaton(
 }
 
 /// The values that states stand for: beyond these the sum only grows away from the bound.
-fn span_of(weights: &[i32], bound: i32) -> Span
+fn span_of(weights: &[i32], bound: i32) -> ValueRange
     requires few { length weights.now ≤ 8 }
     requires small { All IsSmall weights.now }
     requires low { negsuc 999 ≤ℤ bound }
@@ -84,7 +84,7 @@ fn span_of(weights: &[i32], bound: i32) -> Span
     ensures { IsSpanOf weights.now bound result }
 {
     let (most, least) = reach(weights);
-    Span {
+    ValueRange {
         low: (bound - 1).min(-most),
         high: (bound + 1).max(least),
     }
@@ -129,7 +129,7 @@ fn state_rows(
     alloc: Global,
     diagrams: &mut Diagrams,
     weights: &[i32],
-    span: Span,
+    span: ValueRange,
 ) -> Result<Vec<Node>, AllocError>
     requires few { length weights.now ≤ 8 }
     requires small { All IsSmall weights.now }
@@ -149,7 +149,7 @@ fn state_rows(
 }
 
 /// Whether each state's value compares with the bound.
-fn flags(alloc: Global, rel: Rel, bound: i32, span: Span) -> Result<Vec<bool>, AllocError>
+fn flags(alloc: Global, rel: Rel, bound: i32, span: ValueRange) -> Result<Vec<bool>, AllocError>
     requires { IsSpan span }
     ensures flags { IfOk result (λ flags. AreFlagsOf rel bound span flags.items) }
     ensures count { IfOk result (λ flags. pos (length flags.items) +ℤ span.low ≡ span.high +ℤ pos 1) }

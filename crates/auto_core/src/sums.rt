@@ -9,12 +9,12 @@ use std::collections::HashMap;
 
 /// The values that states stand for, in order; the lowest one also for all below, the highest one for all above.
 #[derive(Clone, Copy)]
-pub struct Span {
+pub struct ValueRange {
     pub low: i32,
     pub high: i32,
 }
 
-impl Span {
+impl ValueRange {
     /// The number of states.
     pub fn states(self) -> u32
         requires { IsSpan self }
@@ -63,7 +63,7 @@ pub fn row(
     diagrams: &mut Diagrams,
     memo: &mut HashMap<(u8, i32), Node>,
     weights: &[i32],
-    span: Span,
+    span: ValueRange,
     track: u8,
     sum: i32,
 ) -> Result<Node, AllocError>

@@ -1,4 +1,4 @@
--- Rows that are led to classes, where places get one on the way.
+-- RowSource that are led to classes, where places get one on the way.
 use Rattle.std.proofs.Common.{◌≡◌, ◌≢◌, ℕ, ◌<◌, Bool, true, false, List, Vec, Global, length, Option, Some, slice_get, Result, Ok, Err, IfOk, IfErr, arith, refl, sym, ap, ◌∙◌, subst, inl, inr}
 use Rattle.letter_diagram.specs.declared.diagrams.Shape.{Shape}
 use Rattle.letter_diagram.specs.Diagram.{Grows}

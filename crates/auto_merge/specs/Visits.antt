@@ -1,4 +1,4 @@
--- Rows that are led to classes, where places get a class on the way.
+-- RowSource that are led to classes, where places get a class on the way.
 use Rattle.std.specs.Prelude.{Result, Ok, Err}
 use Rattle.auto_merge.specs.declared.keys.NoKey.{NoKey}
 use Rattle.auto_merge.specs.declared.keys.NoKey.TheVariants.{Unclassed, Over, Memory}

@@ -9,7 +9,7 @@ ghost use Rattle.auto_merge.specs.Merged.{IsMerged, IsSettledIn, IsClassRowIn, A
 
 use crate::keys::NoKey;
 use crate::merging::{Merging, into_diagrams, no_classes};
-use crate::rows::Rows;
+use crate::rows::RowSource;
 use crate::visits::spot_key;
 use crate::walk::{Trail, class_from, no_trail};
 use auto_compact::compact;
@@ -20,7 +20,7 @@ use letter_diagram::Node;
 use std::alloc::{AllocError, Global};
 
 /// The node that leads a spot to classes. Its places that have none get one.
-fn settled_node<R: Rows>(
+fn settled_node<R: RowSource>(
     rows: &R,
     spot: R::Spot,
     merging: &mut Merging<R>,
@@ -46,7 +46,7 @@ fn settled_node<R: Rows>(
 }
 
 /// The row of a class: that of the place that got it first.
-fn class_row<R: Rows>(
+fn class_row<R: RowSource>(
     rows: &R,
     class: u32,
     merging: &mut Merging<R>,
@@ -68,7 +68,7 @@ fn class_row<R: Rows>(
 }
 
 /// The rows of all classes, those that get their first place on the way among them.
-fn class_rows<R: Rows>(
+fn class_rows<R: RowSource>(
     alloc: Global,
     rows: &R,
     merging: &mut Merging<R>,
@@ -91,7 +91,7 @@ fn class_rows<R: Rows>(
 }
 
 /// Whether the places that got the classes first are accepting.
-fn class_flags<R: Rows>(
+fn class_flags<R: RowSource>(
     alloc: Global,
     rows: &R,
     merging: &Merging<R>,
@@ -117,7 +117,7 @@ struct Once {
 }
 
 /// The automaton over the classes of all places that rows lead to.
-fn merged<R: Rows>(alloc: Global, rows: &R) -> Result<Once, Grown>
+fn merged<R: RowSource>(alloc: Global, rows: &R) -> Result<Once, Grown>
     ensures ok { IfOk result (λ once. IsMerged (R.graph rows.now) once.auto) }
     ensures over { result ≡ Err Grown.Over → MoreThan (R.graph rows.now).walker (R.graph rows.now).most }
 {
@@ -158,7 +158,7 @@ fn settled(alloc: Global, once: Once) -> Result<Auto, AllocError>
 /// flag whose rows lead to the same states, or each to itself where the other leads to itself, become one. Where a way through other
 /// places leads back to a place, what that left is reduced. `Over` where words lead to more places than may be.
 /// Costs the spots of the rows, and once more those that lead to the place whose row they are in; and then the reduction.
-pub fn merge_rows<R: Rows>(alloc: Global, rows: &R) -> Result<Auto, Grown>
+pub fn merge_rows<R: RowSource>(alloc: Global, rows: &R) -> Result<Auto, Grown>
     ensures ok { IfOk result (IsMerged (R.graph rows.now)) }
     ensures over { result ≡ Err Grown.Over → MoreThan (R.graph rows.now).walker (R.graph rows.now).most }
 {

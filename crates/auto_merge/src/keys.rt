@@ -3,7 +3,7 @@ ghost use Rattle.std.specs.Prelude.{◌≡◌, IfErr, IfOk};
 ghost use Rattle.letter_diagram.specs.Diagram.{Grows};
 ghost use Rattle.auto_merge.specs.Keys.{class_in, IsLeafKey, IsLeafRefused, IsTestKey};
 
-use crate::rows::{Key, Rows};
+use crate::rows::{Key, RowSource};
 use auto_walk::Grown;
 use letter_diagram::{Diagrams, Node};
 use std::alloc::AllocError;
@@ -48,7 +48,7 @@ impl From<Grown> for NoKey {
 
 /// What grows as spots are led.
 #[derive(Drop)]
-pub struct Led<R: Rows> {
+pub struct Led<R: RowSource> {
     /// The places that have a number.
     pub seen: R::Seen,
     /// The diagrams that keys are nodes of.

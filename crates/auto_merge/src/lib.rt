@@ -20,4 +20,4 @@ mod walk;
 
 pub use class_states::merge_rows;
 pub use merge_states::merge;
-pub use rows::{Key, Look, Rows};
+pub use rows::{Key, Look, RowSource};

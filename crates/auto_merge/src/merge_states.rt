@@ -5,7 +5,7 @@ ghost use Rattle.auto_core.specs.Reduced.{AllReached};
 ghost use Rattle.auto_core.specs.Words.{HasSameWords};
 
 use crate::class_states::merge_rows;
-use crate::state_rows::StateRows;
+use crate::state_rows::AutomatonRows;
 use auto_core::Auto;
 use auto_walk::Grown;
 use std::alloc::{AllocError, Global};
@@ -22,7 +22,7 @@ pub fn merge(alloc: Global, a: &Auto) -> Result<Auto, AllocError>
     ensures valid { IfOk result IsAutomaton }
 {
     let _ = a.states(); // for its invariant
-    match merge_rows(alloc, &StateRows { a }) {
+    match merge_rows(alloc, &AutomatonRows { a }) {
         Ok(m) => {
             let _ = m.states(); // for its invariant
             Ok(m)

@@ -6,7 +6,7 @@ ghost use Rattle.auto_merge.specs.Merging.{IsRoomMade, IsClassGiven, IsClassOfKe
 
 use crate::joining::{agrees, first_class};
 use crate::keys::{Led, NO_CLASS, class_of};
-use crate::rows::{Key, Rows};
+use crate::rows::{Key, RowSource};
 use letter_diagram::{Diagrams, Node};
 use std::alloc::{AllocError, Global};
 
@@ -15,7 +15,7 @@ const MOST_STEPS: u32 = 1000;
 
 /// The classes of places that have one, and what was led to them.
 #[derive(Drop)]
-pub struct Merging<R: Rows> {
+pub struct Merging<R: RowSource> {
     /// The class of each place that has a number, as far as the table goes, `NO_CLASS` where it has none yet.
     pub table: Vec<u32>,
     /// For each class the number of the place that got it first.
@@ -33,7 +33,7 @@ pub struct Merging<R: Rows> {
 }
 
 /// No place has a class.
-pub fn no_classes<R: Rows>(alloc: Global, rows: &R) -> Result<Merging<R>, AllocError>
+pub fn no_classes<R: RowSource>(alloc: Global, rows: &R) -> Result<Merging<R>, AllocError>
     ensures { IfOk result (IsMerging (R.graph rows.now) (R.places rows.now) R.answers) }
 {
     Ok(Merging {
@@ -52,7 +52,7 @@ pub fn no_classes<R: Rows>(alloc: Global, rows: &R) -> Result<Merging<R>, AllocE
 }
 
 /// The diagrams that spots were led to nodes of.
-pub fn into_diagrams<R: Rows>(merging: Merging<R>) -> Diagrams
+pub fn into_diagrams<R: RowSource>(merging: Merging<R>) -> Diagrams
     ensures { result ≡ merging.led.to }
 {
     let Merging { led, .. } = merging;
@@ -94,7 +94,11 @@ fn new_class(owners: &mut Vec<u32>, number: u32) -> Result<u32, AllocError>
 }
 
 /// Gives a number a class of its own.
-pub fn give_own<R: Rows>(rows: &R, number: u32, merging: &mut Merging<R>) -> Result<(), AllocError>
+pub fn assign_new_class<R: RowSource>(
+    rows: &R,
+    number: u32,
+    merging: &mut Merging<R>,
+) -> Result<(), AllocError>
     requires merging { IsMerging (R.graph rows.now) (R.places rows.now) R.answers merging.old }
     requires new { IsUnclassedIn (R.places rows.now) merging.old number }
     ensures merging { OnOk result (IsMerging (R.graph rows.now) (R.places rows.now) R.answers merging.new) }
@@ -129,7 +133,7 @@ fn class_of_key(
 }
 
 /// Gives a number the class that has its key, or one of its own where the key is new.
-fn give_by_key<R: Rows>(
+fn give_by_key<R: RowSource>(
     rows: &R,
     number: u32,
     key: Node,
@@ -153,7 +157,7 @@ fn give_by_key<R: Rows>(
 }
 
 /// The node that leads the row of a number to classes, where it is remembered that each of its places has one.
-fn whole_row<R: Rows>(rows: &R, number: u32, merging: &Merging<R>) -> Option<Node>
+fn whole_row<R: RowSource>(rows: &R, number: u32, merging: &Merging<R>) -> Option<Node>
     requires merging { IsMerging (R.graph rows.now) (R.places rows.now) R.answers merging.now }
     requires known { number < length (R.places rows.now merging.now.led.seen) }
     ensures { IfSome result (IsOwnerRowIn (R.graph rows.now) (R.places rows.now) merging.now number) }
@@ -164,7 +168,13 @@ fn whole_row<R: Rows>(rows: &R, number: u32, merging: &Merging<R>) -> Option<Nod
 }
 
 /// Whether a number may get a class to which its key leads.
-fn can_join<R: Rows>(rows: &R, number: u32, key: &Key, class: u32, merging: &Merging<R>) -> bool
+fn can_join<R: RowSource>(
+    rows: &R,
+    number: u32,
+    key: &Key,
+    class: u32,
+    merging: &Merging<R>,
+) -> bool
     requires merging { IsMerging (R.graph rows.now) (R.places rows.now) R.answers merging.now }
     requires key { IsRowKeyIn (R.graph rows.now) (R.places rows.now) merging.now number key.now.node }
     requires known { IsKnownClassIn merging.now class }
@@ -185,7 +195,7 @@ fn can_join<R: Rows>(rows: &R, number: u32, key: &Key, class: u32, merging: &Mer
 }
 
 /// Gives a number the class of another with the same row.
-fn give_shared<R: Rows>(
+fn give_shared<R: RowSource>(
     rows: &R,
     number: u32,
     class: u32,
@@ -203,7 +213,7 @@ fn give_shared<R: Rows>(
 }
 
 /// Gives a number a class to which its key leads, if it may have that of the first. Whether it may.
-fn give_led<R: Rows>(
+fn give_led<R: RowSource>(
     rows: &R,
     number: u32,
     key: &Key,
@@ -228,7 +238,7 @@ fn give_led<R: Rows>(
 }
 
 /// Gives a number whose row has a key a class: one to which the row leads, the class of the key, or one of its own.
-pub fn give_any<R: Rows>(
+pub fn assign_class<R: RowSource>(
     rows: &R,
     number: u32,
     key: &Key,

@@ -30,7 +30,7 @@ pub struct Key {
 /// leads each letter to a place by the bits that it looks at.
 /// What grows as spots are looked at stands apart: the places that have a number so far, and the keys that spots were led to.
 /// Clauses see a place as a list of numbers: one state, or a pair of states.
-pub trait Rows {
+pub trait RowSource {
     /// A node, or a pair of nodes.
     type Spot: Copy;
 

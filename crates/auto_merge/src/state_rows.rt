@@ -4,7 +4,7 @@ ghost use Rattle.letter_diagram.specs.Diagram.{Grows};
 ghost use Rattle.auto_merge.specs.Graph.{AddsKey, AnswersNothing, mark_of};
 ghost use Rattle.auto_merge.specs.StateRows.{RemembersState};
 
-use crate::rows::{Key, Look, Rows};
+use crate::rows::{Key, Look, RowSource};
 use auto_core::Auto;
 use auto_walk::Grown;
 use letter_diagram::{Node, Shape};
@@ -13,7 +13,7 @@ use track_word::Var;
 
 /// The states of an automaton as places, and its nodes as spots.
 #[derive(Drop)]
-pub struct StateRows<'a> {
+pub struct AutomatonRows<'a> {
     pub a: &'a Auto,
 }
 
@@ -34,7 +34,7 @@ pub struct NodeKeys {
     keys: Vec<Option<NodeKey>>,
 }
 
-impl<'a> Rows for StateRows<'a> {
+impl<'a> RowSource for AutomatonRows<'a> {
     type Spot = Node;
 
     type Seen = AllStates;

@@ -1,12 +1,12 @@
-//! Rows that are led to classes. Places on the way that have none are visited first: each gets one behind those to which its row leads.
+//! RowSource that are led to classes. Places on the way that have none are visited first: each gets one behind those to which its row leads.
 ghost use Rattle.std.specs.Prelude.{◌≡◌, ◌<◌, length, None, IfErr, IfOk, OnOk};
 ghost use Rattle.auto_merge.specs.Keys.{IsLeafKey};
 ghost use Rattle.auto_merge.specs.Merging.{IsMerging, Keeps, IsUnclassedIn, IsSpotKeyIn, IsNoSpotKeyIn, IsRowKeyIn};
 ghost use Rattle.auto_merge.specs.Visits.{OnLed};
 
 use crate::keys::{NO_CLASS, NoKey, class_of, leaf_key, test_key};
-use crate::merging::{Merging, give_any, give_own};
-use crate::rows::{Key, Look, Rows};
+use crate::merging::{Merging, assign_class, assign_new_class};
+use crate::rows::{Key, Look, RowSource};
 use std::alloc::AllocError;
 
 /// How many places are visited at most, each within the visit of the one before.
@@ -14,7 +14,7 @@ const DEPTH: u32 = 200;
 
 /// How a row is led.
 #[derive(Drop)]
-struct Visit<'a, R: Rows> {
+struct Visit<'a, R: RowSource> {
     rows: &'a R,
     /// The number of the place whose row it is. It may have no class; with none, each place must have one.
     own: Option<u32>,
@@ -42,7 +42,11 @@ fn mark(visited: &mut Vec<bool>, number: u32, is_visited: bool) -> Result<(), Al
 /// Costs the spots that are not remembered.
 #[cycle(key_of)]
 #[inline(always)]
-fn key_of<R: Rows>(visit: &Visit<R>, spot: R::Spot, merging: &mut Merging<R>) -> Result<Key, NoKey>
+fn key_of<R: RowSource>(
+    visit: &Visit<R>,
+    spot: R::Spot,
+    merging: &mut Merging<R>,
+) -> Result<Key, NoKey>
     requires read { (R.graph visit.now.rows.now).can_read spot }
     requires merging { IsMerging (R.graph visit.now.rows.now) (R.places visit.now.rows.now) R.answers merging.old }
     ensures key { IfOk result (IsSpotKeyIn (R.graph visit.now.rows.now) (R.places visit.now.rows.now) merging.new visit.now.own spot) }
@@ -58,7 +62,7 @@ fn key_of<R: Rows>(visit: &Visit<R>, spot: R::Spot, merging: &mut Merging<R>) ->
 
 /// The key of a spot that is not remembered. It is from now on.
 #[cycle(key_of)]
-fn made_key<R: Rows>(
+fn made_key<R: RowSource>(
     visit: &Visit<R>,
     spot: R::Spot,
     merging: &mut Merging<R>,
@@ -79,7 +83,7 @@ fn made_key<R: Rows>(
 
 /// The key of a spot by what it looks at first.
 #[cycle(key_of)]
-fn fresh_key<R: Rows>(
+fn fresh_key<R: RowSource>(
     visit: &Visit<R>,
     spot: R::Spot,
     merging: &mut Merging<R>,
@@ -104,7 +108,11 @@ fn fresh_key<R: Rows>(
 
 /// The key of a spot that leads to the place of this number.
 #[cycle(key_of)]
-fn place_key<R: Rows>(visit: &Visit<R>, number: u32, merging: &mut Merging<R>) -> Result<Key, NoKey>
+fn place_key<R: RowSource>(
+    visit: &Visit<R>,
+    number: u32,
+    merging: &mut Merging<R>,
+) -> Result<Key, NoKey>
     requires known { number < length (R.places visit.now.rows.now merging.old.led.seen) }
     requires merging { IsMerging (R.graph visit.now.rows.now) (R.places visit.now.rows.now) R.answers merging.old }
     ensures key { IfOk result (IsLeafKey merging.new.led.to merging.new.table.items number visit.now.own) }
@@ -126,7 +134,7 @@ fn place_key<R: Rows>(visit: &Visit<R>, number: u32, merging: &mut Merging<R>) -
 /// Gives a place a class behind those to which its row leads, within the visit of another. Where a way from it leads back to a place
 /// that is being visited, it gets one of its own.
 #[cycle(key_of)]
-fn visit_within<R: Rows>(
+fn visit_within<R: RowSource>(
     visit: &Visit<R>,
     number: u32,
     merging: &mut Merging<R>,
@@ -159,7 +167,7 @@ fn visit_within<R: Rows>(
 
 /// Leads the row of a place once more that was the first to get its class by a key that is not whole: it is remembered so.
 #[cycle(key_of)]
-fn keep_row<R: Rows>(
+fn keep_row<R: RowSource>(
     within: &Visit<R>,
     number: u32,
     key: &Key,
@@ -188,7 +196,7 @@ fn keep_row<R: Rows>(
 }
 
 /// Gives a place a class by the key of its row, unless it has one by now.
-fn give_visited<R: Rows>(
+fn give_visited<R: RowSource>(
     rows: &R,
     number: u32,
     key: &Key,
@@ -202,12 +210,12 @@ fn give_visited<R: Rows>(
     if class_of(merging.table.as_slice(), number) != NO_CLASS {
         return Ok(());
     }
-    give_any(rows, number, key, merging)
+    assign_class(rows, number, key, merging)
 }
 
 /// Ends the visit of a place whose row leads to another one without a class. If that one is being visited, a way led back to it: then
 /// the place gets a class of its own, unless it has one by now.
-fn turn_back<R: Rows>(
+fn turn_back<R: RowSource>(
     rows: &R,
     number: u32,
     next: u32,
@@ -225,13 +233,17 @@ fn turn_back<R: Rows>(
         return Err(NoKey::Unclassed(next));
     }
     if class_of(merging.table.as_slice(), number) == NO_CLASS {
-        give_own(rows, number, merging)?;
+        assign_new_class(rows, number, merging)?;
     }
     Ok(())
 }
 
 /// Gives a place a class behind those to which its row leads, unless it leads to one that has none.
-pub fn visit_place<R: Rows>(rows: &R, number: u32, merging: &mut Merging<R>) -> Result<(), NoKey>
+pub fn classify_place<R: RowSource>(
+    rows: &R,
+    number: u32,
+    merging: &mut Merging<R>,
+) -> Result<(), NoKey>
     requires merging { IsMerging (R.graph rows.now) (R.places rows.now) R.answers merging.old }
     requires new { IsUnclassedIn (R.places rows.now) merging.old number }
     ensures refused { IfErr result (IsNoSpotKeyIn (R.graph rows.now) (R.places rows.now) merging.new) }
@@ -247,7 +259,11 @@ pub fn visit_place<R: Rows>(rows: &R, number: u32, merging: &mut Merging<R>) -> 
 }
 
 /// The key of a spot, where each place has a class. Those on the way that have none get one first.
-pub fn spot_key<R: Rows>(rows: &R, spot: R::Spot, merging: &mut Merging<R>) -> Result<Key, NoKey>
+pub fn spot_key<R: RowSource>(
+    rows: &R,
+    spot: R::Spot,
+    merging: &mut Merging<R>,
+) -> Result<Key, NoKey>
     requires read { (R.graph rows.now).can_read spot }
     requires merging { IsMerging (R.graph rows.now) (R.places rows.now) R.answers merging.old }
     ensures key { IfOk result (IsSpotKeyIn (R.graph rows.now) (R.places rows.now) merging.new None spot) }

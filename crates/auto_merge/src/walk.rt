@@ -6,9 +6,9 @@ ghost use Rattle.auto_merge.specs.Merging.{IsMerging, Keeps, IsUnclassedIn, IsCl
 ghost use Rattle.auto_merge.specs.Walk.{IsTrail, IsRoomMade, IsEntered, IsTurned, IsTrailIn, steps_left_in};
 
 use crate::keys::{NO_CLASS, NoKey, class_of};
-use crate::merging::{Merging, give_own};
-use crate::rows::Rows;
-use crate::visits::visit_place;
+use crate::merging::{Merging, assign_new_class};
+use crate::rows::RowSource;
+use crate::visits::classify_place;
 use auto_walk::Grown;
 use std::alloc::{AllocError, Global};
 
@@ -66,7 +66,7 @@ fn turn_to(way: &mut Trail, number: u32, next: u32) -> Result<bool, AllocError>
 
 /// Goes on with a number whose row leads to another one without a class: that one comes first, and the row is led again behind it, but
 /// for what leads to classes alone. Where it was entered, a way led back to it: then the number gets a class of its own.
-fn put_off<R: Rows>(
+fn put_off<R: RowSource>(
     rows: &R,
     number: u32,
     next: u32,
@@ -86,12 +86,12 @@ fn put_off<R: Rows>(
     if turn_to(way, number, next)? {
         return Ok(());
     }
-    give_own(rows, number, merging)?;
+    assign_new_class(rows, number, merging)?;
     Ok(())
 }
 
 /// Gives a number a class, unless its row leads to one that has none and was not entered.
-fn visit<R: Rows>(
+fn visit<R: RowSource>(
     rows: &R,
     number: u32,
     merging: &mut Merging<R>,
@@ -109,7 +109,7 @@ fn visit<R: Rows>(
     if class_of(merging.table.as_slice(), number) != NO_CLASS {
         return Ok(());
     }
-    match visit_place(rows, number, merging) {
+    match classify_place(rows, number, merging) {
         Ok(()) => Ok(()),
         Err(NoKey::Unclassed(next)) => {
             if class_of(merging.table.as_slice(), number) == NO_CLASS {
@@ -123,7 +123,7 @@ fn visit<R: Rows>(
 }
 
 /// Gives a class to the numbers on a way and to those to which they lead.
-fn follow<R: Rows>(rows: &R, merging: &mut Merging<R>, way: &mut Trail) -> Result<(), Grown>
+fn follow<R: RowSource>(rows: &R, merging: &mut Merging<R>, way: &mut Trail) -> Result<(), Grown>
     requires merging { IsMerging (R.graph rows.now) (R.places rows.now) R.answers merging.old }
     requires way { IsTrailIn (R.places rows.now) merging.old way.old }
     ensures merging { OnOk result (IsMerging (R.graph rows.now) (R.places rows.now) R.answers merging.new) }
@@ -138,7 +138,7 @@ fn follow<R: Rows>(rows: &R, merging: &mut Merging<R>, way: &mut Trail) -> Resul
 }
 
 /// Begins a way at a number, if it was not entered.
-fn start<R: Rows>(
+fn start<R: RowSource>(
     rows: &R,
     number: u32,
     merging: &mut Merging<R>,
@@ -161,7 +161,7 @@ fn start<R: Rows>(
 
 /// Gives a number a class, after those to which its row leads, but for those from which a way leads back;
 /// nothing but the number of classes hangs on that order.
-pub fn class_from<R: Rows>(
+pub fn class_from<R: RowSource>(
     rows: &R,
     number: u32,
     merging: &mut Merging<R>,
@@ -180,6 +180,6 @@ pub fn class_from<R: Rows>(
     if class_of(merging.table.as_slice(), number) != NO_CLASS {
         return Ok(());
     }
-    give_own(rows, number, merging)?;
+    assign_new_class(rows, number, merging)?;
     Ok(())
 }

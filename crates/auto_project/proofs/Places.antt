@@ -1,4 +1,4 @@
--- Rows of the walk over sets of states.
+-- TrackRows of the walk over sets of states.
 use Rattle.std.proofs.Common.{◌≡◌, ◌≢◌, ℕ, ◌<◌, ◌%◌, ◌^◌, ◌||◌, nat_eq, List, [], ◌∷◌, length, get_or, slice_get, slice_index, Some, Contains, AllPairs, arith, refl, sym, ap, ◌∙◌, subst, inl, inr}
 use Rattle.std.specs.List.{All, fold, range_with_len}
 use Rattle.std.specs.List.Sorted.{IsStrictlyIncreasing}

@@ -64,22 +64,22 @@ module _ (a : Automaton) (x : Var) (shapes : List Shape) (sets : List (List ℕ)
 
   pub accepts-lifts : {m : Automaton} → IsWalked (set_walker a (without_var x a.tracks) shapes sets first) m → (word : List ℕ) → IsWord (length m.tracks) word
       → Accepts m word ↔ ((lift : List ℕ) × IsLift m.tracks a.tracks word lift × Accepts a lift)
-  accepts-lifts {m} walked word is =
-      subst (λ tracks. Accepts m word ↔ ((lift : List ℕ) × IsLift tracks a.tracks word lift × Accepts a lift)) (sym walked.tracks) (to, from)
+  accepts-lifts {m} explored word is =
+      subst (λ tracks. Accepts m word ↔ ((lift : List ℕ) × IsLift tracks a.tracks word lift × Accepts a lift)) (sym explored.tracks) (to, from)
     where
       here : IsWord (length (without_var x a.tracks)) word
-      here = subst (λ tracks. IsWord (length tracks) word) walked.tracks is
+      here = subst (λ tracks. IsWord (length tracks) word) explored.tracks is
 
       to : Accepts m word → (lift : List ℕ) × IsLift (without_var x a.tracks) a.tracks word lift × Accepts a lift
       to accepted =
-          let one = any-from (is_final a) (place_of (set_walker a (without_var x a.tracks) shapes sets first) word) ((walked.words word here).0 accepted) in
+          let one = any-from (is_final a) (place_of (set_walker a (without_var x a.tracks) shapes sets first) word) ((explored.words word here).0 accepted) in
           let l = (place-lifts one.0 here).0 one.1 in
           (l.lift, l.is, ap (is_final a) l.leads ∙ one.2)
 
       from : ((lift : List ℕ) × IsLift (without_var x a.tracks) a.tracks word lift × Accepts a lift) → Accepts m word
       from (lift, l, accepted) =
           let c = (place-lifts (state_of a lift) here).1 (record { lift = lift; is = l; leads = refl }) in
-          (walked.words word here).1 (any-to (is_final a) (place_of (set_walker a (without_var x a.tracks) shapes sets first) word) (state_of a lift) c accepted)
+          (explored.words word here).1 (any-to (is_final a) (place_of (set_walker a (without_var x a.tracks) shapes sets first) word) (state_of a lift) c accepted)
 
   -- words that lead to one set are alike, whatever the automaton
   into_other : {v w : List ℕ} → IsWord (length (without_var x a.tracks)) v → IsWord (length (without_var x a.tracks)) w
@@ -104,10 +104,10 @@ module _ (a : Automaton) (x : Var) (shapes : List Shape) (sets : List (List ℕ)
   -- what was made by a walk that is this one
   module _ {E : Type 0} (w : Walker) (same : w ≡ set_walker a (without_var x a.tracks) shapes sets first) (r : Result Automaton E) where
     pub tracks-if : IfOk r (IsWalked w) → IfOk r (λ m. m.tracks ≡ without_var x a.tracks)
-    tracks-if = IfOk-weaker r (IsWalked w) (λ m. m.tracks ≡ without_var x a.tracks) (λ m walked. (subst (λ v. IsWalked v m) same walked).tracks)
+    tracks-if = IfOk-weaker r (IsWalked w) (λ m. m.tracks ≡ without_var x a.tracks) (λ m explored. (subst (λ v. IsWalked v m) same explored).tracks)
 
     pub words-if : IfOk r (IsWalked w) → IfOk r (AcceptsLifted a)
-    words-if = IfOk-weaker r (IsWalked w) (AcceptsLifted a) (λ m walked. accepts-lifts (subst (λ v. IsWalked v m) same walked))
+    words-if = IfOk-weaker r (IsWalked w) (AcceptsLifted a) (λ m explored. accepts-lifts (subst (λ v. IsWalked v m) same explored))
 
     pub within-if : (budget : ℕ) → OnOk r (MoreThan w budget → ⊥) → OnOk r (ExSpreadExceeds x a.tracks (Accepts a) budget → ⊥)
     within-if budget = on_ok_weaker r (λ few spread. few (subst (λ v. MoreThan v budget) (sym same) (MoreThan-from_spread budget spread)))

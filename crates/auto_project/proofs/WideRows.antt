@@ -1,4 +1,4 @@
--- Rows over the tracks that are left and the lost one after them, and what merging that track makes of them.
+-- TrackRows over the tracks that are left and the lost one after them, and what merging that track makes of them.
 use Rattle.std.proofs.Common.{◌≡◌, ◌≢◌, ◌⊎◌, ◌↔◌, ℕ, ◌<◌, ◌+◌, ◌*◌, ◌%◌, ◌^◌, List, [], ◌∷◌, length, map, get_or, Contains, arith, refl, sym, ap, ◌∙◌, subst, inl, inr}
 use Rattle.std.specs.List.{All}
 use Rattle.std.specs.Int.{bit_at}

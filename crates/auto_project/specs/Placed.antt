@@ -6,7 +6,7 @@ use Rattle.letter_diagram.specs.Merged.{HasSets}
 use Rattle.letter_diagram.specs.Merger.{MergerTables}
 use Rattle.letter_diagram.specs.NodeMemo.{answer_of}
 use Rattle.auto_project.specs.SetMaps.{set_of}
-use Rattle.auto_project.specs.declared.placing.Places.{Places}
+use Rattle.auto_project.specs.declared.placing.SetNumbering.{SetNumbering}
 
 -- the row's map leads each letter to the place of the set that the node gives it
 pub record IsPlaced (shapes : List Shape) (sets : List (List ℕ)) (rows : List Shape) (places : List (List ℕ))
@@ -27,22 +27,22 @@ pub record RemembersPlaced (shapes : List Shape) (sets : List (List ℕ)) (rows 
   pub placed : (node row : ℕ) → answer_of memo node ≡ Some row → IsPlaced shapes sets rows places node row
 
 -- the row leads each letter to the place of the set that the merger's node gives it
-abbrev pub LeadsToPlaces : MergerTables → Places → ℕ → ℕ → Type 0
+abbrev pub LeadsToPlaces : MergerTables → SetNumbering → ℕ → ℕ → Type 0
 LeadsToPlaces merger places node row = IsPlaced merger.shapes merger.sets places.rows places.sets node row
 
 -- what the places remember of the merger's nodes leads to places
-abbrev pub RemembersRows : MergerTables → Places → Type 0
+abbrev pub RemembersRows : MergerTables → SetNumbering → Type 0
 RemembersRows merger places = RemembersPlaced merger.shapes merger.sets places.rows places.sets places.placed
 
 -- what is new among the places is a set that the merger's node gives
-abbrev pub AddsPlacesOf : MergerTables → Places → Places → ℕ → Type 0
+abbrev pub AddsPlacesOf : MergerTables → SetNumbering → SetNumbering → ℕ → Type 0
 AddsPlacesOf merger old new node = AddsSetsOf merger.shapes merger.sets old.sets new.sets node
 
 -- the row leads each letter to the place of the set
-abbrev pub LeadsToPlaceOf : Places → List ℕ → ℕ → Type 0
+abbrev pub LeadsToPlaceOf : SetNumbering → List ℕ → ℕ → Type 0
 LeadsToPlaceOf places set row = (letter : ℕ) → slice_get places.sets (map_at places.rows row letter) ≡ Some set
 
 -- what is new among the places is the set
-abbrev pub AddsOnly : Places → Places → List ℕ → Type 0
+abbrev pub AddsOnly : SetNumbering → SetNumbering → List ℕ → Type 0
 AddsOnly old new set =
     (place : ℕ) → length old.sets ≤ place → place < length new.sets → slice_get new.sets place ≡ Some set

@@ -13,7 +13,7 @@ use Rattle.letter_diagram.specs.Merger.{MergerTables}
 use Rattle.auto_core.specs.Automaton.{Automaton, IsAutomaton, first_state, next_state}
 use Rattle.auto_project.specs.Lifted.{Begins, Follows, LiftLeads}
 use Rattle.auto_project.specs.Subsets.{next_set}
-use Rattle.auto_project.specs.declared.closure.Rows.{Rows}
+use Rattle.auto_project.specs.declared.closure.TrackRows.{TrackRows}
 use Rattle.auto_project.specs.declared.rows.SetRows.{SetRows}
 
 -- each number below a bound is that of the set that has it alone
@@ -156,47 +156,47 @@ abbrev pub HasSetRowsOf : Automaton → List Var → SetRows → Type 0
 HasSetRowsOf a some made = HasSetRows made.merger.shapes made.merger.sets a some made.first made.rows.items
 
 -- the rows are those of an automaton's states
-abbrev pub AreRowsIn : MergerTables → Rows → Type 0
+abbrev pub AreRowsIn : MergerTables → TrackRows → Type 0
 AreRowsIn merger rows = AreSetRows merger.shapes merger.sets rows.automaton.now rows.tracks.items rows.nodes.items
 
 -- the node leads each letter to the set of the states to which sign letters lead that read as it
-abbrev pub IsSignRowIn : MergerTables → Rows → ℕ → Type 0
+abbrev pub IsSignRowIn : MergerTables → TrackRows → ℕ → Type 0
 IsSignRowIn merger rows node =
     IsSetRow merger.shapes merger.sets (length rows.tracks.items) node (Begins rows.automaton.now rows.tracks.items)
 
 -- the node leads each letter to the set of the states to which its lifts lead
-abbrev pub IsLiftRowIn : MergerTables → Rows → ℕ → Type 0
+abbrev pub IsLiftRowIn : MergerTables → TrackRows → ℕ → Type 0
 IsLiftRowIn merger rows node =
     IsSetRow merger.shapes merger.sets (length rows.tracks.items) node
     (λ letter state. LiftLeads rows.automaton.now rows.tracks.items (letter ∷ []) state)
 
 -- the node leads each letter to a set of states to which its lifts lead
-abbrev pub IsLedRowIn : MergerTables → Rows → ℕ → Type 0
+abbrev pub IsLedRowIn : MergerTables → TrackRows → ℕ → Type 0
 IsLedRowIn merger rows node = IsLedRow merger.shapes merger.sets rows.automaton.now rows.tracks.items node
 
 -- each letter is led to a set with some state
-abbrev pub HasSomeStatesIn : MergerTables → Rows → ℕ → Type 0
+abbrev pub HasSomeStatesIn : MergerTables → TrackRows → ℕ → Type 0
 HasSomeStatesIn merger rows node = HasSomeStates merger.shapes merger.sets (length rows.tracks.items) node
 
 -- each of the node's sets has some states, all of which have rows
-abbrev pub HasStatesIn : MergerTables → Rows → ℕ → Type 0
+abbrev pub HasStatesIn : MergerTables → TrackRows → ℕ → Type 0
 HasStatesIn merger rows node = HasStates merger.shapes merger.sets (length rows.nodes.items) node
 
 -- a table that has, at the number of each set that the node gives, the row of the states of that set
-abbrev pub HasUnionRowsIn : MergerTables → Rows → ℕ → List ℕ → Type 0
+abbrev pub HasUnionRowsIn : MergerTables → TrackRows → ℕ → List ℕ → Type 0
 HasUnionRowsIn merger rows node table = HasUnionRows merger.shapes merger.sets rows.nodes.items node table
 
 -- the swept node's sets have what the node's sets have, and what the rows of their states give
-abbrev pub IsSweptIn : MergerTables → Rows → ℕ → ℕ → Type 0
+abbrev pub IsSweptIn : MergerTables → TrackRows → ℕ → ℕ → Type 0
 IsSweptIn merger rows node swept = IsSwept merger.shapes merger.sets rows.nodes.items node swept
 
 -- the rows with the first one closed: it leads each sign letter to the states to which its lifts lead
-abbrev pub HasClosedRowsIn : MergerTables → Rows → ℕ → Type 0
+abbrev pub HasClosedRowsIn : MergerTables → TrackRows → ℕ → Type 0
 HasClosedRowsIn merger rows first =
     HasClosedRows merger.shapes merger.sets rows.automaton.now rows.tracks.items first rows.nodes.items
 
 -- the rows of the walk over sets of states
-abbrev pub HasPlaceRowsIn : MergerTables → Rows → ℕ → Type 0
+abbrev pub HasPlaceRowsIn : MergerTables → TrackRows → ℕ → Type 0
 HasPlaceRowsIn merger rows first =
     HasPlaceRows merger.shapes merger.sets rows.automaton.now rows.tracks.items first rows.nodes.items
 

@@ -16,13 +16,13 @@ use track_word::Var;
 
 /// The rows of an automaton's states over some of its tracks.
 #[derive(Drop)]
-pub struct Rows<'a> {
+pub struct TrackRows<'a> {
     pub automaton: &'a Auto,
     pub tracks: Vec<Var>,
     pub nodes: Vec<Node>,
 }
 
-impl<'a> Rows<'a> {
+impl<'a> TrackRows<'a> {
     /// The node that leads each letter to the set of the states to which the states of a numbered set lead.
     fn row_of_set(&self, merger: &mut Merger, number: u32) -> Result<Node, AllocError>
         requires rows { All (HasSets merger.old.shapes merger.old.sets) self.now.nodes.items }

@@ -14,19 +14,19 @@ use std::alloc::{AllocError, Global};
 /// The sets that are numbered as places, and nodes whose maps lead letters to places. Nodes of a merger are led to them, each once:
 /// what was led stays right while the merger and the places grow.
 #[derive(Drop)]
-pub struct Places {
+pub struct SetNumbering {
     pub sets: Sets,
     pub rows: Diagrams,
     pub placed: NodeMemo,
 }
 
-impl Places {
+impl SetNumbering {
     /// No place, and no row.
     pub fn new(alloc: Global) -> Result<Self, AllocError>
         ensures fresh { IfOk result (λ places. places.sets ≡ []) }
         ensures none { IfOk result (λ places. (node : ℕ) → answer_of places.placed node ≡ None) }
     {
-        Ok(Places {
+        Ok(SetNumbering {
             sets: Sets::new(alloc),
             rows: Diagrams::new(alloc),
             placed: NodeMemo::new(alloc, 0)?,

@@ -6,7 +6,7 @@ ghost use Rattle.auto_project.specs.Lifted.{AcceptsLifted, ForgettingExceeds, Mo
 
 use crate::subsets::Subsets;
 use auto_core::Auto;
-use auto_walk::{Grown, walked};
+use auto_walk::{Grown, explored};
 use limits::Budget;
 use std::alloc::Global;
 use track_word::Var;
@@ -23,7 +23,7 @@ fn projected(alloc: Global, a: &Auto, var: Var, budget: Budget) -> Result<Auto, 
     ensures many { result ≡ Err Grown.Over → MoreSets a.now (without_var var a.now.tracks) budget }
 {
     let subsets = Subsets::new(alloc, a, var)?;
-    walked(alloc, subsets, budget)
+    explored(alloc, subsets, budget)
 }
 
 /// The automaton of the words that are accepted with some bits on the track of `var`, where their first letter may be repeated

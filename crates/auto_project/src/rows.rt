@@ -78,7 +78,7 @@ fn merged_rows(alloc: Global, merger: &mut Merger, nodes: &[Node]) -> Result<Vec
     Ok(rows)
 }
 
-/// Rows that do not look at a track: the unions over both its bits.
+/// TrackRows that do not look at a track: the unions over both its bits.
 fn without_track(
     alloc: Global,
     wide: StateRows,

@@ -10,9 +10,9 @@ ghost use Rattle.auto_walk.specs.Walker.{AreTracks};
 ghost use Rattle.auto_project.specs.SetMaps.{HasClosedRowsIn, HasPlaceRowsIn, IsUnionRowIn};
 ghost use Rattle.auto_project.specs.Placed.{AddsPlacesOf, LeadsToPlaces, RemembersRows};
 
-use crate::closure::Rows;
+use crate::closure::TrackRows;
 use crate::join::united_rows;
-use crate::placing::Places;
+use crate::placing::SetNumbering;
 use crate::rows::{SetRows, set_rows};
 use crate::sets::copied_set;
 use auto_core::Auto;
@@ -34,10 +34,10 @@ fn tracks_without(alloc: Global, tracks: &[Var], var: Var) -> Result<Vec<Var>, A
 /// that what two places have in common is united once.
 #[derive(Drop)]
 pub struct Subsets<'a> {
-    rows: Rows<'a>,
+    rows: TrackRows<'a>,
     first: Node,
     merger: Merger,
-    places: Places,
+    places: SetNumbering,
     ghost are_tracks: { AreTracks rows.tracks.items },
     ghost are_rows: { HasPlaceRowsIn merger rows first },
     ghost remembered: { RemembersRows merger places },
@@ -56,7 +56,7 @@ impl<'a> Subsets<'a> {
             first,
             rows: nodes,
         } = set_rows(alloc, a, var, tracks.as_slice())?;
-        let rows = Rows {
+        let rows = TrackRows {
             automaton: a,
             tracks,
             nodes,
@@ -67,7 +67,7 @@ impl<'a> Subsets<'a> {
             rows,
             first,
             merger,
-            places: Places::new(alloc)?,
+            places: SetNumbering::new(alloc)?,
         })
     }
 

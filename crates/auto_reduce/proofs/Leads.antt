@@ -1,4 +1,4 @@
--- Rows that lead to canonical states, and the states that they lead to.
+-- CanonicalRows that lead to canonical states, and the states that they lead to.
 use Rattle.std.proofs.Common.{◌≡◌, ◌≢◌, ℕ, ◌<◌, ◌≤◌, ◌+◌, ◌%◌, ◌^◌, List, [], ◌∷◌, ◌++◌, length, get_or, Contains, AllPairs, All, arith, refl, sym, ap, ◌∙◌, subst, inl, inr}
 use Rattle.std.specs.Int.{bit_at}
 use Rattle.std.proofs.lemmas.Bool.{cases_lt}
@@ -16,7 +16,7 @@ use Rattle.auto_reduce.specs.Unmet.{AddsRow}
 use Rattle.auto_refine.proofs.Counting.{length_le-below}
 use Rattle.auto_core.proofs.States.{state_of-append, state_within}
 use Rattle.auto_reduce.proofs.Orders.{Contains-on}
-use Rattle.auto_ways.proofs.RowNodes.{AreRowNodes-own}
+use Rattle.auto_predecessors.proofs.RowNodes.{AreRowNodes-own}
 
 pub IsWord-one : (tracks letter : ℕ) → letter < 2 ^ tracks → IsWord tracks (letter ∷ [])
 IsWord-one tracks letter below = record { nonempty = λ e. cc e; letters = All-cons (λ l. l < 2 ^ tracks) letter [] below (All-nil (λ l. l < 2 ^ tracks)) }

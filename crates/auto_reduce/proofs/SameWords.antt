@@ -14,7 +14,7 @@ use Rattle.auto_core.proofs.RowLemmas.{map_at-narrow}
 use Rattle.auto_core.proofs.NodeMaps.{first-map}
 use Rattle.auto_core.specs.Words.{HasSameWords}
 use Rattle.auto_reduce.specs.Tables.{AcceptSameWords, HaveEqualTables, HaveEqualMaps}
-use Rattle.auto_ways.proofs.RowNodes.{AreRowNodes-own}
+use Rattle.auto_predecessors.proofs.RowNodes.{AreRowNodes-own}
 use Rattle.auto_reduce.proofs.SameTables.{next_ext}
 
 module _ (a b : Automaton) (tracks : a.tracks ≡ b.tracks) where

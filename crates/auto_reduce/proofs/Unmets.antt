@@ -1,4 +1,4 @@
--- Rows in which states that were met stand for one another, and what they add to an order.
+-- CanonicalRows in which states that were met stand for one another, and what they add to an order.
 use Rattle.std.proofs.Common.{◌≡◌, ◌≢◌, ℕ, ◌<◌, ◌≤◌, Bool, true, false, nat_eq, List, [], ◌∷◌, ◌++◌, length, get_or, set, Option, Contains, AllPairs, arith, refl, true≢false, sym, ap, ◌∙◌, subst, inl, inr, ◌⊎◌, if◌then◌else◌}
 use Rattle.std.specs.Int.{bit_at}
 use Rattle.std.proofs.lemmas.Bool.{cases_eq}
@@ -12,7 +12,7 @@ use Rattle.letter_diagram.specs.Carried.{Learns}
 use Rattle.auto_reduce.specs.Quotient.{AddsAll}
 use Rattle.auto_refine.specs.Leading.{entry_at}
 use Rattle.auto_reduce.specs.Unmet.{AddsRow, IsMetLeaf, IsPruned, RemembersPruned, StandsFor, AreDone, IsFound, Finds, AreDoneWith, AreDoneBut, canonical_at}
-use Rattle.auto_reduce.specs.declared.unmet.Rows.{Rows}
+use Rattle.auto_reduce.specs.declared.unmet.CanonicalRows.{CanonicalRows}
 use Rattle.auto_reduce.specs.declared.unmet.Unmet.{Unmet}
 use Rattle.auto_reduce.specs.declared.unmet.Unmet.TheVariants.{Nothing, One, Several}
 use Rattle.std.proofs.lemmas.List.Elements.{Contains-push, Contains-append_left}
@@ -34,7 +34,7 @@ IsMetLeaf-grows {met = met} {leaf = leaf} grows is =
       is_met = λ letter. subst (Contains met) (sym (grows.map leaf letter is.known)) (is.is_met letter);
     }
 
-pub IsPruned-grows : {rows : Rows} {old new : List Shape} {met : List ℕ} {a r : ℕ} → Grows old new → IsPruned rows old met a r → IsPruned rows new met a r
+pub IsPruned-grows : {rows : CanonicalRows} {old new : List Shape} {met : List ℕ} {a r : ℕ} → Grows old new → IsPruned rows old met a r → IsPruned rows new met a r
 IsPruned-grows {rows = rows} {met = met} {a = a} {r = r} grows is =
     let known = is.known in
     let longer = grows.longer in
@@ -46,11 +46,11 @@ IsPruned-grows {rows = rows} {met = met} {a = a} {r = r} grows is =
       top = omega arith;
     }
 
-pub RemembersPruned-grows : {rows : Rows} {old new : List Shape} {met : List ℕ} {memo : List (Option ℕ)} → Grows old new
+pub RemembersPruned-grows : {rows : CanonicalRows} {old new : List Shape} {met : List ℕ} {memo : List (Option ℕ)} → Grows old new
     → RemembersPruned rows old met memo → RemembersPruned rows new met memo
 RemembersPruned-grows grows all = record { pruned = λ a r at. IsPruned-grows grows (all.pruned a r at) }
 
-pub RemembersPruned-learns : {rows : Rows} {shapes : List Shape} {met : List ℕ} {memo new : List (Option ℕ)} {a r : ℕ} → RemembersPruned rows shapes met memo
+pub RemembersPruned-learns : {rows : CanonicalRows} {shapes : List Shape} {met : List ℕ} {memo new : List (Option ℕ)} {a r : ℕ} → RemembersPruned rows shapes met memo
     → Learns (answer_of memo) (answer_of new) a r → IsPruned rows shapes met a r → RemembersPruned rows shapes met new
 RemembersPruned-learns {rows = rows} {shapes = shapes} {met = met} {a = a} all learns is = record {
   pruned = λ b s at. elim (learns.only b s at) [
@@ -59,7 +59,7 @@ RemembersPruned-learns {rows = rows} {shapes = shapes} {met = met} {a = a} all l
   ];
 }
 
-pub IsPruned-leaf : (rows : Rows) (shapes : List Shape) (met : List ℕ) {a : ℕ} (r state value : ℕ)
+pub IsPruned-leaf : (rows : CanonicalRows) (shapes : List Shape) (met : List ℕ) {a : ℕ} (r state value : ℕ)
     → IsAt rows.from.now a (Leaf state) → value ≡ get_or rows.canon.now state 0
     → r < length shapes → top_track shapes r ≡ 20 → ((letter : ℕ) → StandsFor met (map_at shapes r letter) value) → IsPruned rows shapes met a r
 IsPruned-leaf rows shapes met r state value at is known top map = record {
@@ -72,7 +72,7 @@ either : (met : List ℕ) (b : Bool) (v w x y : ℕ) → StandsFor met v w → S
 either met true v w x y p q = p
 either met false v w x y p q = q
 
-pub IsPruned-test : {rows : Rows} {mid : List Shape} (shapes : List Shape) {met : List ℕ} {a : ℕ} (r track low high : ℕ) {low' high' : ℕ}
+pub IsPruned-test : {rows : CanonicalRows} {mid : List Shape} (shapes : List Shape) {met : List ℕ} {a : ℕ} (r track low high : ℕ) {low' high' : ℕ}
     → IsAt rows.from.now a (Test track low high)
     → IsPruned rows mid met low low' → IsPruned rows mid met high high'
     → r < length shapes → ((letter : ℕ) → map_at shapes r letter ≡ chosen mid track low' high' letter) → track ≤ top_track shapes r → IsPruned rows shapes met a r
@@ -96,7 +96,7 @@ done_before done new node other noted there = elim (cases_eq other node) [
   | inr apart ↦ inl (sym (ap (λ l. get_or l other false) noted ∙ get_or-set_other done node other true false apart) ∙ there)
 ]
 
-pub AreDone-note : (rows : Rows) (shapes : List Shape) {met : List ℕ} {done : List Bool} (new : List Bool) (node r : ℕ)
+pub AreDone-note : (rows : CanonicalRows) (shapes : List Shape) {met : List ℕ} {done : List Bool} (new : List Bool) (node r : ℕ)
     → AreDone (canonical_at rows) met done → new ≡ set done node true
     → IsPruned rows shapes met node r → IsMetLeaf shapes met r → AreDone (canonical_at rows) met new
 AreDone-note rows shapes {met} {done} new node r all noted is leaf = record {

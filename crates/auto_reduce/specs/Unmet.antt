@@ -5,7 +5,7 @@ use Rattle.letter_diagram.specs.declared.diagrams.Shape.{Shape}
 use Rattle.letter_diagram.specs.Diagram.{map_at, top_track}
 use Rattle.letter_diagram.specs.NodeMemo.{answer_of}
 use Rattle.auto_refine.specs.Leading.{entry_at}
-use Rattle.auto_reduce.specs.declared.unmet.Rows.{Rows}
+use Rattle.auto_reduce.specs.declared.unmet.CanonicalRows.{CanonicalRows}
 use Rattle.auto_reduce.specs.declared.unmet.Unmet.{Unmet}
 use Rattle.auto_reduce.specs.declared.unmet.Unmet.TheVariants.{Nothing, One, Several}
 
@@ -30,16 +30,16 @@ abbrev pub StandsFor : List ℕ → ℕ → ℕ → Type 0
 StandsFor met v w = (v ≡ w) ⊎ (Contains met v × Contains met w)
 
 -- the canonical state to which a letter leads by a node
-abbrev pub canonical_at : Rows → ℕ → ℕ → ℕ
+abbrev pub canonical_at : CanonicalRows → ℕ → ℕ → ℕ
 canonical_at rows = entry_at rows.canon.now rows.from.now
 
 -- r leads to the canonical states to which a leads, but for those of a list, which may stand for one another
-pub record IsPruned (rows : Rows) (shapes : List Shape) (met : List ℕ) (a r : ℕ) : Type 0 where
+pub record IsPruned (rows : CanonicalRows) (shapes : List Shape) (met : List ℕ) (a r : ℕ) : Type 0 where
   pub known : r < length shapes
   pub map : (letter : ℕ) → StandsFor met (map_at shapes r letter) (canonical_at rows a letter)
   pub top : top_track rows.from.now a ≤ top_track shapes r
 
-pub record RemembersPruned (rows : Rows) (shapes : List Shape) (met : List ℕ) (memo : List (Option ℕ)) : Type 0 where
+pub record RemembersPruned (rows : CanonicalRows) (shapes : List Shape) (met : List ℕ) (memo : List (Option ℕ)) : Type 0 where
   pub pruned : (a r : ℕ) → answer_of memo a ≡ Some r → IsPruned rows shapes met a r
 
 -- some nodes are done no more, and no other became so

@@ -8,11 +8,11 @@ use std::marker::Model;
 
 /// Different states, in the order in which they were added.
 #[derive(Drop)]
-pub struct Order {
+pub struct StateOrder {
     seen: IndexSet<u32>,
 }
 
-impl Model for Order {
+impl Model for StateOrder {
     ghost Value = { List ℕ };
 
     ghost view = { λ o. o.seen.keys };
@@ -20,12 +20,12 @@ impl Model for Order {
     ghost invariant = { λ o. AllPairs (λ x y. x ≢ y) o.seen.keys };
 }
 
-impl Order {
+impl StateOrder {
     /// No state.
     pub fn new(alloc: Global) -> Self
         ensures { result ≡ [] }
     {
-        Order {
+        StateOrder {
             seen: IndexSet::new(alloc),
         }
     }

@@ -7,10 +7,10 @@ ghost use Rattle.auto_reduce.specs.Numbering.{IsNumberedTo, IsNumberedBreadthFir
 ghost use Rattle.auto_core.specs.Words.{HasSameWords};
 
 use crate::canonical::canonical;
-use crate::order::Order;
-use crate::unmet::{Kept, Rows, add_row, first_met};
+use crate::order::StateOrder;
+use crate::unmet::{CanonicalRows, Kept, add_row, first_met};
 use auto_core::Auto;
-use auto_refine::{RoundMemo, flags, lead_nodes, picked};
+use auto_refine::{RoundMemo, flags, mapped_nodes, picked};
 use letter_diagram::{Diagrams, Node};
 use std::alloc::{AllocError, Global};
 
@@ -20,7 +20,7 @@ fn breadth_first(
     a: &Auto,
     canon: &[u32],
     kept: &mut Kept,
-) -> Result<Order, AllocError>
+) -> Result<StateOrder, AllocError>
     requires canonical { IsCanonical a.now canon.now }
     requires done { (node : ℕ) → slice_index_or kept.old.done node false ≡ false }
     ensures order { IfOk result (λ order. IsOrder a.now canon.now order) }
@@ -28,7 +28,7 @@ fn breadth_first(
 {
     let from = a.diagrams();
     let mut order = first_met(alloc, from, a.first_node(), canon, &mut kept.memo)?;
-    let rows = Rows { from, canon };
+    let rows = CanonicalRows { from, canon };
     let mut place = 0;
     while place < order.as_slice().len() {
         let row = a.row_node(order.as_slice()[place]);
@@ -56,7 +56,7 @@ fn over_places(
     let nodes = first_and_picked(alloc, a, order)?;
     let room = nodes_left(from.len(), states, order.len());
     let mut diagrams = Diagrams::with_capacity(alloc, room)?;
-    let rows = lead_nodes(
+    let rows = mapped_nodes(
         from,
         nodes.as_slice(),
         table.as_slice(),

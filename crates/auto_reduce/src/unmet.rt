@@ -4,9 +4,9 @@ ghost use Rattle.letter_diagram.specs.Diagram.{map_at, top_track, Grows};
 ghost use Rattle.auto_refine.specs.Leading.{entry_at};
 ghost use Rattle.auto_reduce.specs.Unmet.{AddsRow, IsMetLeaf, IsPruned, RemembersPruned, StandsFor, WereRemoved, AreDone, AreDoneWith, AreDoneBut, Finds, canonical_at};
 
-use crate::order::Order;
-use auto_refine::{RoundMemo, lead_nodes};
-use letter_diagram::{Diagrams, Memo, Node, Shape};
+use crate::order::StateOrder;
+use auto_refine::{RoundMemo, mapped_nodes};
+use letter_diagram::{Diagrams, Node, NodeCache, Shape};
 use limits::MOST_TRACKS;
 use std::alloc::{AllocError, Global};
 use std::marker::Model;
@@ -70,7 +70,7 @@ impl Done {
 
 /// Nodes of one `Diagrams` whose values stand for canonical states.
 #[derive(Drop)]
-pub struct Rows<'a> {
+pub struct CanonicalRows<'a> {
     pub from: &'a Diagrams,
     pub canon: &'a [u32],
 }
@@ -108,8 +108,8 @@ impl Kept {
 
 /// States that were met, and a leaf that stands for all of them.
 #[derive(Drop)]
-struct Met<'a> {
-    order: &'a Order,
+struct VisitedStates<'a> {
+    order: &'a StateOrder,
     leaf: Node,
 }
 
@@ -122,7 +122,7 @@ pub enum Unmet {
 }
 
 /// What was found, with one more state.
-fn with_state(order: &Order, found: Unmet, state: u32) -> Unmet
+fn with_state(order: &StateOrder, found: Unmet, state: u32) -> Unmet
     ensures { Finds order.now found (λ letter. state) result }
 {
     if order.has(state) {
@@ -138,9 +138,9 @@ fn with_state(order: &Order, found: Unmet, state: u32) -> Unmet
 /// What was found, with the canonical states to which a node leads. Stops where several were found. The nodes that it passes are noted
 /// as done, and as passed: where several were found they aren't done. Costs the nodes that are not done.
 fn unmet_states(
-    rows: &Rows,
+    rows: &CanonicalRows,
     node: Node,
-    order: &Order,
+    order: &StateOrder,
     found: Unmet,
     kept: &mut Kept,
 ) -> Result<Unmet, AllocError>
@@ -171,7 +171,7 @@ fn unmet_states(
 }
 
 /// The leaf of a state, or where it was met that of a state that was met.
-fn pruned_leaf(met: &Met, to: &mut Diagrams, state: u32) -> Result<Node, AllocError>
+fn pruned_leaf(met: &VisitedStates, to: &mut Diagrams, state: u32) -> Result<Node, AllocError>
     requires { IsMetLeaf to.old met.now.order.now met.now.leaf }
     ensures known { IfOk result (λ leaf. leaf < length to.new) }
     ensures top { IfOk result (λ leaf. top_track to.new leaf ≡ MOST_TRACKS) }
@@ -188,9 +188,9 @@ fn pruned_leaf(met: &Met, to: &mut Diagrams, state: u32) -> Result<Node, AllocEr
 /// The node in `to` of a row, led to canonical states, where states that were met may stand for one another. Nodes that lead to such
 /// states alone are noted as done, and passed over from then on: the leaf of such a state stands for them.
 fn pruned(
-    rows: &Rows,
+    rows: &CanonicalRows,
     node: Node,
-    met: &Met,
+    met: &VisitedStates,
     to: &mut Diagrams,
     kept: &mut Kept,
 ) -> Result<Node, AllocError>
@@ -229,9 +229,9 @@ fn pruned(
 /// The same as `add_row`, by a diagram in which the states of the order stand for one another.
 fn add_several(
     alloc: Global,
-    rows: &Rows,
+    rows: &CanonicalRows,
     row: Node,
-    order: &mut Order,
+    order: &mut StateOrder,
     kept: &mut Kept,
 ) -> Result<(), AllocError>
     requires known { row < length rows.now.from.now }
@@ -245,7 +245,7 @@ fn add_several(
     let mut to = Diagrams::with_capacity(alloc, kept.passed.len())?;
     let leaf = to.leaf(order.as_slice()[0])?;
     kept.memo.clear();
-    let unmet = pruned(rows, row, &Met { order, leaf }, &mut to, kept)?;
+    let unmet = pruned(rows, row, &VisitedStates { order, leaf }, &mut to, kept)?;
     let leaves = to.leaves(unmet)?;
     order.add_all(leaves.as_slice())?;
     Ok(())
@@ -255,9 +255,9 @@ fn add_several(
 /// Makes a diagram only where there are several. Costs the nodes of the row that are not done.
 pub fn add_row(
     alloc: Global,
-    rows: &Rows,
+    rows: &CanonicalRows,
     row: Node,
-    order: &mut Order,
+    order: &mut StateOrder,
     kept: &mut Kept,
 ) -> Result<(), AllocError>
     requires known { row < length rows.now.from.now }
@@ -292,15 +292,15 @@ pub fn first_met(
     row: Node,
     canon: &[u32],
     memo: &mut RoundMemo,
-) -> Result<Order, AllocError>
+) -> Result<StateOrder, AllocError>
     requires known { row < length from.now }
     requires leaves { (letter : ℕ) → map_at from.now row letter < length canon.now }
     ensures adds { IfOk result (AddsRow (entry_at canon.now from.now row) []) }
     ensures different { IfOk result (AllPairs (λ j k. j ≢ k)) }
 {
-    let mut order = Order::new(alloc);
+    let mut order = StateOrder::new(alloc);
     let mut to = Diagrams::new(alloc);
-    let led = lead_nodes(from, &[row], canon, &mut to, memo)?;
+    let led = mapped_nodes(from, &[row], canon, &mut to, memo)?;
     let leaves = to.leaves(led[0])?;
     order.add_all(leaves.as_slice())?;
     Ok(order)

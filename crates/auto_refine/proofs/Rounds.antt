@@ -15,7 +15,7 @@ use Rattle.auto_core.specs.Automaton.{Automaton, IsAutomaton, width, next_state,
 use Rattle.auto_refine.proofs.States.{next_within}
 use Rattle.auto_refine.specs.Coarsest.{IsPartition}
 use Rattle.auto_refine.specs.Moves.{IsSplit, IsFiner}
-use Rattle.auto_ways.specs.RowNodes.{AreRowNodes}
+use Rattle.auto_predecessors.specs.RowNodes.{AreRowNodes}
 use Rattle.auto_refine.specs.Led.{IsLed, AreLedRows}
 use Rattle.auto_refine.specs.Refining.{IsRound, IsFlag, IsSound}
 use Rattle.auto_refine.specs.Leading.{IsLedFrom}

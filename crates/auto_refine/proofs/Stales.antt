@@ -10,7 +10,7 @@ use Rattle.auto_core.specs.Automaton.{Automaton, next_state}
 use Rattle.auto_refine.specs.Coarsest.{AreMembers}
 use Rattle.auto_refine.specs.Listing.{IsListing}
 use Rattle.auto_refine.specs.Moves.{AreSettled}
-use Rattle.auto_ways.specs.RowNodes.{AreRowNodes}
+use Rattle.auto_predecessors.specs.RowNodes.{AreRowNodes}
 use Rattle.auto_refine.specs.Picked.{ArePicked}
 use Rattle.auto_refine.specs.Led.{IsLed, IsShared, HasSharing, AreLedRows, AreLedAgain}
 use Rattle.auto_refine.specs.Put.{IsPut}

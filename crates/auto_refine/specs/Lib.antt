@@ -1,7 +1,7 @@
 pub use Rattle.letter_diagram.specs.Diagram
 pub use Rattle.auto_core.specs.Automaton
 pub use Rattle.auto_core.specs.Reduced
-pub use Rattle.auto_ways.specs.RowNodes
+pub use Rattle.auto_predecessors.specs.RowNodes
 pub mod Coarsest
 pub mod Listing
 pub mod Moves

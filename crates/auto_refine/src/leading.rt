@@ -5,7 +5,7 @@ ghost use Rattle.letter_diagram.specs.Listed.{EachAnswers};
 ghost use Rattle.auto_refine.specs.Leading.{IsLedFrom, by_table};
 
 use crate::round_memo::RoundMemo;
-use letter_diagram::{Carry, Diagrams, Node, Shape, carried_all};
+use letter_diagram::{Diagrams, Node, Rebuild, Shape, rebuilt_all};
 use std::alloc::AllocError;
 
 /// Carries nodes of another `Diagrams` to the entries of a table at their values.
@@ -15,7 +15,7 @@ pub struct ByTable<'a> {
     pub table: &'a [u32],
 }
 
-impl<'a> Carry for ByTable<'a> {
+impl<'a> Rebuild for ByTable<'a> {
     ghost carrier = { λ s. by_table s.from.now s.table.now };
 
     ghost can = { λ s value. value < length s.table.now };
@@ -44,7 +44,7 @@ impl<'a> Carry for ByTable<'a> {
 /// For each of several nodes of `from`, in their order, the node in `to` that gives the entry of `table` at each of its values.
 /// What they share is done once. `memo` serves one call after another, for which it has room for each node of `from`.
 /// Costs the nodes that are led, and those that were led before.
-pub fn lead_nodes(
+pub fn mapped_nodes(
     from: &Diagrams,
     nodes: &[Node],
     table: &[u32],
@@ -57,6 +57,6 @@ pub fn lead_nodes(
     ensures grows { Grows to.old to.new }
 {
     memo.clear();
-    let led = carried_all(&ByTable { from, table }, nodes, to, memo)?;
+    let led = rebuilt_all(&ByTable { from, table }, nodes, to, memo)?;
     Ok(led)
 }

@@ -17,7 +17,7 @@ mod signatures;
 mod stale;
 
 pub use classes::{Partition, members};
-pub use leading::{ByTable, lead_nodes};
+pub use leading::{ByTable, mapped_nodes};
 pub use partition::coarsest;
 pub use round_memo::RoundMemo;
 pub use rows::{flags, picked};

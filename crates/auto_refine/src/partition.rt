@@ -11,9 +11,9 @@ use crate::listing::{Listing, add_lists, all_states, list_each, list_states};
 use crate::moves::{Moves, candidates, find_moves};
 use crate::put::put;
 use crate::round_memo::RoundMemo;
-use crate::stale::{lead, lead_again, sharing_states, stale_states};
+use crate::stale::{lead, remap_rows, sharing_states, stale_states};
 use auto_core::Auto;
-use auto_ways::{row_nodes, row_ways};
+use auto_predecessors::{row_nodes, row_predecessors};
 use letter_diagram::{Diagrams, Node};
 use std::alloc::{AllocError, Global};
 
@@ -169,7 +169,7 @@ fn next_round(a: &Auto, refining: &mut Refining, stale: &[u32]) -> Result<Vec<u3
     ensures within { IfOk result (λ moved. All (λ state. state < length a.now.accept) moved.items) }
     ensures count { IfOk result (λ moved. CountGrows refining.old.partition refining.new.partition moved.items) }
 {
-    lead_again(
+    remap_rows(
         &mut refining.diagrams,
         a,
         row_nodes(a),
@@ -212,7 +212,7 @@ fn narrow_rounds(
     if moved.is_empty() {
         return Ok(());
     }
-    let ways = row_ways(alloc, a, row_nodes(a))?;
+    let ways = row_predecessors(alloc, a, row_nodes(a))?;
     while !moved.is_empty() {
         let stale = stale_states(
             alloc,

@@ -2,7 +2,7 @@
 ghost use Rattle.std.specs.Prelude.{◌≡◌, ℕ, None, IfOk};
 ghost use Rattle.letter_diagram.specs.NodeMemo.{answer_of};
 
-use letter_diagram::{Memo, Node, NodeMemo};
+use letter_diagram::{Node, NodeCache, NodeMemo};
 use std::alloc::{AllocError, Global};
 use std::marker::Model;
 
@@ -57,7 +57,7 @@ impl RoundMemo {
 }
 
 /// A node past those that the memo has room for is not remembered.
-impl Memo for RoundMemo {
+impl NodeCache for RoundMemo {
     ghost answers = { answer_of };
 
     fn answer(&self, node: Node) -> Option<Node> {

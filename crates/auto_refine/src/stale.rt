@@ -3,18 +3,18 @@ ghost use Rattle.std.specs.Prelude.{◌≡◌, ◌<◌, ◌^◌, All, length, If
 ghost use Rattle.letter_diagram.specs.Diagram.{Grows};
 ghost use Rattle.auto_refine.specs.Coarsest.{AreClasses, IsPartition};
 ghost use Rattle.auto_refine.specs.Listing.{AreLists};
-ghost use Rattle.auto_ways.specs.RowNodes.{AreRowNodes};
+ghost use Rattle.auto_predecessors.specs.RowNodes.{AreRowNodes};
 ghost use Rattle.auto_refine.specs.Led.{AreLedRows, HasSharing, HasAllSharing, AreStale, AreLedAgain};
-ghost use Rattle.auto_ways.specs.Ways.{AreRowWays};
+ghost use Rattle.auto_predecessors.specs.Ways.{AreRowWays};
 
 use crate::classes::Partition;
-use crate::leading::lead_nodes;
+use crate::leading::mapped_nodes;
 use crate::listing::{Listing, all_states};
 use crate::put::put;
 use crate::round_memo::RoundMemo;
 use crate::rows::picked;
 use auto_core::Auto;
-use auto_ways::{Ways, leading_to};
+use auto_predecessors::{Predecessors, predecessors_of};
 use letter_diagram::{Diagrams, Node};
 use std::alloc::{AllocError, Global};
 
@@ -62,7 +62,7 @@ pub fn sharing_states(
 pub fn stale_states(
     alloc: Global,
     a: &Auto,
-    ways: &Ways,
+    ways: &Predecessors,
     partition: &Partition,
     listing: &Listing,
     moved: &[u32],
@@ -73,13 +73,13 @@ pub fn stale_states(
     requires within { All (λ state. state < length a.now.accept) moved.now }
     ensures { IfOk result (λ stale. AreStale a.now partition.now.classes.items moved.now stale.items) }
 {
-    let found = leading_to(alloc, a, ways, moved)?;
+    let found = predecessors_of(alloc, a, ways, moved)?;
     let stale = sharing(alloc, partition, listing, found.as_slice())?;
     Ok(stale)
 }
 
 /// Leads the rows of some states to classes. The other states keep their nodes.
-pub fn lead_again(
+pub fn remap_rows(
     diagrams: &mut Diagrams,
     a: &Auto,
     rows: &[Node],
@@ -96,7 +96,7 @@ pub fn lead_again(
     ensures grows { Grows diagrams.old diagrams.new }
 {
     let picked = picked(diagrams.alloc(), rows, states)?;
-    let nodes = lead_nodes(a.diagrams(), picked.as_slice(), classes, diagrams, memo)?;
+    let nodes = mapped_nodes(a.diagrams(), picked.as_slice(), classes, diagrams, memo)?;
     put(led, states, nodes.as_slice());
     Ok(())
 }
@@ -113,7 +113,7 @@ pub fn lead(
     requires partition { IsPartition (length a.now.accept) partition.now.classes.items partition.now.count }
     ensures { IfOk result (λ led. AreLedRows a.now diagrams.new partition.now.classes.items led.items) }
 {
-    let led = lead_nodes(
+    let led = mapped_nodes(
         a.diagrams(),
         rows,
         partition.classes.as_slice(),

@@ -6,7 +6,7 @@ use Rattle.track_word.specs.Word.{integer_bit, letter_of, letters_below}
 use Rattle.track_word.proofs.Spelling.{integer_bit-lt}
 use Rattle.auto_core.proofs.Prefixes.{int_shr-none}
 use Rattle.auto_search.specs.declared.axis.Axis.{Axis}
-use Rattle.auto_search.specs.declared.ray.Ray.{Ray}
+use Rattle.auto_search.specs.declared.ray.TrackRay.{TrackRay}
 use Rattle.auto_search.specs.declared.tuple_ray.TupleRay.{TupleRay}
 use Rattle.auto_search.specs.TupleRay.{IsTupleRay, IsSlope, tuple_at}
 use Rattle.auto_search.specs.Bits.{number, sum_at, carry, letter_at, letters, fall, rise, IsAxis, IsRay}
@@ -69,7 +69,7 @@ along-is {value} {d} {near} t slope is =
     regroup : (v m n : ℤ) → v +ℤ (m +ℤ n) ≡ v +ℤ m +ℤ n
     regroup v m n = omega (arith, ints)
 
-module _ (way : TupleRay) (near : ℕ) {steps : ℕ} (ray : Ray) (is_tuple_ray : IsTupleRay way) (is : IsRay way near steps ray) where
+module _ (way : TupleRay) (near : ℕ) {steps : ℕ} (ray : TrackRay) (is_tuple_ray : IsTupleRay way) (is : IsRay way near steps ray) where
   -- the letter at sums whose bits are those of two values
   pub letter-is : (place sx sy : ℕ) (x y : ℤ) → place ≤ ray.top → sx % 2 ≡ integer_bit x place → sy % 2 ≡ integer_bit y place
       → letter_at ray place sx sy ≡ letter_of (set (set way.fixed.now way.x_track x) way.y_track y) place

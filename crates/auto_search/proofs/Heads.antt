@@ -11,7 +11,7 @@ use Rattle.auto_core.specs.Automaton.{Automaton, IsAutomaton, Accepts, first_sta
 use Rattle.auto_core.specs.Integers.{DecidesIntegers, IsAccepted}
 use Rattle.auto_core.proofs.Members.{accepted-spelled}
 use Rattle.auto_search.specs.declared.axis.Axis.{Axis}
-use Rattle.auto_search.specs.declared.ray.Ray.{Ray}
+use Rattle.auto_search.specs.declared.ray.TrackRay.{TrackRay}
 use Rattle.auto_search.specs.declared.tuple_ray.TupleRay.{TupleRay}
 use Rattle.auto_search.specs.TupleRay.{IsTupleRay, IsSlope, tuple_at, IsHit}
 use Rattle.auto_search.specs.Bits.{number, sum_at, carry, letter_at, IsAxis, IsRay}
@@ -52,7 +52,7 @@ unfolding down
 down-run a tuple place zero = (let e : place ≡ place + 0 = omega arith in ap (λ k. state_of a (spelled tuple k)) e)
 down-run a tuple place (suc n) = down-run a tuple (suc place) n ∙ (let e : suc place + n ≡ place + suc n = omega arith in ap (λ k. state_of a (spelled tuple k)) e)
 
-module _ (a : Automaton) (way : TupleRay) (near : ℕ) {steps : ℕ} (ray : Ray) (is_tuple_ray : IsTupleRay way) (is : IsRay way near steps ray) (x y : ℤ) where
+module _ (a : Automaton) (way : TupleRay) (near : ℕ) {steps : ℕ} (ray : TrackRay) (is_tuple_ray : IsTupleRay way) (is : IsRay way near steps ray) (x y : ℤ) where
   pub changed : List ℤ
   changed = set (set way.fixed.now way.x_track x) way.y_track y
 
@@ -145,7 +145,7 @@ whole-lt head lo =
     below hi p q n l m = omega (arith, l, m)
 
 module _ (a : Automaton) (valid : IsAutomaton a) (decides : DecidesIntegers a) (spell : BitsSpell) (keeps : RepeatKeepsValues) (equal : EqualValuesEqualWords)
-    (way : TupleRay) (near : ℕ) {steps : ℕ} (ray : Ray) (is_tuple_ray : IsTupleRay way) (is : IsRay way near steps ray)
+    (way : TupleRay) (near : ℕ) {steps : ℕ} (ray : TrackRay) (is_tuple_ray : IsTupleRay way) (is : IsRay way near steps ray)
     (count : length way.fixed.now ≡ length a.tracks) (head lo : List Bool) (size : length lo ≡ ray.top) where
   -- the state of a head decides, together with the bits after it, whether the tuple is in the set
   pub record Decided (state : ℕ) : Type 0 where

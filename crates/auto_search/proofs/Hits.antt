@@ -15,7 +15,7 @@ use Rattle.auto_core.specs.Automaton.{Automaton, IsAutomaton, Accepts, width, fi
 use Rattle.auto_core.specs.Integers.{DecidesIntegers}
 use Rattle.auto_core.proofs.Members.{accepted-spelled}
 use Rattle.auto_search.specs.declared.axis.Axis.{Axis}
-use Rattle.auto_search.specs.declared.ray.Ray.{Ray}
+use Rattle.auto_search.specs.declared.ray.TrackRay.{TrackRay}
 use Rattle.auto_search.specs.declared.tuple_ray.TupleRay.{TupleRay}
 use Rattle.auto_search.specs.TupleRay.{IsTupleRay, IsSlope, tuple_at, IsHit, IsLeastFound}
 use Rattle.auto_search.specs.Bits.{number, carry, letter_at, letters, slot_of, fall, rise, IsAxis, IsRay}
@@ -130,7 +130,7 @@ all-fit values i j place x y all fx fy k d h =
     ]
 
 module _ (a : Automaton) (valid : IsAutomaton a) (decides : DecidesIntegers a) (spell : BitsSpell) (keeps : RepeatKeepsValues) (equal : EqualValuesEqualWords)
-    (way : TupleRay) (near : ℕ) {steps : ℕ} (ray : Ray) (is_tuple_ray : IsTupleRay way) (is : IsRay way near steps ray) (count : length way.fixed.now ≡ length a.tracks) where
+    (way : TupleRay) (near : ℕ) {steps : ℕ} (ray : TrackRay) (is_tuple_ray : IsTupleRay way) (is : IsRay way near steps ray) (count : length way.fixed.now ≡ length a.tracks) where
   -- the letters of the ray are those of the automaton
   pub suits : Suits a ray
   suits = record {
@@ -241,7 +241,7 @@ module _ (a : Automaton) (valid : IsAutomaton a) (decides : DecidesIntegers a) (
 
 -- the least distance is the least number ahead
 module _ (a : Automaton) (valid : IsAutomaton a) (decides : DecidesIntegers a) (spell : BitsSpell) (keeps : RepeatKeepsValues) (equal : EqualValuesEqualWords)
-    (way : TupleRay) (near far : ℕ) (ray : Ray) (is_tuple_ray : IsTupleRay way) (is : IsRay way near (far - near) ray) (count : length way.fixed.now ≡ length a.tracks)
+    (way : TupleRay) (near far : ℕ) (ray : TrackRay) (is_tuple_ray : IsTupleRay way) (is : IsRay way near (far - near) ray) (count : length way.fixed.now ≡ length a.tracks)
     (front : List (Option ℕ)) (start : IsStart a ray front) (order : near ≤ far) where
   -- the bits of a distance that is met
   met : (t : ℕ) → near ≤ t → t ≤ far → IsHit a way t → (bits : List Bool) × (length bits ≡ ray.top) × (number bits ≡ t - near) × Completes a ray front bits

@@ -6,7 +6,7 @@ use Rattle.std.proofs.lemmas.List.{get_or-set_same, get_or-set_other}
 use Rattle.std.proofs.lemmas.Nat.{same_from_place}
 use Rattle.std.proofs.lemmas.Nat.Bits.{bit_at_set_other}
 use Rattle.auto_core.specs.Automaton.{Automaton}
-use Rattle.auto_search.specs.declared.ray.Ray.{Ray}
+use Rattle.auto_search.specs.declared.ray.TrackRay.{TrackRay}
 use Rattle.auto_search.specs.Bits.{slot_of}
 use Rattle.auto_search.specs.Search.{IsDead, Remembers, cell_of}
 use Rattle.auto_search.specs.declared.marks.Marks.{Marks}
@@ -30,7 +30,7 @@ IsMarked-set failed cell slot small inside = record {
 }
 
 -- marks at the states of a front that no bits complete
-pub Remembers-marked : {a : Automaton} {ray : Ray} {old : List ℕ} (new : List ℕ) (place state slot : ℕ) (front : List (Option ℕ)) → Remembers a ray old
+pub Remembers-marked : {a : Automaton} {ray : TrackRay} {old : List ℕ} (new : List ℕ) (place state slot : ℕ) (front : List (Option ℕ)) → Remembers a ray old
     → state < length a.accept → IsMarked old new (cell_of a place state) slot
     → get_or front slot None ≡ Some state → IsDead a ray place front → Remembers a ray new
 Remembers-marked {a} {ray} new place state slot front known small is found dead = record {

@@ -4,7 +4,7 @@ use Rattle.std.proofs.lemmas.Bool.{cases_eq, cases_lt}
 use Rattle.std.proofs.lemmas.Bool.Decides.{nat_tests}
 use Rattle.std.proofs.lemmas.List.{length-set, get_or-set_same, get_or-set_other}
 use Rattle.auto_core.specs.Automaton.{Automaton}
-use Rattle.auto_search.specs.declared.ray.Ray.{Ray}
+use Rattle.auto_search.specs.declared.ray.TrackRay.{TrackRay}
 use Rattle.std.proofs.lemmas.Nat.{same_from_place}
 use Rattle.track_word.proofs.Spelling.{integer_bit-lt}
 use Rattle.auto_core.specs.Automaton.{next_state}
@@ -73,7 +73,7 @@ module _ (g new : Trace) (states slots states' slots' : List ℕ) (len : ℕ) (g
   Known-kept head slot state k = elim k [ inl e ↦ inl (Entered-kept head slot state e) | inr t ↦ inr (Twice-kept slot state t) ]
 
 -- the moment passes, and there was nothing to enter
-pub met-wait : {a : Automaton} {ray : Ray} {g : Trace} {times states slots : List ℕ} {len starts now : ℕ} → IsMet a ray g times states slots len starts now
+pub met-wait : {a : Automaton} {ray : TrackRay} {g : Trace} {times states slots : List ℕ} {len starts now : ℕ} → IsMet a ray g times states slots len starts now
     → ((slot state : ℕ) → slot ≡ now → slot < 9 → IsSlot ray slot → headed a ray [] (slot / 3) (slot % 3) ≡ Some state → Entered g states slots len [] slot state)
     → ((k slot state : ℕ) (bit : Bool) → k < len → slot < 9 → moment k bit slot ≡ now → (g.heads k ≡ [] → bit ≡ true) → IsSlot ray slot
     → headed a ray (bit ∷ g.heads k) (slot / 3) (slot % 3) ≡ Some state
@@ -100,7 +100,7 @@ met-wait {now} is first here = record {
   ];
 }
 
-module _ (a : Automaton) (ray : Ray) (g : Trace) (times times' states slots : List ℕ) (len starts starts' now : ℕ) (is : IsMet a ray g times states slots len starts now)
+module _ (a : Automaton) (ray : TrackRay) (g : Trace) (times times' states slots : List ℕ) (len starts starts' now : ℕ) (is : IsMet a ray g times states slots len starts now)
     (head : List Bool) (parent : ℕ) (bit : Bool) (slot state : ℕ) (in_states : len < length states) (in_slots : len < length slots) where
   abbrev pub next : Trace
   next = grown g len head parent bit now
@@ -241,7 +241,7 @@ trimmed-more [] false is some = absurd (let e = some refl in cc)
 trimmed-more (b ∷ head) false is some = (is, let h = is.1 in omega (arith, h))
 
 -- the front after one more bit of one state, as heads say it
-module _ (a : Automaton) (ray : Ray) (suits : Suits a ray) (slot0 state0 : ℕ) (bit : Bool) (after : List (Option ℕ)) (is : IsAfter a ray slot0 state0 bit after) (head : List Bool)
+module _ (a : Automaton) (ray : TrackRay) (suits : Suits a ray) (slot0 state0 : ℕ) (bit : Bool) (after : List (Option ℕ)) (is : IsAfter a ray slot0 state0 bit after) (head : List Bool)
     (reads : headed a ray head (slot0 / 3) (slot0 % 3) ≡ Some state0) where
   low-part : (slot : ℕ) → IsSlot ray slot → sum_at ray.y ray.top (slot % 3) bit / 2 ≤ 2
   low-part slot fits =
@@ -282,7 +282,7 @@ module _ (a : Automaton) (ray : Ray) (suits : Suits a ray) (slot0 state0 : ℕ) 
       ∙ sym (led slot fits e) ∙ h
 
 -- one try
-module _ {a : Automaton} {ray : Ray} (suits : Suits a ray) {g : Trace} {times states slots : List ℕ} {len starts : ℕ} (entry slot : ℕ) (bit : Bool)
+module _ {a : Automaton} {ray : TrackRay} (suits : Suits a ray) {g : Trace} {times states slots : List ℕ} {len starts : ℕ} (entry slot : ℕ) (bit : Bool)
     (is : IsMet a ray g times states slots len starts (moment entry bit slot))
     (place : HasPlace a times states slots len) (within : entry < len) (small : slot < 9) (some : g.heads entry ≡ [] → bit ≡ true)
     {after : List (Option ℕ)} (is_after : IsAfter a ray (get_or slots entry 0) (get_or states entry 0) bit after) (front : IsFront a after) where
@@ -457,7 +457,7 @@ KeepsTrace-trans more p q = record {
 }
 
 -- a try of a walk
-module _ {a : Automaton} {ray : Ray} (suits : Suits a ray) {times states slots times' states' slots' : List ℕ} {len len' starts now : ℕ} (entry slot : ℕ) (bit : Bool)
+module _ {a : Automaton} {ray : TrackRay} (suits : Suits a ray) {times states slots times' states' slots' : List ℕ} {len len' starts now : ℕ} (entry slot : ℕ) (bit : Bool)
     (walk : Walks a ray times states slots len times' states' slots' len' starts starts now (moment entry bit slot))
     (within : entry < len) (small : slot < 9) (may : (bit ≡ true) ⊎ (starts ≤ entry)) {after : List (Option ℕ)}
     (is_after : IsAfter a ray (get_or slots entry 0) (get_or states entry 0) bit after) (front : IsFront a after) where
@@ -531,7 +531,7 @@ within-block k entry slot false h l u = (omega (arith, h, l, u), refl)
 within-block k entry slot true h l u = absurd (omega (arith, h, l, u))
 
 -- no try by 0 from an entry that the walk begins with
-pub walk-skip : (a : Automaton) (ray : Ray) (times states slots : List ℕ) (len starts entry : ℕ) → HasPlace a times states slots len → entry < len → entry < starts
+pub walk-skip : (a : Automaton) (ray : TrackRay) (times states slots : List ℕ) (len starts entry : ℕ) → HasPlace a times states slots len → entry < len → entry < starts
     → Walks a ray times states slots len times states slots len starts starts (moment entry false 0) (moment entry false 9)
 walk-skip a ray times states slots len starts entry place within start = record {
   longer = omega arith;
@@ -578,7 +578,7 @@ blank : Trace
 blank = record { heads = λ j. []; parent = λ j. 0; bit = λ j. false; key = λ j. 0 }
 
 -- nothing was met
-pub begin-empty : {a : Automaton} {ray : Ray} {times states slots : List ℕ} {len : ℕ} → HasSizes a times states slots
+pub begin-empty : {a : Automaton} {ray : TrackRay} {times states slots : List ℕ} {len : ℕ} → HasSizes a times states slots
     → ((k : ℕ) → get_or times k 0 ≡ 0) → len ≡ 0 → Begins a ray times states slots len 0
 unfolding blank
 begin-empty sizes none e = rw e (record {
@@ -602,7 +602,7 @@ begin-empty sizes none e = rw e (record {
   };
 })
 
-module _ {a : Automaton} {ray : Ray} {times states slots : List ℕ} {len slot : ℕ} (is : Begins a ray times states slots len slot) (small : slot < 9)
+module _ {a : Automaton} {ray : TrackRay} {times states slots : List ℕ} {len slot : ℕ} (is : Begins a ray times states slots len slot) (small : slot < 9)
     {front : List (Option ℕ)} (opened : IsOpened a ray front) (fits : IsFront a front) where
   not-now : (k slot' : ℕ) (bit : Bool) → moment k bit slot' ≡ slot → ⊥
   not-now k slot' true e = omega (arith, e, small)

@@ -7,7 +7,7 @@ use Rattle.track_word.specs.Word.{BitsSpell, RepeatKeepsValues, EqualValuesEqual
 use Rattle.track_word.proofs.Spelling.{integer_bit-lt}
 use Rattle.auto_core.specs.Automaton.{Automaton, IsAutomaton, next_state}
 use Rattle.auto_core.specs.Integers.{DecidesIntegers}
-use Rattle.auto_search.specs.declared.ray.Ray.{Ray}
+use Rattle.auto_search.specs.declared.ray.TrackRay.{TrackRay}
 use Rattle.auto_search.specs.declared.few.Few.{Few}
 use Rattle.auto_search.specs.Fews.{HasFew}
 use Rattle.auto_search.specs.declared.tuple_ray.TupleRay.{TupleRay}
@@ -25,13 +25,13 @@ use Rattle.auto_search.proofs.Counts.{Raised, raised-has}
 use Rattle.auto_search.proofs.Tallies.{has-same}
 
 -- the front of a head
-pub record IsHeadFront (a : Automaton) (ray : Ray) (head : List Bool) (front : List (Option ℕ)) : Type 0 where
+pub record IsHeadFront (a : Automaton) (ray : TrackRay) (head : List Bool) (front : List (Option ℕ)) : Type 0 where
   pub at : (slot : ℕ) → slot < 9 → IsSlot ray slot → get_or front slot None ≡ read a ray head (slot / 3) (slot % 3)
 
-head-start : {a : Automaton} {ray : Ray} {front : List (Option ℕ)} → IsStart a ray front → IsHeadFront a ray [] front
+head-start : {a : Automaton} {ray : TrackRay} {front : List (Option ℕ)} → IsStart a ray front → IsHeadFront a ray [] front
 head-start is = record { at = λ slot small fits. is.at slot small }
 
-head-step : {a : Automaton} {ray : Ray} (suits : Suits a ray) {head : List Bool} {bit : Bool} {front after : List (Option ℕ)}
+head-step : {a : Automaton} {ray : TrackRay} (suits : Suits a ray) {head : List Bool} {bit : Bool} {front after : List (Option ℕ)}
     → IsHeadFront a ray head front → IsStep a ray ray.top bit front after → IsHeadFront a ray (bit ∷ head) after
 head-step {a} {ray} suits {bit} is step = record {
   at = λ slot small fits.
@@ -53,7 +53,7 @@ head-step {a} {ray} suits {bit} is step = record {
       step.at slot small fx fy ∙ ap (option_map (λ (state : ℕ). next_state a state (letter_at ray ray.top sx sy))) above';
 }
 
-pub opened-steps : {a : Automaton} {ray : Ray} (suits : Suits a ray) (f0 f1 f2 f3 : List (Option ℕ)) → IsStart a ray f0
+pub opened-steps : {a : Automaton} {ray : TrackRay} (suits : Suits a ray) (f0 f1 f2 f3 : List (Option ℕ)) → IsStart a ray f0
     → IsStep a ray ray.top false f0 f1 → IsStep a ray ray.top false f1 f2 → IsStep a ray ray.top false f2 f3 → IsOpened a ray f3
 opened-steps suits f0 f1 f2 f3 s0 s1 s2 s3 =
     let h = head-step suits (head-step suits (head-step suits (head-start s0) s1) s2) s3 in
@@ -74,7 +74,7 @@ trimmed-for (suc fuel) n f = elim (cases_eq n 0) [
 ]
 
 module _ (a : Automaton) (valid : IsAutomaton a) (decides : DecidesIntegers a) (spell : BitsSpell) (keeps : RepeatKeepsValues) (equal : EqualValuesEqualWords)
-    (way : TupleRay) (ray : Ray) (is_tuple_ray : IsTupleRay way) (is : IsRay way 1 0 ray) (count : length way.fixed.now ≡ length a.tracks) (suits : Suits a ray) where
+    (way : TupleRay) (ray : TrackRay) (is_tuple_ray : IsTupleRay way) (is : IsRay way 1 0 ray) (count : length way.fixed.now ≡ length a.tracks) (suits : Suits a ray) where
   slot-carries : (lo : List Bool) → (slot_of ray lo / 3 ≡ carry ray.x lo) × (slot_of ray lo % 3 ≡ carry ray.y lo)
   slot-carries lo =
       let hy = carry-le ray.y lo in

@@ -3,7 +3,7 @@ use Rattle.std.proofs.Common.{◌≡◌, ℕ, ◌+◌, ◌*◌, ◌/◌, ◌%◌
 use Rattle.std.proofs.lemmas.Bool.{cases_eq, cases_lt}
 use Rattle.std.proofs.lemmas.Nat.{same_from_place}
 use Rattle.auto_core.specs.Automaton.{Automaton}
-use Rattle.auto_search.specs.declared.ray.Ray.{Ray}
+use Rattle.auto_search.specs.declared.ray.TrackRay.{TrackRay}
 use Rattle.auto_search.specs.declared.few.Few.{Few}
 use Rattle.auto_search.specs.declared.few.Few.TheVariants.{Zero, One, More}
 use Rattle.auto_search.specs.Fews.{HasFew, plus_of}
@@ -31,7 +31,7 @@ parts-same top m n b c lb lc e =
     let s = same_from_place m (number b) n (number c) (2 ^ top) hb hc e in
     (s.0, number-same b c (lb ∙ sym lc) s.1)
 
-Yields-kept : (a : Automaton) (ray : Ray) {g h : Trace} (states slots states' slots' : List ℕ) {len : ℕ} (end : ℕ) → end ≤ len → KeepsTrace g h len
+Yields-kept : (a : Automaton) (ray : TrackRay) {g h : Trace} (states slots states' slots' : List ℕ) {len : ℕ} (end : ℕ) → end ≤ len → KeepsTrace g h len
     → ((j : ℕ) → j < len → get_or states' j 0 ≡ get_or states j 0) → ((j : ℕ) → j < len → get_or slots' j 0 ≡ get_or slots j 0)
     → (n : ℕ) → Yields a ray g states slots end n → Yields a ray h states' slots' end n
 Yields-kept a ray states slots states' slots' {len} end inside goes ss sl n y =
@@ -50,7 +50,7 @@ KeepsTrace-back : {g h : Trace} {len : ℕ} → KeepsTrace g h len → KeepsTrac
 KeepsTrace-back p = record { heads = λ j l. sym (p.heads j l); parent = λ j l. sym (p.parent j l); bit = λ j l. sym (p.bit j l); key = λ j l. sym (p.key j l) }
 
 -- what one entry yields
-alone-yields : (a : Automaton) (ray : Ray) (g : Trace) (states slots : List ℕ) (end : ℕ) {front : List (Option ℕ)} → IsAlone (get_or slots end 0) (get_or states end 0) front → (n : ℕ)
+alone-yields : (a : Automaton) (ray : TrackRay) (g : Trace) (states slots : List ℕ) (end : ℕ) {front : List (Option ℕ)} → IsAlone (get_or slots end 0) (get_or states end 0) front → (n : ℕ)
     → Raised (head_number (g.heads end) * 2 ^ ray.top) (CompletedBy a ray ray.top front) n → Yields a ray g states slots (end + 1) n
 alone-yields a ray g states slots end is n (m, e, by) =
     let only = is.only (slot_of ray by.bits) by.completes.state by.completes.found in
@@ -64,7 +64,7 @@ alone-yields a ray g states slots end is n (m, e, by) =
       leads = subst (λ s. Leads a ray s by.bits) only.1 by.completes.leads;
     }
 
-module _ (a : Automaton) (ray : Ray) (suits : Suits a ray) (g : Trace) (times states slots : List ℕ) (len starts now end : ℕ)
+module _ (a : Automaton) (ray : TrackRay) (suits : Suits a ray) (g : Trace) (times states slots : List ℕ) (len starts now end : ℕ)
     (is : IsMet a ray g times states slots len starts now) (within : end < len)
     (front : List (Option ℕ)) (alone : IsAlone (get_or slots end 0) (get_or states end 0) front) where
   split : (n : ℕ) → Yields a ray g states slots (end + 1) n → Yields a ray g states slots end n ⊎ Raised (head_number (g.heads end) * 2 ^ ray.top) (CompletedBy a ray ray.top front) n
@@ -108,7 +108,7 @@ module _ (a : Automaton) (ray : Ray) (suits : Suits a ray) (g : Trace) (times st
       (alone-yields a ray g states slots end alone) split disjoint
 
 -- one more entry is counted, and followed
-pub turn-counts : {a : Automaton} {ray : Ray} (suits : Suits a ray) (times states slots times1 states1 slots1 times2 states2 slots2 : List ℕ)
+pub turn-counts : {a : Automaton} {ray : TrackRay} (suits : Suits a ray) (times states slots times1 states1 slots1 times2 states2 slots2 : List ℕ)
     (len len1 len2 starts end : ℕ) (few more : Few) (front : List (Option ℕ))
     → Counting a ray times states slots len starts end few → end < len → IsAlone (get_or slots end 0) (get_or states end 0) front → HasFew more (CompletedBy a ray ray.top front)
     → Walks a ray times states slots len times1 states1 slots1 len1 starts starts (moment end false 0) (moment end false 9)
@@ -143,7 +143,7 @@ turn-counts {a} {ray} suits times states slots times1 states1 slots1 times2 stat
           (Yields-kept a ray states2 slots2 states slots (end + 1) inside (KeepsTrace-back goes) (λ j h. sym (ss j h)) (λ j h. sym (sl j h)));
     }
 
-module _ {a : Automaton} {ray : Ray} (suits : Suits a ray) {times states slots : List ℕ} {len starts end : ℕ} {few : Few} (is : Counting a ray times states slots len starts end few) where
+module _ {a : Automaton} {ray : TrackRay} (suits : Suits a ray) {times states slots : List ℕ} {len starts end : ℕ} {few : Few} (is : Counting a ray times states slots len starts end few) where
   pub yields-meets : {n : ℕ} → Yields a ray is.trace states slots end n → Meets a ray n
   yields-meets y =
       let w : y.entry < len = let v = y.within in let e = is.enough in omega (arith, v, e) in
@@ -229,7 +229,7 @@ module _ {a : Automaton} {ray : Ray} (suits : Suits a ray) {times states slots :
         at More h = (h.0, h.1, h.2, yields-meets h.3, yields-meets h.4)
 
 -- a state that was entered for a slot has an entry
-pub counting-entered : {a : Automaton} {ray : Ray} {times states slots : List ℕ} {len starts end : ℕ} {few : Few}
+pub counting-entered : {a : Automaton} {ray : TrackRay} {times states slots : List ℕ} {len starts end : ℕ} {few : Few}
     → Counting a ray times states slots len starts end few → IsEntered times states slots len
 counting-entered {a} {ray} {times} {states} {slots} {len} is =
     let inside = place-inside is.place in

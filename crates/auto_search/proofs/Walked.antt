@@ -3,7 +3,7 @@ use Rattle.std.proofs.Common.{◌≡◌, ◌≢◌, ℕ, zero, suc, ◌+◌, ◌
 use Rattle.std.proofs.lemmas.Bool.{cases_eq, cases_lt}
 use Rattle.track_word.proofs.Spelling.{integer_bit-lt}
 use Rattle.auto_core.specs.Automaton.{Automaton, next_state}
-use Rattle.auto_search.specs.declared.ray.Ray.{Ray}
+use Rattle.auto_search.specs.declared.ray.TrackRay.{TrackRay}
 use Rattle.auto_search.specs.Bits.{number, sum_at, letter_at}
 use Rattle.auto_search.specs.Search.{Suits}
 use Rattle.auto_search.specs.Heads.{IsTrimmed, headed, head_number, read, zeros}
@@ -37,7 +37,7 @@ cons-parts x y g h e = (cc, cc)
 never-nil : (x : Bool) (g : List Bool) → x ∷ g ≡ [] → ⊥
 never-nil x g e = cc
 
-module _ (a : Automaton) (ray : Ray) (suits : Suits a ray) (g : Trace) (times states slots : List ℕ) (len starts now : ℕ) (is : IsMet a ray g times states slots len starts now) where
+module _ (a : Automaton) (ray : TrackRay) (suits : Suits a ray) (g : Trace) (times states slots : List ℕ) (len starts now : ℕ) (is : IsMet a ray g times states slots len starts now) where
   -- two entries have different heads or slots
   pub apart : (fuel i j : ℕ) → j ≤ fuel → i < j → j < len → g.heads i ≡ g.heads j → get_or slots i 0 ≡ get_or slots j 0 → ⊥
   apart zero i j f o h eh es = omega (arith, f, o)

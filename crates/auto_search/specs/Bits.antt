@@ -3,7 +3,7 @@ use Rattle.std.specs.Prelude.{◌≡◌, ℕ, suc, ℤ, pos, negsuc, ◌+ℤ◌,
 use Rattle.track_word.specs.Word.{integer_bit, letter_of, FitsBelow}
 use Rattle.auto_search.specs.declared.tuple_ray.TupleRay.{TupleRay}
 use Rattle.auto_search.specs.declared.axis.Axis.{Axis}
-use Rattle.auto_search.specs.declared.ray.Ray.{Ray}
+use Rattle.auto_search.specs.declared.ray.TrackRay.{TrackRay}
 
 -- the number of some bits, the highest one first
 abbrev pub number : List Bool → ℕ
@@ -20,11 +20,11 @@ carry axis [] = axis.zero
 carry axis (bit ∷ bits) = sum_at axis (length bits) (carry axis bits) bit / 2
 
 -- the letter of a place at these sums
-abbrev pub letter_at : Ray → ℕ → ℕ → ℕ → ℕ
+abbrev pub letter_at : TrackRay → ℕ → ℕ → ℕ → ℕ
 letter_at ray place sx sy = slice_index ray.still place + sx % 2 * ray.x.unit + sy % 2 * ray.y.unit
 
 -- the letters of the last bits
-abbrev pub letters : Ray → List Bool → List ℕ
+abbrev pub letters : TrackRay → List Bool → List ℕ
 letters ray [] = []
 letters ray (bit ∷ bits) =
     letter_at ray (length bits) (sum_at ray.x (length bits) (carry ray.x bits) bit)
@@ -32,7 +32,7 @@ letters ray (bit ∷ bits) =
     ∷ letters ray bits
 
 -- the slot of what the last bits carry over on the two tracks, one of nine
-abbrev pub slot_of : Ray → List Bool → ℕ
+abbrev pub slot_of : TrackRay → List Bool → ℕ
 slot_of ray bits = 3 * carry ray.x bits + carry ray.y bits
 
 -- by how much a slope falls, and by how much it rises
@@ -59,7 +59,7 @@ IsStill way place letter =
 
 -- the ray as it is searched from its near end on, its values within so many steps having no bit but their signs from
 -- the top on
-pub record IsRay (way : TupleRay) (near steps : ℕ) (ray : Ray) : Type 0 where
+pub record IsRay (way : TupleRay) (near steps : ℕ) (ray : TrackRay) : Type 0 where
   pub x : IsAxis (slice_index_or way.fixed.now way.x_track (pos 0)) way.dx near way.x_track ray.x
   pub y : IsAxis (slice_index_or way.fixed.now way.y_track (pos 0)) way.dy near way.y_track ray.y
   pub still : (place : ℕ) → place ≤ ray.top → IsStill way place (slice_index ray.still place)

@@ -3,7 +3,7 @@ use Rattle.std.specs.Prelude.{◌≡◌, ℕ, ◌+◌, ◌≤◌, Bool, List, Op
 use Rattle.auto_search.specs.declared.carry.Carry.{Carry}
 use Rattle.auto_search.specs.declared.course.Course.{Course}
 use Rattle.auto_search.specs.declared.few.Few.{Few}
-use Rattle.auto_search.specs.declared.met.Met.{Met}
+use Rattle.auto_search.specs.declared.met.VisitTable.{VisitTable}
 use Rattle.auto_search.specs.Met.{Adds, Begins, Walks, HasPlace, HasSizes, SameSizes, Counting, IsEntered}
 use Rattle.auto_search.specs.Search.{stepped}
 
@@ -14,40 +14,40 @@ IsNextState course place bit front carry state =
     → state ≡ stepped course.auto.now course.ray.now place bit front carry.x carry.y
 
 -- lists that are long enough for the course
-abbrev pub HasLists : Course → Met → Type 0
+abbrev pub HasLists : Course → VisitTable → Type 0
 HasLists course met = HasSizes course.auto.now met.times.items met.states.items met.slots.items
 
 -- the lists stay as long
-abbrev pub KeepsLists : Met → Met → Type 0
+abbrev pub KeepsLists : VisitTable → VisitTable → Type 0
 KeepsLists old new =
     SameSizes old.times.items old.states.items old.slots.items new.times.items new.states.items new.slots.items
 
 -- a further entry has its place
-abbrev pub HasRoomFor : Course → Met → Type 0
+abbrev pub HasRoomFor : Course → VisitTable → Type 0
 HasRoomFor course met = HasPlace course.auto.now met.times.items met.states.items met.slots.items met.len
 
 -- one more entry, where its state was not entered twice before
-abbrev pub AddsEntry : Met → Met → ℕ → ℕ → Type 0
+abbrev pub AddsEntry : VisitTable → VisitTable → ℕ → ℕ → Type 0
 AddsEntry old new state slot =
     Adds old.times.items old.states.items old.slots.items old.len new.times.items new.states.items new.slots.items
     new.len state slot
 
 -- what a walk along the course begins with, as far as it was entered
-abbrev pub BeginsAlong : Course → Met → ℕ → Type 0
+abbrev pub BeginsAlong : Course → VisitTable → ℕ → Type 0
 BeginsAlong course met now =
     Begins course.auto.now course.ray.now met.times.items met.states.items met.slots.items met.len now
 
 -- what was met along the course goes on from a moment to another
-abbrev pub WalksAlong : Course → Met → Met → ℕ → ℕ → ℕ → Type 0
+abbrev pub WalksAlong : Course → VisitTable → VisitTable → ℕ → ℕ → ℕ → Type 0
 WalksAlong course old new starts now now' =
     Walks course.auto.now course.ray.now old.times.items old.states.items old.slots.items old.len new.times.items
     new.states.items new.slots.items new.len starts starts now now'
 
 -- what was met is listed
-abbrev pub AreListed : Met → Type 0
+abbrev pub AreListed : VisitTable → Type 0
 AreListed met = IsEntered met.times.items met.states.items met.slots.items met.len
 
 -- the entries before one of them are counted
-abbrev pub HasCounted : Course → Met → ℕ → ℕ → Few → Type 0
+abbrev pub HasCounted : Course → VisitTable → ℕ → ℕ → Few → Type 0
 HasCounted course met starts entry few =
     Counting course.auto.now course.ray.now met.times.items met.states.items met.slots.items met.len starts entry few

@@ -1,7 +1,7 @@
 -- The first bits of a distance, and the states that they lead to.
 use Rattle.std.specs.Prelude.{◌≡◌, ℕ, ◌+◌, ◌*◌, ◌/◌, ◌%◌, ◌<◌, ◌≤◌, Bool, false, List, [], ◌∷◌, ◌++◌, if◌then◌else◌, slice_index_or, Option, Some, None, option_map}
 use Rattle.auto_core.specs.Automaton.{Automaton, next_state}
-use Rattle.auto_search.specs.declared.ray.Ray.{Ray}
+use Rattle.auto_search.specs.declared.ray.TrackRay.{TrackRay}
 use Rattle.auto_search.specs.Bits.{sum_at, letter_at}
 use Rattle.auto_search.specs.Search.{started, MayCarry}
 
@@ -17,7 +17,7 @@ IsTrimmed (bit ∷ head) = IsTrimmed head × (0 < head_number (bit ∷ head))
 
 -- the state after the sign letter and the letters of these bits, at places from the top on, for what the bits after
 -- them carry over
-abbrev pub read : Automaton → Ray → List Bool → ℕ → ℕ → Option ℕ
+abbrev pub read : Automaton → TrackRay → List Bool → ℕ → ℕ → Option ℕ
 read a ray [] cx cy = started a ray cx cy
 read a ray (bit ∷ head) cx cy =
     let sx = sum_at ray.x ray.top cx bit in
@@ -29,11 +29,11 @@ abbrev pub zeros : List Bool
 zeros = false ∷ false ∷ false ∷ []
 
 -- the state of a head, for what the bits below the top carry over
-abbrev pub headed : Automaton → Ray → List Bool → ℕ → ℕ → Option ℕ
+abbrev pub headed : Automaton → TrackRay → List Bool → ℕ → ℕ → Option ℕ
 headed a ray head cx cy = read a ray (head ++ zeros) cx cy
 
 -- the front of the head 0
-pub record IsOpened (a : Automaton) (ray : Ray) (front : List (Option ℕ)) : Type 0 where
+pub record IsOpened (a : Automaton) (ray : TrackRay) (front : List (Option ℕ)) : Type 0 where
   pub at : (slot : ℕ) → slot < 9 → (slot / 3 ≤ ray.x.zero + ray.x.one) → (slot % 3 ≤ ray.y.zero + ray.y.one)
       → slice_index_or front slot None ≡ headed a ray [] (slot / 3) (slot % 3)
   pub only : (slot state : ℕ) → slice_index_or front slot None ≡ Some state → MayCarry ray (slot / 3) (slot % 3)

@@ -3,7 +3,7 @@ use Rattle.std.specs.Prelude.{◌≡◌, ℕ, ◌*◌, ◌<◌, ◌≤◌, ◌�
 use Rattle.std.specs.Int.{bit_at}
 use Rattle.auto_core.specs.Automaton.{Automaton}
 use Rattle.auto_search.specs.declared.marks.Marks.{Marks}
-use Rattle.auto_search.specs.declared.ray.Ray.{Ray}
+use Rattle.auto_search.specs.declared.ray.TrackRay.{TrackRay}
 use Rattle.auto_search.specs.Search.{Remembers}
 
 -- one of the cells of a list from a place on
@@ -34,7 +34,7 @@ pub record IsMarked (old new : List ℕ) (cell slot : ℕ) : Type 0 where
       → (bit_at (slice_index old k) i ≡ 1) ⊎ ((k ≡ cell) × (i ≡ slot))
 
 -- a cell for each state at each place, marked only where it leads nowhere
-pub record Serves (a : Automaton) (ray : Ray) (marks : Marks) : Type 0 where
+pub record Serves (a : Automaton) (ray : TrackRay) (marks : Marks) : Type 0 where
   pub room : length a.accept * 68 ≤ length marks.failed.items
   pub remembers : Remembers a ray marks.failed.items
   pub listed : HasListedMarks marks

@@ -1,7 +1,7 @@
 -- Heads that were met in a walk: each state is entered at most twice for each slot, besides what the walk begins with.
 use Rattle.std.specs.Prelude.{◌≡◌, ◌≢◌, ◌↔◌, ℕ, ◌+◌, ◌*◌, ◌/◌, ◌%◌, ◌^◌, ◌<◌, ◌≤◌, Bool, true, false, List, [], ◌∷◌, length, All, sum, if◌then◌else◌, slice_index, slice_index_or, slice_set, Option, Some, None, ◌⊎◌}
 use Rattle.auto_core.specs.Automaton.{Automaton}
-use Rattle.auto_search.specs.declared.ray.Ray.{Ray}
+use Rattle.auto_search.specs.declared.ray.TrackRay.{TrackRay}
 use Rattle.auto_search.specs.Bits.{sum_at, number, slot_of}
 use Rattle.auto_search.specs.declared.few.Few.{Few}
 use Rattle.auto_search.specs.Fews.{HasFew}
@@ -16,7 +16,7 @@ pub record Trace : Type 0 where
   pub key : ℕ → ℕ
 
 -- the slot before one more bit
-abbrev pub up : Ray → Bool → ℕ → ℕ
+abbrev pub up : TrackRay → Bool → ℕ → ℕ
 up ray bit slot = 3 * (sum_at ray.x ray.top (slot / 3) bit / 2) + sum_at ray.y ray.top (slot % 3) bit / 2
 
 -- when a slot is tried after an entry by a bit
@@ -24,7 +24,7 @@ abbrev pub moment : ℕ → Bool → ℕ → ℕ
 moment entry bit slot = 9 + (entry * 2 + (if bit then 1 else 0)) * 9 + slot
 
 -- the slot's numbers are such as bits may carry over
-abbrev pub IsSlot : Ray → ℕ → Type 0
+abbrev pub IsSlot : TrackRay → ℕ → Type 0
 IsSlot ray slot = MayCarry ray (slot / 3) (slot % 3)
 
 -- an entry has this head, slot and state
@@ -67,14 +67,14 @@ pub record IsFirst (g : Trace) (slots : List ℕ) (entry : ℕ) : Type 0 where
   pub key : g.key entry ≡ slice_index slots entry
 
 -- an entry that follows on another by a bit
-pub record Follows (ray : Ray) (g : Trace) (slots : List ℕ) (entry : ℕ) : Type 0 where
+pub record Follows (ray : TrackRay) (g : Trace) (slots : List ℕ) (entry : ℕ) : Type 0 where
   pub head : g.heads entry ≡ g.bit entry ∷ g.heads (g.parent entry)
   pub before : g.parent entry < entry
   pub slot : slice_index slots (g.parent entry) ≡ up ray (g.bit entry) (slice_index slots entry)
   pub key : g.key entry ≡ moment (g.parent entry) (g.bit entry) (slice_index slots entry)
 
 -- what was met until a moment
-pub record IsMet (a : Automaton) (ray : Ray) (g : Trace) (times states slots : List ℕ) (len starts now : ℕ) : Type
+pub record IsMet (a : Automaton) (ray : TrackRay) (g : Trace) (times states slots : List ℕ) (len starts now : ℕ) : Type
     0 where
   pub trimmed : (j : ℕ) → j < len → IsTrimmed (g.heads j)
   pub reads : (j : ℕ) → j < len
@@ -126,7 +126,7 @@ pub record SameSizes (times states slots times' states' slots' : List ℕ) : Typ
   pub slots_kept : length slots' ≡ length slots
 
 -- what was met goes on from a moment to another
-pub record Walks (a : Automaton) (ray : Ray) (times states slots : List ℕ) (len : ℕ) (times' states' slots' : List ℕ)
+pub record Walks (a : Automaton) (ray : TrackRay) (times states slots : List ℕ) (len : ℕ) (times' states' slots' : List ℕ)
     (len' starts starts' now now' : ℕ) : Type 0 where
   pub longer : len ≤ len'
   pub same_states : (j : ℕ) → j < len → slice_index states' j ≡ slice_index states j
@@ -142,13 +142,13 @@ pub record IsAlone (slot state : ℕ) (front : List (Option ℕ)) : Type 0 where
   pub only : (other found : ℕ) → slice_index_or front other None ≡ Some found → (other ≡ slot) × (found ≡ state)
 
 -- the front after one more bit of one state alone
-pub record IsAfter (a : Automaton) (ray : Ray) (slot state : ℕ) (bit : Bool) (after : List (Option ℕ)) : Type 0 where
+pub record IsAfter (a : Automaton) (ray : TrackRay) (slot state : ℕ) (bit : Bool) (after : List (Option ℕ)) : Type 0 where
   pub front : List (Option ℕ)
   pub alone : IsAlone slot state front
   pub step : IsStep a ray ray.top bit front after
 
 -- an entry before another, with bits that lead its state to acceptance, yields the number
-pub record Yields (a : Automaton) (ray : Ray) (g : Trace) (states slots : List ℕ) (end n : ℕ) : Type 0 where
+pub record Yields (a : Automaton) (ray : TrackRay) (g : Trace) (states slots : List ℕ) (end n : ℕ) : Type 0 where
   pub entry : ℕ
   pub within : entry < end
   pub lo : List Bool
@@ -158,7 +158,7 @@ pub record Yields (a : Automaton) (ray : Ray) (g : Trace) (states slots : List �
   pub leads : Leads a ray (slice_index states entry) lo
 
 -- a head, with bits after it, that leads to acceptance meets the number
-pub record Meets (a : Automaton) (ray : Ray) (n : ℕ) : Type 0 where
+pub record Meets (a : Automaton) (ray : TrackRay) (n : ℕ) : Type 0 where
   pub head : List Bool
   pub trimmed : IsTrimmed head
   pub lo : List Bool
@@ -169,7 +169,7 @@ pub record Meets (a : Automaton) (ray : Ray) (n : ℕ) : Type 0 where
   pub leads : Leads a ray state lo
 
 -- the entries before one are counted
-pub record Counting (a : Automaton) (ray : Ray) (times states slots : List ℕ) (len starts end : ℕ) (few : Few) : Type
+pub record Counting (a : Automaton) (ray : TrackRay) (times states slots : List ℕ) (len starts end : ℕ) (few : Few) : Type
     0 where
   pub enough : end ≤ len
   pub place : HasPlace a times states slots len
@@ -184,7 +184,7 @@ pub record HasSizes (a : Automaton) (times states slots : List ℕ) : Type 0 whe
   pub slots_size : 9 + 2 * length times ≤ length slots
 
 -- what a walk begins with, as far as it was entered
-pub record Begins (a : Automaton) (ray : Ray) (times states slots : List ℕ) (len now : ℕ) : Type 0 where
+pub record Begins (a : Automaton) (ray : TrackRay) (times states slots : List ℕ) (len now : ℕ) : Type 0 where
   pub sizes : HasSizes a times states slots
   pub none : (k : ℕ) → slice_index times k ≡ 0
   pub little : len ≤ now

@@ -11,14 +11,14 @@ use crate::course::Course;
 use crate::few::Few;
 use crate::front::{Front, alone, start, step};
 use crate::marks::Marks;
-use crate::met::Met;
+use crate::met::VisitTable;
 use crate::several::several;
 
 /// What a search writes on.
 #[derive(Drop)]
 pub struct Room {
     pub marks: Marks,
-    pub met: Met,
+    pub met: VisitTable,
 }
 
 /// How many numbers of steps from the near end have their tuple in the set. The room is cleared before and after.

@@ -4,14 +4,14 @@ ghost use Rattle.auto_core.specs.Automaton.{width};
 ghost use Rattle.auto_search.specs.Bits.{letter_at};
 ghost use Rattle.auto_search.specs.Search.{Suits};
 
-use crate::ray::Ray;
+use crate::ray::TrackRay;
 use auto_core::Auto;
 
 /// A ray, and the automaton whose set is searched along it.
 #[derive(Clone, Copy)]
 pub struct Course<'a> {
     pub auto: &'a Auto,
-    pub ray: &'a Ray,
+    pub ray: &'a TrackRay,
     ghost suits: { Suits auto.now ray.now },
 }
 

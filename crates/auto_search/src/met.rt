@@ -14,14 +14,14 @@ pub const MOST_TIMES: u8 = 2;
 
 /// How often each state was entered for each slot; and the states that were entered, in order, with their slots.
 #[derive(Drop)]
-pub struct Met {
+pub struct VisitTable {
     pub times: Vec<u8>,
     pub states: Vec<u32>,
     pub slots: Vec<u8>,
     pub len: usize,
 }
 
-impl Met {
+impl VisitTable {
     /// Enters a state with a slot.
     pub fn put(&mut self, state: u32, slot: u8)
         requires states { self.old.len < length self.old.states.items }

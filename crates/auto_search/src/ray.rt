@@ -14,7 +14,7 @@ pub const MOST_PLACES: usize = 68;
 
 /// The two tracks on which a ray moves, and the letters of all others.
 #[derive(Drop)]
-pub struct Ray {
+pub struct TrackRay {
     pub x: Axis,
     pub y: Axis,
     /// For each place up to the top the letter of the tracks that do not move.
@@ -23,9 +23,9 @@ pub struct Ray {
     pub top: u8,
 }
 
-impl Ray {
+impl TrackRay {
     /// The ray from its near end on, for so many steps.
-    pub fn new(way: &TupleRay, near: u128, steps: u128) -> Ray
+    pub fn new(way: &TupleRay, near: u128, steps: u128) -> TrackRay
         requires way { IsTupleRay way.now }
         requires few { length way.now.fixed.now ≤ MOST_TRACKS }
         requires near { near ≤ 2 ^ 64 }
@@ -35,7 +35,7 @@ impl Ray {
         let x = Axis::new(way.fixed[way.x_track as usize], way.dx, near, way.x_track);
         let y = Axis::new(way.fixed[way.y_track as usize], way.dy, near, way.y_track);
         let top = bits_of(reach_of(way.fixed, x, y, steps));
-        Ray {
+        TrackRay {
             x,
             y,
             still: still_letters(way, top),

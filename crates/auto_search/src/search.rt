@@ -12,8 +12,8 @@ use crate::few::Few;
 use crate::front::start;
 use crate::least::least;
 use crate::marks::Marks;
-use crate::met::{MOST_TIMES, Met};
-use crate::ray::{MOST_PLACES, Ray};
+use crate::met::{MOST_TIMES, VisitTable};
+use crate::ray::{MOST_PLACES, TrackRay};
 use crate::tuple_ray::TupleRay;
 use auto_core::Auto;
 use std::alloc::{AllocError, Global};
@@ -56,7 +56,7 @@ impl Search {
         };
         let pairs = count * SLOTS as usize;
         let entries = SLOTS as usize + pairs * MOST_TIMES as usize;
-        let met = Met {
+        let met = VisitTable {
             times: vec![in alloc; 0u8; pairs]?,
             states: vec![in alloc; 0u32; entries]?,
             slots: vec![in alloc; 0u8; entries]?,
@@ -86,7 +86,7 @@ impl Search {
         repeating_first_letter_keeps_values();
         words_of_equal_values_are_equal();
         let _ = a.tracks();
-        let ray = Ray::new(way, near, far - near);
+        let ray = TrackRay::new(way, near, far - near);
         let course = Course { auto: a, ray: &ray };
         match ahead(&mut self.room.marks, &course) {
             None => None,
@@ -113,7 +113,7 @@ impl Search {
         repeating_first_letter_keeps_values();
         words_of_equal_values_are_equal();
         let _ = a.tracks();
-        let ray = Ray::new(way, 1, 0);
+        let ray = TrackRay::new(way, 1, 0);
         let course = Course { auto: a, ray: &ray };
         count(&mut self.room, &course)
     }

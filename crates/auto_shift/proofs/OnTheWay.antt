@@ -1,4 +1,4 @@
--- Steps on the way to a set that is moved by a number: how many pairs of states they have does not depend on how states are numbered.
+-- UnitShifts on the way to a set that is moved by a number: how many pairs of states they have does not depend on how states are numbered.
 use Rattle.std.proofs.Common.{◌≡◌, ℕ, zero, suc, ◌+◌, ◌<◌, Bool, true, false, List, [], ◌∷◌, length, All, ℤ, arith, refl, sym, ap, ◌∙◌, subst, inl, inr}
 use Rattle.std.proofs.lemmas.Bool.{cases_eq}
 use Rattle.std.proofs.lemmas.Int.{ints}
@@ -13,7 +13,7 @@ use Rattle.auto_shift.proofs.ShiftWords.{moved_word, place_of-shifted, IsMoved-w
 module _ (track : ℕ) (up : Bool) (a : Automaton) (below : track < length a.tracks) where
   tracks_kept : (times : ℕ) (part : Automaton) → IsWalkedTimes up track times a part → part.tracks ≡ a.tracks
   tracks_kept zero part is = ap (λ b. b.tracks) is
-  tracks_kept (suc times) part (before, walked, last) = last.tracks ∙ tracks_kept times before walked
+  tracks_kept (suc times) part (before, explored, last) = last.tracks ∙ tracks_kept times before explored
 
   -- words that lead to one state of an automaton lead to one state of another
   abbrev AreAlike : Automaton → Automaton → Type 0
@@ -77,6 +77,6 @@ pub within-all : (a : Automaton) {track budget : ℕ} {by : ℤ} (up : Bool) (ti
     → IsOverOnTheWay a track by budget → ⊥
 within-all a {track} {budget} up times some all before over =
     let one = one_way up over.up times over.times some (all ∙ sym over.all) in
-    let walked = subst (λ way. IsWalkedTimes way track over.done a over.part) (sym one.0) over.walked in
+    let explored = subst (λ way. IsWalkedTimes way track over.done a over.part) (sym one.0) over.explored in
     let more = subst (λ way. MoreThan (shift_walker over.part track way) budget) (sym one.0) over.more in
-    before over.done (omega (arith, over.before, one.1)) over.part walked more
+    before over.done (omega (arith, over.before, one.1)) over.part explored more

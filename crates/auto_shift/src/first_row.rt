@@ -36,7 +36,7 @@ pub fn first_moved(
 {
     let first = auto.first_node();
     let longer = diagrams.compose(first, turned)?;
-    let as_long = diagrams.turn(first, track)?;
+    let as_long = diagrams.flip_track(first, track)?;
     let (low, high) = by_bit(up, longer, as_long);
     let node = diagrams.choose(track, low, high)?;
     Ok(node)

@@ -7,9 +7,9 @@ ghost use Rattle.auto_shift.specs.Moved.{DecidesMoved, IsOverOnTheWay};
 ghost use Rattle.auto_shift.specs.Shifted.{by_one, along, shift_walker};
 
 use crate::laws::{moving_adds_up, pairs_decide_moved_sets};
-use crate::pair_walk::Shift;
+use crate::pair_walk::ShiftPairs;
 use auto_core::Auto;
-use auto_walk::{Grown, walked};
+use auto_walk::{Grown, explored};
 use limits::Budget;
 use std::alloc::Global;
 
@@ -21,14 +21,14 @@ fn pairs_walked(alloc: Global, a: &Auto, track: u8, up: bool, budget: Budget) ->
     ensures within { OnOk result (¬ MoreThan (shift_walker a.now track up) budget) }
     ensures over { result ≡ Err Grown.Over → MoreThan (shift_walker a.now track up) budget }
 {
-    let pairs = Shift::new(alloc, a, track, up)?;
-    walked(alloc, pairs, budget)
+    let pairs = ShiftPairs::new(alloc, a, track, up)?;
+    explored(alloc, pairs, budget)
 }
 
 /// The automaton of the set that is moved by one: it accepts a word just if the argument accepts the words with one more (or
 /// one less) on the track. Its states are the pairs of states that words lead to; some of them may accept the same suffixes.
 /// `Over` where they are more than the budget. Costs the pairs of nodes that are met over all rows together.
-pub fn move_by_one(
+pub fn shift_by_one(
     alloc: Global,
     a: &Auto,
     track: u8,
@@ -37,7 +37,7 @@ pub fn move_by_one(
 ) -> Result<Auto, Grown>
     requires integers { DecidesIntegers a.now }
     requires track { track < length a.now.tracks }
-    ensures walked { IfOk result (IsWalked (shift_walker a.now track up)) }
+    ensures explored { IfOk result (IsWalked (shift_walker a.now track up)) }
     ensures moved { IfOk result (λ b. DecidesMoved a.now b track (by_one up)) }
     ensures integers { IfOk result (λ b. DecidesIntegers b) }
     ensures reached { IfOk result AllReached }
@@ -52,18 +52,18 @@ pub fn move_by_one(
 
 /// So many times one more, or one less.
 #[derive(Clone, Copy)]
-struct Steps {
+struct UnitShifts {
     up: bool,
     times: u32,
 }
 
-impl Steps {
+impl UnitShifts {
     fn of(by: i32) -> Self
         requires { by ≢ pos 0 }
         ensures along { along result.up result.times ≡ by }
         ensures some { 0 < result.times }
     {
-        Steps {
+        UnitShifts {
             up: by > 0,
             times: by.unsigned_abs(),
         }
@@ -71,9 +71,9 @@ impl Steps {
 }
 
 /// The automaton of the set that is moved by a number: it accepts a word just if the argument accepts the words with so much
-/// more (or less) on the track. That is `move_by_one` as many times, each within the budget; `Over` where one of them is not.
+/// more (or less) on the track. That is `shift_by_one` as many times, each within the budget; `Over` where one of them is not.
 /// By 0 there is nothing to make.
-pub fn move_by(alloc: Global, a: &Auto, track: u8, by: i32, budget: Budget) -> Result<Auto, Grown>
+pub fn shift_by(alloc: Global, a: &Auto, track: u8, by: i32, budget: Budget) -> Result<Auto, Grown>
     requires integers { DecidesIntegers a.now }
     requires track { track < length a.now.tracks }
     requires by { by ≢ pos 0 }
@@ -85,10 +85,10 @@ pub fn move_by(alloc: Global, a: &Auto, track: u8, by: i32, budget: Budget) -> R
     ensures over { result ≡ Err Grown.Over → IsOverOnTheWay a.now track by budget }
 {
     moving_adds_up();
-    let Steps { up, times } = Steps::of(by);
-    let mut moved = move_by_one(alloc, a, track, up, budget)?;
+    let UnitShifts { up, times } = UnitShifts::of(by);
+    let mut moved = shift_by_one(alloc, a, track, up, budget)?;
     for _done in 1..times {
-        moved = move_by_one(alloc, &moved, track, up, budget)?;
+        moved = shift_by_one(alloc, &moved, track, up, budget)?;
     }
     Ok(moved)
 }

@@ -120,11 +120,11 @@ same_residue a b e = cc
 -- a word is accepted just if its value leaves the residue
 pub residue_words : {a : Automaton} (tracks : List Var) (var : Var) (modulus wanted : ℕ) → 0 < modulus → tracks ≡ var ∷ [] → IsWalked (residue_walker tracks modulus wanted) a
     → AcceptsWhere (var ∷ []) (ResidueHolds var modulus wanted) a
-residue_words tracks var modulus wanted positive one walked [] is_word = absurd (is_word.nonempty refl)
-residue_words tracks var modulus wanted positive one walked (sign ∷ letters) is_word =
+residue_words tracks var modulus wanted positive one explored [] is_word = absurd (is_word.nonempty refl)
+residue_words tracks var modulus wanted positive one explored (sign ∷ letters) is_word =
     let n : ℕ = read_on (bit_at sign 0 * (modulus - 1)) letters % modulus in
     let size : length tracks ≡ 1 = ap length one in
-    let accepts = walked.words (sign ∷ letters) (subst (λ k. IsWord k (sign ∷ letters)) (sym size) is_word) in
+    let accepts = explored.words (sign ∷ letters) (subst (λ k. IsWord k (sign ∷ letters)) (sym size) is_word) in
     let place : place_of (residue_walker tracks modulus wanted) (sign ∷ letters) ≡ n ∷ [] = place-residue tracks modulus wanted sign letters positive in
     let value : int_rem_euclid (word_values (var ∷ []) (sign ∷ letters) var.0) (pos modulus) ≡ pos n =
     ap (λ track. int_rem_euclid (val (sign ∷ letters) track) (pos modulus)) (alone var) ∙ rem-read modulus sign letters positive in (
@@ -140,5 +140,5 @@ residue_words tracks var modulus wanted positive one walked (sign ∷ letters) i
 
 pub residue_integers : RepeatKeepsValues → {a : Automaton} (tracks : List Var) (var : Var) (modulus wanted : ℕ) → 0 < modulus → tracks ≡ var ∷ []
     → IsWalked (residue_walker tracks modulus wanted) a → DecidesIntegers a
-residue_integers repeat {a} tracks var modulus wanted positive one walked =
-    DecidesIntegers-values repeat a (var ∷ []) (λ v. int_rem_euclid (v var.0) (pos modulus) ≡ pos wanted) (walked.tracks ∙ one) (residue_words tracks var modulus wanted positive one walked)
+residue_integers repeat {a} tracks var modulus wanted positive one explored =
+    DecidesIntegers-values repeat a (var ∷ []) (λ v. int_rem_euclid (v var.0) (pos modulus) ≡ pos wanted) (explored.tracks ∙ one) (residue_words tracks var modulus wanted positive one explored)

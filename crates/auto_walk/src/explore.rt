@@ -84,7 +84,7 @@ fn flags<W: Walk>(alloc: Global, walk: &W) -> Result<Vec<bool>, AllocError>
 }
 
 /// The automaton whose states are the places to which words lead, or `Over` where they are more than the budget.
-pub fn walked<W: Walk>(alloc: Global, walk: W, budget: Budget) -> Result<Auto, Grown>
+pub fn explored<W: Walk>(alloc: Global, walk: W, budget: Budget) -> Result<Auto, Grown>
     requires fresh { W.places walk ≡ [] }
     ensures ok { IfOk result (IsWalked (W.walker walk)) }
     ensures few { IfOk result (λ m. length m.accept ≤ budget) }

@@ -7,7 +7,7 @@ mod grown;
 mod residues;
 mod walk;
 
-pub use explore::walked;
+pub use explore::explored;
 pub use grown::Grown;
 pub use residues::residue;
 pub use walk::Walk;

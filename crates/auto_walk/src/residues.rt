@@ -8,7 +8,7 @@ ghost use Rattle.auto_walk.specs.Walker.{MoreThan};
 ghost use Rattle.auto_walk.specs.Rows.{Extends};
 ghost use Rattle.auto_walk.specs.Residue.{residue_walker, ResidueHolds, IsBitRow};
 
-use crate::explore::walked;
+use crate::explore::explored;
 use crate::grown::Grown;
 use crate::walk::Walk;
 use auto_core::Auto;
@@ -161,6 +161,6 @@ pub fn residue(
 {
     repeating_first_letter_keeps_values();
     let residues = Residues::new(alloc, var, modulus, residue)?;
-    let decided = walked(alloc, residues, budget)?;
+    let decided = explored(alloc, residues, budget)?;
     Ok(decided)
 }

@@ -18,7 +18,7 @@ use formulas::write_memo;
 use reduced_auto::ReducedAuto;
 use spelling::{MOST_DEPTH, automaton};
 use std::process::ExitCode;
-use trial_rows::{Named, Row, RowError, Rows, answer_script};
+use trial_rows::{Named, Row, RowError, RowInterpreter, answer_script};
 
 /// The automata that rows have named.
 #[derive(Drop)]
@@ -33,7 +33,7 @@ fn name_automaton(named: &mut Named<ReducedAuto>, row: &mut Row) -> Result<(), R
     named.put(row.alloc, name, set)
 }
 
-impl Rows for Automata {
+impl RowInterpreter for Automata {
     fn answer(&mut self, kind: &str, row: &mut Row) -> Result<(), RowError> {
         match kind {
             "set" => name_automaton(&mut self.named, row),

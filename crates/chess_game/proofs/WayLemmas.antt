@@ -14,15 +14,15 @@ use Rattle.chess_game.specs.Unsoundness.{StandsAt}
 use Rattle.chess_game.specs.Along.{IsIn, IsNearest, IsNearestMan, IsReach, IsStepwise, IsWithin, IsWithinAfter, StandsOff}
 use Rattle.chess_game.specs.Offsets.{IsTimes}
 use Rattle.chess_game.specs.Way.{IsFree, IsFreeFrom, IsHitFrom, IsInside}
-use Rattle.chess_game.specs.declared.way.Axis.{Axis}
+use Rattle.chess_game.specs.declared.way.Progression.{Progression}
 use Rattle.chess_game.specs.declared.way.Frame.{Frame}
 use Rattle.chess_game.specs.declared.way.Hit.{Hit}
-use Rattle.chess_game.specs.declared.way.Span.{Span}
+use Rattle.chess_game.specs.declared.way.DistanceRange.{DistanceRange}
 use Rattle.chess_game.proofs.UnsoundnessLemmas.{man_of_some, number_cases}
 use Rattle.chess_game.proofs.OffsetLemmas.{times_from, times_to}
 
 -- no step
-pub level : (t : ℕ) (x : Axis) → x.step ≡ pos 0 → IsWithin x x.at t ↔ IsWithinAfter x t
+pub level : (t : ℕ) (x : Progression) → x.step ≡ pos 0 → IsWithin x x.at t ↔ IsWithinAfter x t
 level t x e =
     let once : pos t *ℤ pos 0 ≡ pos 0 = grind (arith, ints) in
     let far : pos t *ℤ x.step ≡ pos 0 = rw e once in
@@ -30,21 +30,21 @@ level t x e =
     (λ h. rw (far, same) h, λ h. rw (far, same) at h)
 
 -- steps of 1
-pub rising : (t : ℕ) (x : Axis) → x.step ≡ pos 1 → IsWithin x (x.at +ℤ pos t) t ↔ IsWithinAfter x t
+pub rising : (t : ℕ) (x : Progression) → x.step ≡ pos 1 → IsWithin x (x.at +ℤ pos t) t ↔ IsWithinAfter x t
 rising t x e =
     let once : pos t *ℤ pos 1 ≡ pos t = grind (arith, ints) in
     let far : pos t *ℤ x.step ≡ pos t = rw e once in
     (λ h. rw far h, λ h. rw far at h)
 
 -- steps of 2
-pub doubled : (t : ℕ) (x : Axis) → x.step ≡ pos 2 → IsWithin x (x.at +ℤ pos (t + t)) t ↔ IsWithinAfter x t
+pub doubled : (t : ℕ) (x : Progression) → x.step ≡ pos 2 → IsWithin x (x.at +ℤ pos (t + t)) t ↔ IsWithinAfter x t
 doubled t x e =
     let once : pos t *ℤ pos 2 ≡ pos (t + t) = omega (arith, ints) in
     let far : pos t *ℤ x.step ≡ pos (t + t) = rw e once in
     (λ h. rw far h, λ h. rw far at h)
 
 -- steps the other way, seen from the other end
-pub falling : (t : ℕ) (x y : Axis) → y.step ≡ neg_ℤ x.step → y.at ≡ neg_ℤ x.at → y.low ≡ neg_ℤ x.high
+pub falling : (t : ℕ) (x y : Progression) → y.step ≡ neg_ℤ x.step → y.at ≡ neg_ℤ x.at → y.low ≡ neg_ℤ x.high
     → y.high ≡ neg_ℤ x.low → IsWithinAfter y t ↔ IsWithinAfter x t
 falling t x y step at low high =
     let turned : neg_ℤ x.step ≡ pos 0 -ℤ x.step = omega (arith, ints) in
@@ -54,7 +54,7 @@ falling t x y step at low high =
     )
 
 -- the two axes of a ray tell of the square
-pub axes_inside : (t : ℕ) (a : Square) (r : Ray) (f : Frame) (x y : Axis) → x.at ≡ a.x → x.step ≡ r.dx → x.low ≡ f.x_low → x.high ≡ f.x_high
+pub axes_inside : (t : ℕ) (a : Square) (r : Ray) (f : Frame) (x y : Progression) → x.at ≡ a.x → x.step ≡ r.dx → x.low ≡ f.x_low → x.high ≡ f.x_high
     → y.at ≡ a.y → y.step ≡ r.dy → y.low ≡ f.y_low → y.high ≡ f.y_high
     → (IsWithinAfter x t × IsWithinAfter y t) ↔ ((1 ≤ t) × IsInside f (after_steps a t r.dx r.dy))
 axes_inside t a r f x y ax sx lx hx ay sy ly hy = (
@@ -297,14 +297,14 @@ module _ (p : Position) (a : Square) (r : Ray) (f : Frame) where
         least = λ j low there. no_lesser_man nearest z.2 j low there;
       }
 
-  pub hits_some : (span : Span) → ((t : ℕ) → IsIn span t → IsReach r a f t) → (hit : Option Hit) → IsNearest p.men (length p.men) a r hit
+  pub hits_some : (span : DistanceRange) → ((t : ℕ) → IsIn span t → IsReach r a f t) → (hit : Option Hit) → IsNearest p.men (length p.men) a r hit
       → (o : Option ℕ) → IfSome o (λ n. IsSomeAnd hit (λ h. (n ≡ h.index + 1) × IsIn span h.distance)) → IfSome o (IsHitFrom p a r f)
   hits_some span reach hit nearest None h = tt
   hits_some span reach None nearest (Some n) h = absurd h
   hits_some span reach (Some hit) nearest (Some n) h =
       subst (IsHitFrom p a r f) (sym h.0) (hit_some nearest (reach hit.distance h.1))
 
-  pub hits_none : (span : Span) → ((t : ℕ) → IsReach r a f t → IsIn span t) → (hit : Option Hit) → IsNearest p.men (length p.men) a r hit
+  pub hits_none : (span : DistanceRange) → ((t : ℕ) → IsReach r a f t → IsIn span t) → (hit : Option Hit) → IsNearest p.men (length p.men) a r hit
       → (o : Option ℕ) → IfNone o (IfSome hit (λ h. IsIn span h.distance → ⊥)) → IfNone o ((i : ℕ) → IsHitFrom p a r f i → ⊥)
   hits_none span reach hit nearest (Some n) h = tt
   hits_none span reach None nearest None h = λ i there.

@@ -5,10 +5,10 @@ use Rattle.game_rules.specs.Rays.{IsAt}
 use Rattle.game_rules.specs.declared.men.Man.{Man}
 use Rattle.game_rules.specs.declared.men.Ray.{Ray}
 use Rattle.game_rules.specs.declared.men.Square.{Square}
-use Rattle.chess_game.specs.declared.way.Axis.{Axis}
+use Rattle.chess_game.specs.declared.way.Progression.{Progression}
 use Rattle.chess_game.specs.declared.way.Frame.{Frame}
 use Rattle.chess_game.specs.declared.way.Hit.{Hit}
-use Rattle.chess_game.specs.declared.way.Span.{Span}
+use Rattle.chess_game.specs.declared.way.DistanceRange.{DistanceRange}
 use Rattle.chess_game.specs.Way.{IsInside}
 
 -- a ray goes by steps of a direction
@@ -20,21 +20,21 @@ abbrev pub StandsOff : Ray → Square → Man → ℕ → Type 0
 StandsOff r a m t = IsLiveAnd m (IsAt r t a)
 
 -- the distance is one of the span
-abbrev pub IsIn : Span → ℕ → Type 0
+abbrev pub IsIn : DistanceRange → ℕ → Type 0
 IsIn s t = (s.first ≤ t) × (t ≤ s.last)
 
 -- places that i64 can name
-pub record IsShort (x : Axis) : Type 0 where
+pub record IsShort (x : Progression) : Type 0 where
   pub at : unsigned_abs x.at ≤ 2 ^ 63
   pub low : unsigned_abs x.low ≤ 2 ^ 63
   pub high : unsigned_abs x.high ≤ 2 ^ 63
 
 -- after one step or more the coordinate is this, and may be
-abbrev pub IsWithin : Axis → ℤ → ℕ → Type 0
+abbrev pub IsWithin : Progression → ℤ → ℕ → Type 0
 IsWithin x z t = (1 ≤ t) × (x.low ≤ℤ z) × (z ≤ℤ x.high)
 
 -- so many steps away the coordinate may be
-abbrev pub IsWithinAfter : Axis → ℕ → Type 0
+abbrev pub IsWithinAfter : Progression → ℕ → Type 0
 IsWithinAfter x t = IsWithin x (x.at +ℤ (pos t *ℤ x.step)) t
 
 -- the square so far along the ray lies in the frame

@@ -10,7 +10,7 @@ use Rattle.game_rules.specs.declared.men.Square.{Square}
 use Rattle.game_rules.specs.Rays.{ray_of}
 use Rattle.game_laws.specs.Answer.{CanGo, HasAnswer, IsCheckFrom, answer_square}
 use Rattle.chess_game.specs.declared.answers.Check.{Check}
-use Rattle.chess_game.specs.declared.answers.Standing.{Standing}
+use Rattle.chess_game.specs.declared.answers.PlacedMan.{PlacedMan}
 
 -- a square no farther from the middle of the board than those that an i64 can name
 pub record IsClose (z : Square) : Type 0 where
@@ -27,11 +27,11 @@ abbrev pub IsCheckOf : Position → Check → Type 0
 IsCheckOf p check = IsCloseCheck check × IsCheckFrom p check.from check.king
 
 -- the man who stands there can answer the check along the ray
-abbrev pub AnswersAlong : Position → Check → Standing → Ray → Type 0
+abbrev pub AnswersAlong : Position → Check → PlacedMan → Ray → Type 0
 AnswersAlong p check man r = CanGo p man.number (answer_square check.from check.king man.square r)
 
 -- the man who stands there has a ray of this number, and can answer the check along it
-abbrev pub AnswersAlongNth : Position → Check → Man → Standing → ℕ → Type 0
+abbrev pub AnswersAlongNth : Position → Check → Man → PlacedMan → ℕ → Type 0
 AnswersAlongNth p check m man n = IsSomeAnd (ray_of m.kind m.side n) (AnswersAlong p check man)
 
 -- no man can answer the check from a of the king at k

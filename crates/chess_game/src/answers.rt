@@ -26,7 +26,7 @@ pub(crate) struct Check {
 
 /// A live man's number, and the square where he stands.
 #[derive(Clone, Copy, PartialEq, Eq)]
-pub(crate) struct Standing {
+pub(crate) struct PlacedMan {
     pub(crate) number: usize,
     pub(crate) square: Square,
 }
@@ -129,7 +129,7 @@ fn square_to_answer(check: Check, from: Square, ray: Ray) -> Square
 }
 
 /// Whether the man can answer the check along the ray.
-fn answers_along(board: &Board, check: Check, standing: Standing, ray: Ray) -> bool
+fn answers_along(board: &Board, check: Check, standing: PlacedMan, ray: Ray) -> bool
     requires check { IsCloseCheck check }
     requires from { IsClose standing.square }
     requires ray { IsStepwise ray }
@@ -145,7 +145,7 @@ fn answers_along_nth(
     board: &Board,
     check: Check,
     man: &Piece,
-    standing: Standing,
+    standing: PlacedMan,
     index: u8,
 ) -> bool
     requires check { IsCloseCheck check }
@@ -159,7 +159,7 @@ fn answers_along_nth(
 }
 
 /// Whether the man can answer the check along one of his rays.
-fn answers_along_one(board: &Board, check: Check, man: &Piece, standing: Standing) -> bool
+fn answers_along_one(board: &Board, check: Check, man: &Piece, standing: PlacedMan) -> bool
     requires check { IsCloseCheck check }
     requires from { IsClose standing.square }
     ensures { IsTrue result ↔ Any (AnswersAlong board.now check standing) (rays_of man.now.kind man.now.side) }
@@ -183,7 +183,7 @@ fn has_answer(board: &Board, number: usize, check: Check) -> bool
     };
     match man.square() {
         None => false,
-        Some(square) => answers_along_one(board, check, &man, Standing { number, square }),
+        Some(square) => answers_along_one(board, check, &man, PlacedMan { number, square }),
     }
 }
 

@@ -47,7 +47,7 @@ pub struct Way {
 
 /// The distances from `first` to `last`.
 #[derive(Clone, Copy)]
-pub(crate) struct Span {
+pub(crate) struct DistanceRange {
     pub(crate) first: u128,
     pub(crate) last: u128,
 }
@@ -63,16 +63,16 @@ pub(crate) struct Hit {
 const LIMIT: u128 = 1 << 64;
 
 /// No distance.
-fn no_span() -> Span
+fn no_span() -> DistanceRange
     ensures first { result.first ≡ 1 }
     ensures last { result.last ≡ 0 }
 {
-    Span { first: 1, last: 0 }
+    DistanceRange { first: 1, last: 0 }
 }
 
 /// A coordinate that changes by equal steps, and the least and the greatest that it may be.
 #[derive(Clone, Copy)]
-pub(crate) struct Axis {
+pub(crate) struct Progression {
     pub(crate) at: i128,
     pub(crate) step: i128,
     pub(crate) low: i128,
@@ -80,7 +80,7 @@ pub(crate) struct Axis {
 }
 
 /// The same axis, seen from its other end.
-fn mirrored(axis: Axis) -> Axis
+fn mirrored(axis: Progression) -> Progression
     requires short { IsShort axis }
     requires step { unsigned_abs axis.step ≤ 2 }
     ensures at { result.at ≡ neg_ℤ axis.at }
@@ -89,7 +89,7 @@ fn mirrored(axis: Axis) -> Axis
     ensures high { result.high ≡ neg_ℤ axis.low }
     ensures short { IsShort result }
 {
-    Axis {
+    Progression {
         at: -axis.at,
         step: -axis.step,
         low: -axis.high,
@@ -98,7 +98,7 @@ fn mirrored(axis: Axis) -> Axis
 }
 
 /// The distances at which a coordinate that grows by steps of 1 may be.
-fn rising_span(axis: Axis) -> Span
+fn rising_span(axis: Progression) -> DistanceRange
     requires { IsShort axis }
     ensures span { (t : ℕ) → IsIn result t ↔ IsWithin axis (axis.at +ℤ pos t) t }
     ensures bound { result.last ≤ 2 ^ 64 }
@@ -112,11 +112,11 @@ fn rising_span(axis: Axis) -> Span
     } else {
         1
     };
-    Span { first, last }
+    DistanceRange { first, last }
 }
 
 /// The distances at which a coordinate that grows by steps of 2 may be.
-fn doubled_span(axis: Axis) -> Span
+fn doubled_span(axis: Progression) -> DistanceRange
     requires { IsShort axis }
     ensures span { (t : ℕ) → IsIn result t ↔ IsWithin axis (axis.at +ℤ pos (t + t)) t }
     ensures bound { result.last ≤ 2 ^ 64 }
@@ -130,16 +130,16 @@ fn doubled_span(axis: Axis) -> Span
     } else {
         1
     };
-    Span { first, last }
+    DistanceRange { first, last }
 }
 
 /// The distances, no longer than `LIMIT`, at which a coordinate that does not change may be.
-fn level_span(axis: Axis) -> Span
+fn level_span(axis: Progression) -> DistanceRange
     ensures span { (t : ℕ) → t ≤ 2 ^ 64 → IsIn result t ↔ IsWithin axis axis.at t }
     ensures bound { result.last ≤ 2 ^ 64 }
 {
     if axis.low <= axis.at && axis.at <= axis.high {
-        return Span {
+        return DistanceRange {
             first: 1,
             last: LIMIT,
         };
@@ -148,7 +148,7 @@ fn level_span(axis: Axis) -> Span
 }
 
 /// The distances at which a coordinate that grows may be.
-fn growing_span(axis: Axis) -> Span
+fn growing_span(axis: Progression) -> DistanceRange
     requires short { IsShort axis }
     requires step { (axis.step ≡ pos 1) ⊎ (axis.step ≡ pos 2) }
     ensures span { (t : ℕ) → IsIn result t ↔ IsWithinAfter axis t }
@@ -162,7 +162,7 @@ fn growing_span(axis: Axis) -> Span
 }
 
 /// The distances, no longer than `LIMIT`, at which the coordinate may be.
-fn axis_span(axis: Axis) -> Span
+fn axis_span(axis: Progression) -> DistanceRange
     requires short { IsShort axis }
     requires step { unsigned_abs axis.step ≤ 2 }
     ensures span { (t : ℕ) → t ≤ 2 ^ 64 → IsIn result t ↔ IsWithinAfter axis t }
@@ -180,7 +180,7 @@ fn axis_span(axis: Axis) -> Span
 }
 
 /// The columns that the ray leads to.
-fn x_axis(from: Square, ray: Ray, frame: Frame) -> Axis
+fn x_axis(from: Square, ray: Ray, frame: Frame) -> Progression
     requires { IsNarrow from }
     ensures at { result.at ≡ from.x }
     ensures step { result.step ≡ ray.dx }
@@ -188,7 +188,7 @@ fn x_axis(from: Square, ray: Ray, frame: Frame) -> Axis
     ensures high { result.high ≡ frame.x_high }
     ensures short { IsShort result }
 {
-    Axis {
+    Progression {
         at: from.x,
         step: i128::from(ray.dx),
         low: i128::from(frame.x_low),
@@ -197,7 +197,7 @@ fn x_axis(from: Square, ray: Ray, frame: Frame) -> Axis
 }
 
 /// The rows that the ray leads to.
-fn y_axis(from: Square, ray: Ray, frame: Frame) -> Axis
+fn y_axis(from: Square, ray: Ray, frame: Frame) -> Progression
     requires { IsNarrow from }
     ensures at { result.at ≡ from.y }
     ensures step { result.step ≡ ray.dy }
@@ -205,7 +205,7 @@ fn y_axis(from: Square, ray: Ray, frame: Frame) -> Axis
     ensures high { result.high ≡ frame.y_high }
     ensures short { IsShort result }
 {
-    Axis {
+    Progression {
         at: from.y,
         step: i128::from(ray.dy),
         low: i128::from(frame.y_low),
@@ -214,18 +214,18 @@ fn y_axis(from: Square, ray: Ray, frame: Frame) -> Axis
 }
 
 /// The distances that both spans have.
-fn overlap(x: Span, y: Span) -> Span
+fn overlap(x: DistanceRange, y: DistanceRange) -> DistanceRange
     ensures span { (t : ℕ) → IsIn result t ↔ (IsIn x t × IsIn y t) }
     ensures bound { (result.last ≤ x.last) × (result.last ≤ y.last) }
 {
-    Span {
+    DistanceRange {
         first: x.first.max(y.first),
         last: x.last.min(y.last),
     }
 }
 
 /// The distances at which a far ray leads to a square of the frame.
-fn slide_span(from: Square, ray: Ray, frame: Frame) -> Span
+fn slide_span(from: Square, ray: Ray, frame: Frame) -> DistanceRange
     requires narrow { IsNarrow from }
     requires direction { IsDirection ray.dx ray.dy }
     ensures span { (t : ℕ) → IsIn result t ↔ ((1 ≤ t) × IsInside frame (after_steps from t ray.dx ray.dy)) }
@@ -281,20 +281,20 @@ fn is_inside(frame: Frame, square: Square) -> bool
 }
 
 /// The distance 1, if the first square of the ray lies in the frame.
-fn leap_span(from: Square, ray: Ray, frame: Frame) -> Span
+fn leap_span(from: Square, ray: Ray, frame: Frame) -> DistanceRange
     requires { IsNarrow from }
     ensures span { (t : ℕ) → IsIn result t ↔ ((t ≡ 1) × IsInside frame (after_steps from t ray.dx ray.dy)) }
     ensures bound { result.last ≤ 2 ^ 64 }
 {
     let square = first_square(from, ray);
     if is_inside(frame, square) {
-        return Span { first: 1, last: 1 };
+        return DistanceRange { first: 1, last: 1 };
     }
     no_span()
 }
 
 /// The distances at which the ray leads to a square of the frame.
-fn reach(from: Square, ray: Ray, frame: Frame) -> Span
+fn reach(from: Square, ray: Ray, frame: Frame) -> DistanceRange
     requires narrow { IsNarrow from }
     requires stepwise { IsStepwise ray }
     ensures span { (t : ℕ) → IsIn result t ↔ IsReach ray from frame t }
@@ -414,7 +414,7 @@ fn first_on_ray(men: &[Piece], from: Square, ray: Ray) -> Option<Hit>
 }
 
 /// The last distance of a span that lies before the hit.
-fn last_before(span: Span, hit: Option<Hit>) -> u128
+fn last_before(span: DistanceRange, hit: Option<Hit>) -> u128
     requires { IfSome hit (λ h. 1 ≤ h.distance) }
     ensures last { (t : ℕ) → (t ≤ result) ↔ ((t ≤ span.last) × IfSome hit (λ h. t < h.distance)) }
     ensures bound { result ≤ span.last }
@@ -426,7 +426,7 @@ fn last_before(span: Span, hit: Option<Hit>) -> u128
 }
 
 /// The number of the man who is hit at a distance of the span.
-fn number_within(span: Span, hit: Option<Hit>) -> Option<u8>
+fn number_within(span: DistanceRange, hit: Option<Hit>) -> Option<u8>
     requires { IfSome hit (λ h. h.index < 8) }
     ensures some { IfSome result (λ n. IsSomeAnd hit (λ h. (n ≡ h.index + 1) × IsIn span h.distance)) }
     ensures none { IfNone result (IfSome hit (λ h. IsIn span h.distance → ⊥)) }

@@ -1,7 +1,7 @@
 -- Texts of two fields. Crates above cite these lemmas.
 use Rattle.std.proofs.Common.{◌≡◌, ℕ, List, ◌∷◌, ◌++◌, sym, ◌∙◌, subst}
-use Rattle.line_fields.specs.Blanks.{HasNoBlank}
-use Rattle.line_fields.proofs.Blanks.{no_blank_within, same_parts}
+use Rattle.text_fields.specs.Blanks.{HasNoBlank}
+use Rattle.text_fields.proofs.Blanks.{no_blank_within, same_parts}
 use Rattle.chess_text.specs.Fields.{HasTwoFields, IsField}
 
 pub no_two_fields : (text : List ℕ) → HasNoBlank text → HasTwoFields text → ⊥

@@ -14,8 +14,8 @@ use Rattle.chess_text.specs.Laws.{AcceptedIsSpelled, FeedsOnce, PositionsAreWrit
 use Rattle.chess_text.specs.ManLine.{IsManLine, man_text, turn_text}
 use Rattle.chess_text.specs.PositionText.{Completes, Feeds, FeedsMan, FeedsMen, FitsPlace, IsDraftOf, Turnout, end_line, more, wrong, complete}
 use Rattle.chess_text.specs.declared.grammar.Grammar.{Grammar}
-use Rattle.chess_text.specs.declared.reader.Stage.{Stage}
-use Rattle.chess_text.specs.declared.reader.Stage.TheVariants as stage
+use Rattle.chess_text.specs.declared.reader.ReaderState.{ReaderState}
+use Rattle.chess_text.specs.declared.reader.ReaderState.TheVariants as stage
 use Rattle.chess_text.proofs.Spellings.{man_no_refusal, one_refusal, place_fits, same_man, same_turn}
 
 -- a man's line is not the end
@@ -107,13 +107,13 @@ finishes_man {g} p {m} lines q hm f =
     }
 
 -- a line that the text goes on after is a man's
-record GoesOn (g : Grammar) (p : Draft) (line : List ℕ) (next : Stage) : Type 0 where
+record GoesOn (g : Grammar) (p : Draft) (line : List ℕ) (next : ReaderState) : Type 0 where
   man : Man
   is_line : IsManLine g line man
   room : length p.men < g.most_men
   next_is : next ≡ stage.Men (with_man p man)
 
-goes_on : {g : Grammar} (p : Draft) (line : List ℕ) (next : Stage) → FeedsMen g p line (more next) → GoesOn g p line next
+goes_on : {g : Grammar} (p : Draft) (line : List ℕ) (next : ReaderState) → FeedsMen g p line (more next) → GoesOn g p line next
 goes_on p line next (inl (a, e, i)) = absurd cc
 goes_on p line next (inr (inl (a, e, i))) = absurd cc
 goes_on p line next (inr (inr (inl (a, e, i)))) = absurd cc
@@ -134,13 +134,13 @@ finishes g p (line ∷ l ∷ lines) q high h =
     (finishes g (with_man p on.man) (l ∷ lines) q (more_room p on.man on.room) (subst (λ s. Completes g s (l ∷ lines) q) on.next_is h.2))
 
 -- the line of the side to move and of the side that is to mate
-record HasTurn (line : List ℕ) (next : Stage) : Type 0 where
+record HasTurn (line : List ℕ) (next : ReaderState) : Type 0 where
   side : Side
   winner : Side
   spelled : line ≡ turn_text side winner
   next_is : next ≡ stage.Men (nobody side winner)
 
-has_turn : (g : Grammar) (line : List ℕ) (next : Stage) → Feeds g stage.Turn line (more next) → HasTurn line next
+has_turn : (g : Grammar) (line : List ℕ) (next : ReaderState) → Feeds g stage.Turn line (more next) → HasTurn line next
 has_turn g line next (inl (s, w, e, i)) = record { side = s; winner = w; spelled = e; next_is = cc }
 has_turn g line next (inr (e, i)) = absurd cc
 
@@ -174,11 +174,11 @@ after_header g (line ∷ l ∷ lines) d h =
     (finishes g (nobody turn.side turn.winner) (l ∷ lines) d (omega arith) (subst (λ s. Completes g s (l ∷ lines) d) turn.next_is h.2))
 
 -- the header, and the stage after it
-record HasHeader (g : Grammar) (line : List ℕ) (next : Stage) : Type 0 where
+record HasHeader (g : Grammar) (line : List ℕ) (next : ReaderState) : Type 0 where
   spelled : line ≡ g.header
   next_is : next ≡ stage.Turn
 
-has_header : (g : Grammar) (line : List ℕ) (next : Stage) → Feeds g stage.Header line (more next) → HasHeader g line next
+has_header : (g : Grammar) (line : List ℕ) (next : ReaderState) → Feeds g stage.Header line (more next) → HasHeader g line next
 has_header g line next (inl (e, i)) = record { spelled = e; next_is = cc }
 has_header g line next (inr (e, i)) = absurd cc
 
@@ -191,7 +191,7 @@ accepted_is_spelled g (line ∷ l ∷ lines) d h =
     let rest = after_header g (l ∷ lines) d (subst (λ s. Completes g s (l ∷ lines) d) first.next_is h.2) in
     (ap (λ x. x ∷ l ∷ lines) first.spelled ∙ ap (λ x. g.header ∷ x) rest.spelled, rest.says)
 
-completes_more : (g : Grammar) (s next : Stage) (line : List ℕ) (men : List Man) (q : Draft) → Feeds g s line (more next)
+completes_more : (g : Grammar) (s next : ReaderState) (line : List ℕ) (men : List Man) (q : Draft) → Feeds g s line (more next)
     → Completes g next (map man_text men ++ end_line ∷ []) q → Completes g s (line ∷ (map man_text men ++ end_line ∷ [])) q
 completes_more g s next line [] q f c = (next, f, c)
 completes_more g s next line (m ∷ men) q f c = (next, f, c)

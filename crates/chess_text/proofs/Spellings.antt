@@ -10,10 +10,10 @@ use Rattle.game_rules.specs.declared.men.Kind.TheVariants.{King, Queen, Rook, Bi
 use Rattle.game_rules.specs.declared.men.Place.{Place}
 use Rattle.game_rules.specs.declared.men.Place.TheVariants.{Gone, At}
 use Rattle.game_rules.specs.declared.men.Man.{Man}
-use Rattle.line_fields.specs.Blanks.{HasNoBlank}
-use Rattle.line_fields.specs.Numbers.{IsNumber}
-use Rattle.line_fields.proofs.Blanks.{head_no_blank, no_blank_within, same_parts, tail_no_blank}
-use Rattle.line_fields.proofs.Signed.{same_number}
+use Rattle.text_fields.specs.Blanks.{HasNoBlank}
+use Rattle.text_fields.specs.Numbers.{IsNumber}
+use Rattle.text_fields.proofs.Blanks.{head_no_blank, no_blank_within, same_parts, tail_no_blank}
+use Rattle.text_fields.proofs.Signed.{same_number}
 use Rattle.chess_text.specs.Fields.{HasTwoFields, HasNoNumber, HasOtherField, IsField, IsPairRefusal, pair_text}
 use Rattle.chess_text.specs.Grammar.{IsCoordinate, IsCoordinateOf, IsPlaceOf}
 use Rattle.chess_text.specs.ManLine.{HasPlaceFault, HasPlaceShape, IsManLine, IsManRefusal, IsPlaceRefusal, behind_letters, kind_letter, place_text, side_letter, turn_text}

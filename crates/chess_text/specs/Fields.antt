@@ -1,8 +1,8 @@
 -- Pairs of fields in a line, and pairs of numbers.
 use Rattle.std.specs.Prelude.{◌≡◌, ◌≢◌, ◌⊎◌, ℕ, List, [], ◌∷◌, ◌++◌, ℤ}
 use Rattle.std.specs.Fmt.{signed_decimal}
-use Rattle.line_fields.specs.Blanks.{HasNoBlank}
-use Rattle.line_fields.specs.Numbers.{IsNumber}
+use Rattle.text_fields.specs.Blanks.{HasNoBlank}
+use Rattle.text_fields.specs.Numbers.{IsNumber}
 use Rattle.chess_text.specs.declared.fields.PairWhy.{PairWhy}
 use Rattle.chess_text.specs.declared.fields.PairWhy.TheVariants.{Shape, Number}
 

@@ -8,8 +8,8 @@ use Rattle.chess_text.specs.Grammar.{positions}
 use Rattle.chess_text.specs.PositionText.{Completes, Feeds, IsDraftOf, IsWritable, Turnout, draft_of, text_lines}
 use Rattle.chess_text.specs.declared.grammar.Grammar.{Grammar}
 use Rattle.chess_text.specs.Replies.{IsReply, IsReplyRefusal, IsTypable, move_text}
-use Rattle.chess_text.specs.declared.reader.Stage.{Stage}
-use Rattle.chess_text.specs.declared.reader.Stage.TheVariants as stage
+use Rattle.chess_text.specs.declared.reader.ReaderState.{ReaderState}
+use Rattle.chess_text.specs.declared.reader.ReaderState.TheVariants as stage
 use Rattle.chess_text.specs.declared.replies.Typed.{Typed}
 use Rattle.chess_text.specs.declared.replies.Typed.TheVariants as typed
 use Rattle.chess_text.specs.declared.replies.MoveWhy.{MoveWhy}
@@ -30,7 +30,7 @@ PositionsAreWritable = (p : Position) (winner : Side) → IsDraftOf positions (d
 -- a line makes one thing of a text
 abbrev pub FeedsOnce : Type 0
 FeedsOnce =
-    (g : Grammar) (s : Stage) (line : List ℕ) (one other : Turnout) → Feeds g s line one → Feeds g s line other → one ≡ other
+    (g : Grammar) (s : ReaderState) (line : List ℕ) (one other : Turnout) → Feeds g s line one → Feeds g s line other → one ≡ other
 
 -- the spelling of a move is a reply, which is that move
 abbrev pub SpelledMoveIsReply : Type 0

@@ -1,5 +1,5 @@
-pub use Rattle.line_fields.specs.Blanks
-pub use Rattle.line_fields.specs.Numbers
+pub use Rattle.text_fields.specs.Blanks
+pub use Rattle.text_fields.specs.Numbers
 pub mod Draft
 pub mod Fields
 pub mod Gathering

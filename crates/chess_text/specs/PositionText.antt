@@ -14,8 +14,8 @@ use Rattle.chess_text.specs.declared.grammar.Grammar.{Grammar}
 use Rattle.chess_text.specs.declared.grammar.TheConstants.{MOST_MEN}
 use Rattle.chess_text.specs.declared.man_line.TextWhy.{TextWhy}
 use Rattle.chess_text.specs.declared.man_line.TextWhy.TheVariants as why
-use Rattle.chess_text.specs.declared.reader.Stage.{Stage}
-use Rattle.chess_text.specs.declared.reader.Stage.TheVariants as stage
+use Rattle.chess_text.specs.declared.reader.ReaderState.{ReaderState}
+use Rattle.chess_text.specs.declared.reader.ReaderState.TheVariants as stage
 
 abbrev pub end_line : List ℕ
 end_line = codes "end"
@@ -62,12 +62,12 @@ pub record IsDraftOf (g : Grammar) (d : Draft) : Type 0 where
 
 -- What a line makes of a text: it goes on at a stage, or the text is complete, or the line may not stand there.
 pub data Turnout : Type 0 where
-  more : Stage → Turnout
+  more : ReaderState → Turnout
   complete : Draft → Turnout
   wrong : TextWhy → Turnout
 
 -- the turnout of an answer, and the stage after it
-abbrev pub turnout : Result (Option Draft) TextWhy → Stage → Turnout
+abbrev pub turnout : Result (Option Draft) TextWhy → ReaderState → Turnout
 turnout (Ok None) next = more next
 turnout (Ok (Some d)) next = complete d
 turnout (Err reason) next = wrong reason
@@ -87,7 +87,7 @@ FeedsMen g d line turnout =
     ⊎ ((length d.men < g.most_men) × (line ≢ end_line) × FeedsMan g d line turnout)
 
 -- what a line makes of a text at a stage
-abbrev pub Feeds : Grammar → Stage → List ℕ → Turnout → Type 0
+abbrev pub Feeds : Grammar → ReaderState → List ℕ → Turnout → Type 0
 Feeds g stage.Header line turnout =
     ((line ≡ g.header) × (turnout ≡ more stage.Turn)) ⊎ ((line ≢ g.header) × (turnout ≡ wrong why.Header))
 Feeds g stage.Turn line turnout =
@@ -96,7 +96,7 @@ Feeds g stage.Turn line turnout =
 Feeds g (stage.Men d) line turnout = FeedsMen g d line turnout
 
 -- the lines make a complete text, the last of them its end
-abbrev pub Completes : Grammar → Stage → List (List ℕ) → Draft → Type 0
+abbrev pub Completes : Grammar → ReaderState → List (List ℕ) → Draft → Type 0
 Completes g s [] d = ⊥
 Completes g s (line ∷ []) d = Feeds g s line (complete d)
-Completes g s (line ∷ lines) d = (next : Stage) × Feeds g s line (more next) × Completes g next lines d
+Completes g s (line ∷ lines) d = (next : ReaderState) × Feeds g s line (more next) × Completes g next lines d

@@ -12,16 +12,16 @@ use Rattle.chess_text.specs.declared.positions.Fed.{Fed}
 use Rattle.chess_text.specs.declared.positions.Fed.TheVariants as fed
 use Rattle.chess_text.specs.declared.reader.End.{End}
 use Rattle.chess_text.specs.declared.reader.End.TheVariants as end
-use Rattle.chess_text.specs.declared.reader.Stage.{Stage}
-use Rattle.chess_text.specs.declared.reader.Stage.TheVariants as stage
-use Rattle.chess_text.specs.declared.reader.Step.{Step}
-use Rattle.chess_text.specs.declared.reader.Step.TheVariants as step
+use Rattle.chess_text.specs.declared.reader.ReaderState.{ReaderState}
+use Rattle.chess_text.specs.declared.reader.ReaderState.TheVariants as stage
+use Rattle.chess_text.specs.declared.reader.LineOutcome.{LineOutcome}
+use Rattle.chess_text.specs.declared.reader.LineOutcome.TheVariants as step
 use Rattle.chess_text.specs.declared.reader.TextError.{TextError}
 
 -- the kind of the text, where it stands, and how it has ended
 pub record Progress : Type 0 where
   pub grammar : Grammar
-  pub stage : Stage
+  pub stage : ReaderState
   pub end : Option End
 
 -- nothing was read
@@ -29,12 +29,12 @@ abbrev pub begun : Grammar → Progress
 begun g = record { grammar = g; stage = stage.Header; end = None }
 
 -- there are no more men at a stage than the text may have
-abbrev pub HasRoom : Grammar → Stage → Type 0
+abbrev pub HasRoom : Grammar → ReaderState → Type 0
 HasRoom g (stage.Men d) = length d.men ≤ g.most_men
 HasRoom g s = Unit {0}
 
 -- there are enough men at a stage for a text
-abbrev pub HasEnough : Stage → Type 0
+abbrev pub HasEnough : ReaderState → Type 0
 HasEnough (stage.Men d) = 2 ≤ length d.men
 HasEnough s = ⊥
 
@@ -52,31 +52,31 @@ pub record IsWhole (r : Progress) (d : Draft) : Type 0 where
   pub high : length d.men ≤ r.grammar.most_men
 
 -- the number of the line that is due, counted from 1
-abbrev pub line_due : Stage → ℕ
+abbrev pub line_due : ReaderState → ℕ
 line_due stage.Header = 1
 line_due stage.Turn = 2
 line_due (stage.Men d) = length d.men + 3
 
 -- what a line makes of a text at a stage: it goes on at the next one, or is whole, or the line may not stand there
-abbrev pub IsFed : Grammar → Stage → List ℕ → Result Step TextWhy → Stage → Type 0
+abbrev pub IsFed : Grammar → ReaderState → List ℕ → Result LineOutcome TextWhy → ReaderState → Type 0
 IsFed g s line (Ok step.More) next = Feeds g s line (more next)
 IsFed g s line (Ok step.Whole) (stage.Men d) = Feeds g s line (complete d)
 IsFed g s line (Ok step.Whole) next = ⊥
 IsFed g s line (Err why) next = Feeds g s line (wrong why)
 
 -- how a text has ended, if it has
-abbrev pub ended : Step → Option End
+abbrev pub ended : LineOutcome → Option End
 ended step.More = None
 ended step.Whole = Some end.Whole
 
 -- what a reader at a stage answers to a line, and what it is then
-abbrev pub Reads : Grammar → Stage → List ℕ → Result Step TextError → Progress → Type 0
+abbrev pub Reads : Grammar → ReaderState → List ℕ → Result LineOutcome TextError → Progress → Type 0
 Reads g s line (Ok to) r = IsFed g s line (Ok to) r.stage × (r.end ≡ ended to)
 Reads g s line (Err error) r =
     IsFed g s line (Err error.why) r.stage × (error.line ≡ line_due s) × (r.end ≡ Some (end.Refused error))
 
 -- what a reader answers that has ended
-abbrev pub answer_of : End → Result Step TextError
+abbrev pub answer_of : End → Result LineOutcome TextError
 answer_of end.Whole = Ok step.Whole
 answer_of (end.Refused error) = Err error
 
@@ -86,12 +86,12 @@ whole_of fed.More = None
 whole_of (fed.Whole p winner) = Some (p, winner)
 
 -- what was made of a position text that has come so far
-abbrev pub fed_at : Option End → Stage → Fed
+abbrev pub fed_at : Option End → ReaderState → Fed
 fed_at (Some end.Whole) (stage.Men d) = fed.Whole (drafted d) d.winner
 fed_at how s = fed.More
 
 -- what a reader of position texts at a stage answers to a line, and what it is then
-abbrev pub ReadsLine : Stage → List ℕ → Result Fed TextError → Progress → Type 0
+abbrev pub ReadsLine : ReaderState → List ℕ → Result Fed TextError → Progress → Type 0
 ReadsLine s line (Ok fed.More) r = Feeds positions s line (more r.stage) × (r.end ≡ None)
 ReadsLine s line (Ok (fed.Whole p winner)) r =
     Feeds positions s line (complete (draft_of p winner)) × (r.stage ≡ stage.Men (draft_of p winner)) × (r.end ≡ Some end.Whole)
@@ -99,6 +99,6 @@ ReadsLine s line (Err error) r =
     Feeds positions s line (wrong error.why) × (error.line ≡ line_due s) × (r.end ≡ Some (end.Refused error))
 
 -- what a reader of position texts answers that has ended at a stage
-abbrev pub again_at : Stage → End → Result Fed TextError
+abbrev pub again_at : ReaderState → End → Result Fed TextError
 again_at s end.Whole = Ok (fed_at (Some end.Whole) s)
 again_at s (end.Refused error) = Err error

@@ -4,7 +4,7 @@ ghost use Rattle.std.specs.Prelude.{◌≡◌, ◌↔◌, FitsSigned, IfSome, If
 ghost use Rattle.std.specs.Int.{w64};
 ghost use Rattle.chess_text.specs.Fields.{IsField, IsPairRefusal, HasTwoFields, pair_text, two_fields};
 
-use line_fields::{read_number, split_at_blank};
+use text_fields::{read_number, split_at_blank};
 
 /// Why two fields are no pair of numbers.
 #[derive(Clone, Copy, PartialEq, Eq)]

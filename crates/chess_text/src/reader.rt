@@ -18,7 +18,7 @@ pub struct TextError {
 
 /// What a line makes of a text.
 #[derive(Clone, Copy, PartialEq, Eq)]
-pub enum Step {
+pub enum LineOutcome {
     /// The text goes on.
     More,
     /// The line was its last.
@@ -34,31 +34,31 @@ pub enum End {
 
 /// Where a text stands: which line is due.
 #[derive(Drop)]
-pub enum Stage {
+pub enum ReaderState {
     Header,
     Turn,
     /// A man, or the end.
     Men(Draft),
 }
 
-impl Stage {
+impl ReaderState {
     /// The number of the line that is due, counted from 1.
     fn number(&self) -> u32
         ensures { result ≡ line_due self.now }
     {
         match self {
-            Stage::Header => 1,
-            Stage::Turn => 2,
-            Stage::Men(draft) => draft.men().len() as u32 + 3,
+            ReaderState::Header => 1,
+            ReaderState::Turn => 2,
+            ReaderState::Men(draft) => draft.men().len() as u32 + 3,
         }
     }
 }
 
 /// Takes a line behind the first two.
-fn feed_men(grammar: &Grammar, draft: &mut Draft, line: &[u8]) -> Result<Step, TextWhy>
+fn feed_men(grammar: &Grammar, draft: &mut Draft, line: &[u8]) -> Result<LineOutcome, TextWhy>
     requires few { grammar.now.most_men ≤ MOST_READ }
     requires room { length draft.old.men ≤ grammar.now.most_men }
-    ensures fed { IsFed grammar.now (Stage.Men draft.old) line.now result (Stage.Men draft.new) }
+    ensures fed { IsFed grammar.now (ReaderState.Men draft.old) line.now result (ReaderState.Men draft.new) }
     ensures room { length draft.new.men ≤ grammar.now.most_men }
 {
     let count = draft.men().len();
@@ -66,7 +66,7 @@ fn feed_men(grammar: &Grammar, draft: &mut Draft, line: &[u8]) -> Result<Step, T
         return if count < 2 {
             Err(TextWhy::TooFew)
         } else {
-            Ok(Step::Whole)
+            Ok(LineOutcome::Whole)
         };
     }
     if count == grammar.most_men {
@@ -74,30 +74,30 @@ fn feed_men(grammar: &Grammar, draft: &mut Draft, line: &[u8]) -> Result<Step, T
     }
     let man = read_man_line(grammar, line)?;
     draft.push(man);
-    Ok(Step::More)
+    Ok(LineOutcome::More)
 }
 
 /// Takes a line of a text.
-fn feed(grammar: &Grammar, stage: &mut Stage, line: &[u8]) -> Result<Step, TextWhy>
+fn feed(grammar: &Grammar, stage: &mut ReaderState, line: &[u8]) -> Result<LineOutcome, TextWhy>
     requires few { grammar.now.most_men ≤ MOST_READ }
     requires room { HasRoom grammar.now stage.old }
     ensures fed { IsFed grammar.now stage.old line.now result stage.new }
     ensures room { HasRoom grammar.now stage.new }
 {
     match stage {
-        Stage::Header => {
+        ReaderState::Header => {
             if line != grammar.header.as_slice() {
                 return Err(TextWhy::Header);
             }
-            *stage = Stage::Turn;
-            Ok(Step::More)
+            *stage = ReaderState::Turn;
+            Ok(LineOutcome::More)
         }
-        Stage::Turn => {
+        ReaderState::Turn => {
             let (turn, winner) = read_turn_line(line)?;
-            *stage = Stage::Men(Draft::new(turn, winner));
-            Ok(Step::More)
+            *stage = ReaderState::Men(Draft::new(turn, winner));
+            Ok(LineOutcome::More)
         }
-        Stage::Men(draft) => feed_men(grammar, draft, line),
+        ReaderState::Men(draft) => feed_men(grammar, draft, line),
     }
 }
 
@@ -105,7 +105,7 @@ fn feed(grammar: &Grammar, stage: &mut Stage, line: &[u8]) -> Result<Step, TextW
 #[derive(Drop)]
 pub struct TextReader {
     grammar: Grammar,
-    stage: Stage,
+    stage: ReaderState,
     end: Option<End>,
 }
 
@@ -127,7 +127,7 @@ impl TextReader {
     {
         TextReader {
             grammar,
-            stage: Stage::Header,
+            stage: ReaderState::Header,
             end: None,
         }
     }
@@ -140,22 +140,22 @@ impl TextReader {
     }
 
     /// Takes the next line of a text, without its LF. After an error, or once the text is whole, the answer stays.
-    pub fn feed_line(&mut self, line: &[u8]) -> Result<Step, TextError>
+    pub fn feed_line(&mut self, line: &[u8]) -> Result<LineOutcome, TextError>
         ensures stopped { IfSome self.old.end (λ end. (result ≡ answer_of end) × (self.new ≡ self.old)) }
         ensures reads { self.old.end ≡ None → Reads self.old.grammar self.old.stage line.now result self.new }
         ensures grammar { self.new.grammar ≡ self.old.grammar }
     {
         match self.end {
-            Some(End::Whole) => return Ok(Step::Whole),
+            Some(End::Whole) => return Ok(LineOutcome::Whole),
             Some(End::Refused(error)) => return Err(error),
             None => {}
         }
         let number = self.line_due();
         match feed(&self.grammar, &mut self.stage, line) {
-            Ok(Step::More) => Ok(Step::More),
-            Ok(Step::Whole) => {
+            Ok(LineOutcome::More) => Ok(LineOutcome::More),
+            Ok(LineOutcome::Whole) => {
                 self.end = Some(End::Whole);
-                Ok(Step::Whole)
+                Ok(LineOutcome::Whole)
             }
             Err(why) => {
                 let error = TextError { line: number, why };
@@ -171,7 +171,7 @@ impl TextReader {
         ensures none { IfNone result (self.now.end ≢ Some End.Whole) }
     {
         match (&self.end, &self.stage) {
-            (Some(End::Whole), Stage::Men(draft)) => Some(draft),
+            (Some(End::Whole), ReaderState::Men(draft)) => Some(draft),
             _ => None,
         }
     }
@@ -182,7 +182,7 @@ impl TextReader {
         ensures none { IfNone result (self.end ≢ Some End.Whole) }
     {
         match (self.end, self.stage) {
-            (Some(End::Whole), Stage::Men(draft)) => Some(draft),
+            (Some(End::Whole), ReaderState::Men(draft)) => Some(draft),
             _ => None,
         }
     }

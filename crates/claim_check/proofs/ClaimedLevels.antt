@@ -12,7 +12,7 @@ use Rattle.set_plan.specs.Outcome.{Ends, Stops}
 use Rattle.set_plan.specs.Past.{Past}
 use Rattle.set_plan.specs.Program.{Entry, Give}
 use Rattle.set_plan.specs.Sets.{set_at}
-use Rattle.set_plan.specs.declared.stop.StepName.{StepName}
+use Rattle.set_plan.specs.declared.stop.PartStep.{PartStep}
 use Rattle.set_plan.proofs.Composition.{Ends-give, Ends-give_is, none_some}
 use Rattle.set_plan.proofs.Takings.{contains_cases, contains_none}
 use Rattle.mate_plan.specs.Claim.{Claim, IsClaim, claimed_at, claimed_level}
@@ -31,7 +31,7 @@ module _ (c : Claim) (ply : ℕ) where
       subst Is (sym is) (Ends-give budget (claimed_level c ply mask))
 
   -- no step passes a budget
-  pub given_goes_on : (masks : List ℕ) (level : Level) (budget : ℕ) (name : StepName PartName) → Stops (for_masks masks given level) budget name → ⊥
+  pub given_goes_on : (masks : List ℕ) (level : Level) (budget : ℕ) (name : PartStep PartName) → Stops (for_masks masks given level) budget name → ⊥
   given_goes_on [] level budget name h =
       let Of : List (Entry PartName) → Type 0 = λ entries. Past entries budget (Some name) in
       none_some (subst Of h.takes.0 h.past)

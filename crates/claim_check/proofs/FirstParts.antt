@@ -8,17 +8,17 @@ use Rattle.set_plan.specs.declared.stop.PlanError.{PlanError}
 use Rattle.mate_plan.specs.Claim.{Claim, claimed_level}
 use Rattle.mate_plan.specs.Plan.{Level, Program}
 use Rattle.mate_plan.specs.PlanOf.{rules_of}
-use Rattle.mate_plan.specs.Turns.{waits}
+use Rattle.mate_plan.specs.Turns.{plies_before_turn}
 use Rattle.mate_plan.specs.declared.names.PartName.{PartName}
 use Rattle.claim_plan.specs.CheckPlan.{Finding, check_first, check_move, check_moving, check_waiting}
 use Rattle.claim_check.specs.Finds.{Finds}
 
 module _ (c : Claim) where
   -- how long the winner waits for his turn, as it was asked
-  pub waits_is : {p : Position} {w s : Side} {plies : ℕ} → p ≡ c.position → w ≡ c.winner → s ≡ p.turn → plies ≡ waits w s → waits c.winner c.position.turn ≡ plies
+  pub waits_is : {p : Position} {w s : Side} {plies : ℕ} → p ≡ c.position → w ≡ c.winner → s ≡ p.turn → plies ≡ plies_before_turn w s → plies_before_turn c.winner c.position.turn ≡ plies
   waits_is {w} {s} at winner turn is =
       let there : s ≡ c.position.turn = turn ∙ ap (λ (q : Position). q.turn) at in
-      sym (is ∙ (ap (λ (side : Side). waits side s) winner ∙ ap (waits c.winner) there))
+      sym (is ∙ (ap (λ (side : Side). plies_before_turn side s) winner ∙ ap (plies_before_turn c.winner) there))
 
   pub first_waiting : (plies : ℕ) → plies ≢ 0 → check_first c plies ≡ check_waiting c
   first_waiting zero some = absurd (some refl)

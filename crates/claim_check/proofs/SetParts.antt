@@ -13,9 +13,9 @@ use Rattle.set_plan.proofs.Composition.{LeadsTo, LeadsTo-self}
 use Rattle.mate_plan.specs.Claim.{Claim, claimed_at}
 use Rattle.mate_plan.specs.Plan.{Program}
 use Rattle.mate_plan.specs.PlanOf.{rules_of}
-use Rattle.mate_plan.specs.Questions.{are_apart}
+use Rattle.mate_plan.specs.Questions.{are_on_distinct_squares}
 use Rattle.mate_plan.specs.declared.names.PartName.{PartName}
-use Rattle.claim_plan.specs.CheckPlan.{Finding, and_then, check_guard, check_set, check_sign, holds_by, judged, rule_at}
+use Rattle.claim_plan.specs.CheckPlan.{Finding, and_then, check_guard, check_set, check_sign, holds_by, failed_rule, rule_at}
 use Rattle.claim_plan.specs.declared.names.Rule.TheVariants as rule
 use Rattle.claim_plan.specs.declared.names.RuleAt.{RuleAt}
 use Rattle.claim_plan.proofs.CheckAnswers.{holds_by-ends}
@@ -29,19 +29,19 @@ none_told None none = refl
 none_told (Some f) none = absurd (cc)
 
 -- what is known where a rule is kept
-pub kept_tells : (f : RuleAt) (b : Bool) (P : Type 0) → (IsTrue b → P) → found (judged f b) ≡ found None → P
+pub kept_tells : (f : RuleAt) (b : Bool) (P : Type 0) → (IsTrue b → P) → found (failed_rule f b) ≡ found None → P
 kept_tells f true P h e = h refl
 kept_tells f false P h e = absurd (cc)
 
 pub sign_ends : (budget ply mask : ℕ) (a : Automaton) (b : Bool) → (IsTrue b → DecidesIntegers a) × (DecidesIntegers a → IsTrue b)
-    → Ends (check_sign ply mask (Some a)) budget (judged (rule_at ply mask rule.Sign) b)
+    → Ends (check_sign ply mask (Some a)) budget (failed_rule (rule_at ply mask rule.Sign) b)
 sign_ends budget ply mask a b same =
     holds_by-ends budget (rule_at ply mask rule.Sign) (Ask (Stable a) (Give true) (Give false)) b
     (asked_ends budget (Stable a) (DecidesIntegers a) b same (λ h. h) (λ h. h))
 
 module _ (c : Claim) (ply mask : ℕ) where
   abbrev pub same_of : SetOf → Program Finding
-  same_of s = holds_by (rule_at ply mask rule.Same) (are_apart c.position ply mask s)
+  same_of s = holds_by (rule_at ply mask rule.Same) (are_on_distinct_squares c.position ply mask s)
 
   abbrev pub guard_of : SetOf → Program Finding
   guard_of s = check_guard (rules_of c.position) (other c.winner) ply mask s

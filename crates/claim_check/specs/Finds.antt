@@ -3,7 +3,7 @@ use Rattle.std.specs.Prelude.{ℕ, Bool, Result}
 use Rattle.set_plan.specs.Outcome.{Answers}
 use Rattle.set_plan.specs.declared.stop.PlanError.{PlanError}
 use Rattle.mate_plan.specs.Plan.{Program}
-use Rattle.mate_plan.specs.declared.bench.Work.{Work}
+use Rattle.mate_plan.specs.declared.bench.PlanState.{PlanState}
 use Rattle.mate_plan.specs.declared.names.PartName.{PartName}
 use Rattle.claim_plan.specs.CheckPlan.{Finding, holds_by}
 use Rattle.claim_plan.specs.declared.names.RuleAt.{RuleAt}
@@ -13,11 +13,11 @@ abbrev pub Finds : Program Finding → ℕ → Result Finding (PlanError PartNam
 Finds program budget result = Answers program budget (λ (found : Finding). found) result
 
 -- the same within the budget of what does the work
-abbrev pub FindsBy : Work → Program Finding → Result Finding (PlanError PartName) → Type 0
+abbrev pub FindsBy : PlanState → Program Finding → Result Finding (PlanError PartName) → Type 0
 FindsBy work program result = Finds program work.memo.budget result
 
 -- so of any program
-abbrev pub AnswersBy : {A B : Type 0} → Work → Program A → (B → A) → Result B (PlanError PartName) → Type 0
+abbrev pub AnswersBy : {A B : Type 0} → PlanState → Program A → (B → A) → Result B (PlanError PartName) → Type 0
 AnswersBy work program view result = Answers program work.memo.budget view result
 
 -- a program that finds whether the rule holds finds this, where it is gone through to that answer

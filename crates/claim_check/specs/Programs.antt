@@ -7,8 +7,8 @@ use Rattle.mate_plan.specs.Claim.{claimed_level}
 use Rattle.mate_plan.specs.Levels.{level_in}
 use Rattle.mate_plan.specs.Plan.{Level, Program, Rules, reach_level}
 use Rattle.mate_plan.specs.PlanOf.{rules_of}
-use Rattle.mate_plan.specs.Questions.{are_apart}
-use Rattle.mate_plan.specs.Turns.{waits}
+use Rattle.mate_plan.specs.Questions.{are_on_distinct_squares}
+use Rattle.mate_plan.specs.Turns.{plies_before_turn}
 use Rattle.mate_plan.specs.declared.stage.StageLevel.{StageLevel}
 use Rattle.winning_sets.specs.declared.claimed.ClaimedSets.{ClaimedSets}
 use Rattle.claim_plan.specs.CheckPlan.{Finding, check_first, check_guard, check_left, check_stale, for_each, holds_by, rule_at}
@@ -32,7 +32,7 @@ reached_in s table r = level_in s.position table r.reached
 abbrev pub check_same_in : ClaimedSets → List Automaton → StageLevel → Program Finding
 check_same_in s table at =
     holds_by (rule_at at.stage.ply at.stage.mask rule.Same)
-    (are_apart s.position at.stage.ply at.stage.mask (set_in s table at))
+    (are_on_distinct_squares s.position at.stage.ply at.stage.mask (set_in s table at))
 
 -- no man of the side bears on the other king there
 abbrev pub check_guard_in : ClaimedSets → List Automaton → StageLevel → Program Finding
@@ -40,7 +40,7 @@ check_guard_in s table at = check_guard (rules_in s) at.stage.side at.stage.ply 
 
 -- the rule of the start
 abbrev pub check_start_in : ClaimedSets → Program Finding
-check_start_in s = check_first (claim_in s) (waits s.winner s.position.turn)
+check_start_in s = check_first (claim_in s) (plies_before_turn s.winner s.position.turn)
 
 -- what the replies reach from what is claimed at a ply
 abbrev pub reach_in : ClaimedSets → ℕ → Program Level

@@ -13,16 +13,16 @@ use crate::first::check_first;
 use crate::plies::losers_plies;
 use crate::reduced::ReducedClaim;
 use crate::replies::check_replies;
-use crate::rules::Found;
+use crate::rules::FirstFailure;
 use crate::sets::check_sets;
 use limits::Budget;
-use mate_plan::Work;
+use mate_plan::PlanState;
 use std::alloc::Global;
 use strategy_file::Claim;
 use winning_sets::Solved;
 
 /// Goes through the plan of a claim: the claimed sets by themselves, the start, and the replies.
-fn check_plan(claim: &ReducedClaim, work: &mut Work) -> Found
+fn check_plan(claim: &ReducedClaim, work: &mut PlanState) -> FirstFailure
     ensures { FindsBy work.old (plan_of (claim_in claim.now)) result }
 {
     let bench = claim.bench();
@@ -50,7 +50,7 @@ pub fn check(alloc: Global, claim: Claim, budget: Budget) -> Result<Solved, Chec
 {
     let moves = claim.moves;
     let reduced = ReducedClaim::new(alloc, claim)?;
-    match check_plan(&reduced, &mut Work::new(alloc, budget)) {
+    match check_plan(&reduced, &mut PlanState::new(alloc, budget)) {
         Ok(None) => Ok(reduced.into_solved()),
         Ok(Some(rule)) => Err(CheckError::NotKept(rule)),
         Err(error) => Err(check_error(moves, error)),

@@ -13,14 +13,14 @@ ghost use Rattle.claim_check.specs.Ready.{AreNamesOf, AreSigned, claim_in};
 use crate::reduced::ReducedClaim;
 use auto_core::Auto;
 use lin_formula::SetId;
-use mate_plan::{Bench, LevelNames, MaskSets, PartName, Work, level_by, one_level};
+use mate_plan::{LevelBuilder, LevelNames, PartName, PlanContext, PlanState, level_by, one_level};
 use set_plan::PlanError;
 use std::alloc::AllocError;
 
 /// The level that has a copy of this set for a mask, and no set for the others.
 pub(crate) fn lone_level(
     claim: &ReducedClaim,
-    work: &mut Work,
+    work: &mut PlanState,
     mask: u8,
     set: &Auto,
 ) -> Result<LevelNames, AllocError>
@@ -38,7 +38,7 @@ pub(crate) fn lone_level(
 /// The name of a copy of the set that is claimed at a ply for a mask.
 fn claimed_name(
     claim: &ReducedClaim,
-    work: &mut Work,
+    work: &mut PlanState,
     ply: u8,
     mask: u8,
 ) -> Result<Option<SetId>, AllocError>
@@ -61,15 +61,15 @@ struct ClaimedPly<'a> {
     ply: u8,
 }
 
-impl MaskSets for ClaimedPly<'_> {
+impl LevelBuilder for ClaimedPly<'_> {
     ghost program = { λ it _ _ mask. Give (level_at (claim_in it.claim.now) it.ply mask) };
 
     ghost fits = { λ it p _. AreSigned (claim_in it.claim.now) × (p ≡ it.claim.now.position) };
 
     fn name(
         &self,
-        _bench: &Bench,
-        work: &mut Work,
+        _bench: &PlanContext,
+        work: &mut PlanState,
         mask: u8,
     ) -> Result<Option<SetId>, PlanError<PartName>> {
         Ok(claimed_name(self.claim, work, self.ply, mask)?)
@@ -79,7 +79,7 @@ impl MaskSets for ClaimedPly<'_> {
 /// What is claimed at a ply, for each mask. Past the last ply nothing is.
 pub(crate) fn claimed_level(
     claim: &ReducedClaim,
-    work: &mut Work,
+    work: &mut PlanState,
     ply: u8,
 ) -> Result<LevelNames, AllocError>
     requires { AreSigned (claim_in claim.now) }

@@ -10,10 +10,10 @@ ghost use Rattle.claim_check.specs.Ready.{AreSigned, IsStartClaimed, claim_in};
 
 use crate::claimed::claimed_level;
 use crate::reduced::ReducedClaim;
-use crate::rules::{Found, judged, judged_by, rule_at};
+use crate::rules::{FirstFailure, failed_rule, failed_rule_by, rule_at};
 use claim_plan::{Rule, RuleAt};
 use mask_sets::coordinates;
-use mate_plan::{Work, has_first_move, waits};
+use mate_plan::{PlanState, has_first_move, plies_before_turn};
 
 /// The rule of the start.
 fn first_rule(claim: &ReducedClaim) -> RuleAt
@@ -36,7 +36,7 @@ fn is_claimed(claim: &ReducedClaim) -> bool
 }
 
 /// The rule of the start where the winner is to move. Without a move he leads nowhere.
-fn check_moving(claim: &ReducedClaim, work: &mut Work) -> Found
+fn check_moving(claim: &ReducedClaim, work: &mut PlanState) -> FirstFailure
     requires signed { AreSigned (claim_in claim.now) }
     requires turn { claim.now.position.turn ≡ claim.now.winner }
     ensures finds { FindsBy work.old (plan.check_moving (claim_in claim.now) claim.now.moves) result }
@@ -48,7 +48,7 @@ fn check_moving(claim: &ReducedClaim, work: &mut Work) -> Found
         return Ok(Some(rule));
     }
     let level = claimed_level(claim, work, 1)?;
-    judged_by(rule, has_first_move(&bench, work, &level))
+    failed_rule_by(rule, has_first_move(&bench, work, &level))
 }
 
 /// The rule of the start where the loser is to move.
@@ -56,17 +56,17 @@ fn check_waiting(claim: &ReducedClaim) -> Option<RuleAt>
     requires { AreSigned (claim_in claim.now) }
     ensures { (budget : ℕ) → Ends (plan.check_waiting (claim_in claim.now)) budget result }
 {
-    judged(first_rule(claim), is_claimed(claim))
+    failed_rule(first_rule(claim), is_claimed(claim))
 }
 
 /// The rule of the start.
-pub(crate) fn check_first(claim: &ReducedClaim, work: &mut Work) -> Found
+pub(crate) fn check_first(claim: &ReducedClaim, work: &mut PlanState) -> FirstFailure
     requires { AreSigned (claim_in claim.now) }
     ensures finds { FindsBy work.old (check_start_in claim.now) result }
     ensures budget { work.new.memo.budget ≡ work.old.memo.budget }
 {
     let bench = claim.bench();
-    if waits(claim.winner(), bench.position.turn()) == 0 {
+    if plies_before_turn(claim.winner(), bench.position.turn()) == 0 {
         check_moving(claim, work)
     } else {
         Ok(check_waiting(claim))

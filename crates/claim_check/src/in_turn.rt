@@ -7,10 +7,10 @@ ghost use Rattle.mate_plan.specs.Plan.{Program};
 ghost use Rattle.claim_plan.specs.CheckPlan as plan;
 ghost use Rattle.claim_check.specs.Finds.{FindsBy};
 
-use crate::rules::Found;
+use crate::rules::FirstFailure;
 use claim_plan::RuleAt;
-use mate_plan::{PartName, Work};
-use set_plan::{Steps, each};
+use mate_plan::{PartName, PlanState};
+use set_plan::{ProgramFold, each};
 
 /// What checks an item, as a ply or a mask.
 pub(crate) trait Checks {
@@ -24,7 +24,7 @@ pub(crate) trait Checks {
     ghost takes: { Self → ℕ → Type 0 };
 
     /// The first rule that fails at the item, or none.
-    fn check(&self, work: &mut Work, item: u8) -> Found
+    fn check(&self, work: &mut PlanState, item: u8) -> FirstFailure
         requires fits { fits self.now work.old.sets }
         requires item { takes self.now item }
         ensures finds { FindsBy work.old (program self.now work.old.sets item) result }
@@ -39,8 +39,8 @@ struct InTurn<'a, C> {
     checks: &'a C,
 }
 
-impl<C: Checks> Steps for InTurn<'_, C> {
-    type Work = Work;
+impl<C: Checks> ProgramFold for InTurn<'_, C> {
+    type Work = PlanState;
 
     type Item = u8;
 
@@ -64,7 +64,7 @@ impl<C: Checks> Steps for InTurn<'_, C> {
 
     ghost keeps_on = { λ _ _ _ _ first second k a e. second k a (first k a e) };
 
-    fn step(&self, work: &mut Work, item: &u8, found: Option<RuleAt>) -> Found {
+    fn step(&self, work: &mut PlanState, item: &u8, found: Option<RuleAt>) -> FirstFailure {
         if found.is_some() {
             return Ok(found);
         }
@@ -73,7 +73,11 @@ impl<C: Checks> Steps for InTurn<'_, C> {
 }
 
 /// The first rule that fails at one of the items, which are checked in turn, or none.
-pub(crate) fn first_failing<C: Checks>(checks: &C, work: &mut Work, items: &[u8]) -> Found
+pub(crate) fn first_failing<C: Checks>(
+    checks: &C,
+    work: &mut PlanState,
+    items: &[u8],
+) -> FirstFailure
     requires fits { C.fits checks.now work.old.sets }
     requires items { All (C.takes checks.now) items.now }
     ensures finds { FindsBy work.old (plan.for_each items.now (C.program checks.now work.old.sets)) result }

@@ -5,7 +5,7 @@ ghost use Rattle.mate_plan.specs.Claim.{losers_plies as plies_of};
 
 use chess_game::Side;
 use limits::MOST_MOVES;
-use mate_plan::waits;
+use mate_plan::plies_before_turn;
 use std::alloc::{AllocError, Global};
 
 /// Every second ply from a first one on, so many of them.
@@ -49,7 +49,7 @@ pub(crate) fn losers_plies(winner: Side, first: Side, moves: u8) -> Plies
     ensures few { AreFew result }
 {
     Plies {
-        first: waits(winner.other(), first),
-        count: moves + waits(winner, first),
+        first: plies_before_turn(winner.other(), first),
+        count: moves + plies_before_turn(winner, first),
     }
 }

@@ -17,7 +17,7 @@ use auto_core::Auto;
 use auto_reduce::reduce;
 use chess_game::Side;
 use limits::MOST_MOVES;
-use mate_plan::Bench;
+use mate_plan::PlanContext;
 use rule_formula::masks;
 use std::alloc::{AllocError, Global};
 use std::marker::Model;
@@ -65,11 +65,11 @@ impl ReducedClaim {
     }
 
     /// The bench of its position.
-    pub(crate) fn bench(&self) -> Bench<'_>
+    pub(crate) fn bench(&self) -> PlanContext<'_>
         ensures position { result.position.now ≡ self.now.position }
         ensures ready { IsReady self.now }
     {
-        Bench {
+        PlanContext {
             alloc: self.alloc,
             position: &self.claimed.position,
             masks: self.claimed.masks.as_slice(),

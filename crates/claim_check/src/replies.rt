@@ -12,10 +12,11 @@ ghost use Rattle.claim_check.specs.Replies.{AreReplies};
 use crate::claimed::claimed_level;
 use crate::in_turn::{Checks, first_failing};
 use crate::reduced::ReducedClaim;
-use crate::rules::{Found, judged_by, rule_at};
+use crate::rules::{FirstFailure, failed_rule_by, rule_at};
 use claim_plan::Rule;
 use mate_plan::{
-    LevelNames, MovesInto, PartName, Reaching, Stage, Work, are_answered, have_replies, reach_level,
+    LevelNames, MovesInto, PartName, PlanState, ReachedLevel, Stage, are_answered, have_replies,
+    reach_level,
 };
 use set_plan::PlanError;
 
@@ -34,7 +35,7 @@ struct Replies {
 /// The replies at a ply, which has a next one.
 fn replies_at(
     claim: &ReducedClaim,
-    work: &mut Work,
+    work: &mut PlanState,
     ply: u8,
 ) -> Result<Replies, PlanError<PartName>>
     requires signed { AreSigned (claim_in claim.now) }
@@ -45,7 +46,7 @@ fn replies_at(
 {
     let bench = claim.bench();
     let here = claimed_level(claim, work, ply)?;
-    let from = Reaching {
+    let from = ReachedLevel {
         side: claim.winner().other(),
         ply: ply + 1,
         level: &here,
@@ -61,7 +62,12 @@ fn replies_at(
 }
 
 /// Whether each position with the mask that is reached has an answer.
-fn check_left(claim: &ReducedClaim, work: &mut Work, replies: &Replies, mask: u8) -> Found
+fn check_left(
+    claim: &ReducedClaim,
+    work: &mut PlanState,
+    replies: &Replies,
+    mask: u8,
+) -> FirstFailure
     requires { AreReplies claim.now replies.now.ply work.old.sets replies.now }
     ensures finds { FindsBy work.old (check_left_in claim.now work.old.sets replies.now mask) result }
     ensures later { IsLater work.old work.new }
@@ -77,14 +83,19 @@ fn check_left(claim: &ReducedClaim, work: &mut Work, replies: &Replies, mask: u8
         from: &replies.reached,
         into: &replies.later,
     };
-    judged_by(
+    failed_rule_by(
         rule_at(ply, mask, Rule::Left),
         are_answered(&bench, work, &moves),
     )
 }
 
 /// Whether the loser is in check or has a reply in each claimed position with the mask.
-fn check_stale(claim: &ReducedClaim, work: &mut Work, replies: &Replies, mask: u8) -> Found
+fn check_stale(
+    claim: &ReducedClaim,
+    work: &mut PlanState,
+    replies: &Replies,
+    mask: u8,
+) -> FirstFailure
     requires mask { IsGameMask claim.now.position mask }
     requires replies { AreReplies claim.now replies.now.ply work.old.sets replies.now }
     ensures finds { FindsBy work.old (check_stale_in claim.now work.old.sets replies.now mask) result }
@@ -100,7 +111,7 @@ fn check_stale(claim: &ReducedClaim, work: &mut Work, replies: &Replies, mask: u
         from: &replies.claimed,
         into: &replies.reached,
     };
-    judged_by(
+    failed_rule_by(
         rule_at(replies.ply, mask, Rule::Stale),
         have_replies(&bench, work, &moves),
     )
@@ -120,7 +131,7 @@ impl Checks for AnswersByMask<'_> {
 
     ghost takes = { λ s mask. IsGameMask s.claim.now.position mask };
 
-    fn check(&self, work: &mut Work, mask: u8) -> Found {
+    fn check(&self, work: &mut PlanState, mask: u8) -> FirstFailure {
         check_left(self.claim, work, self.replies, mask)
     }
 }
@@ -139,13 +150,13 @@ impl Checks for StalematesByMask<'_> {
 
     ghost takes = { λ s mask. IsGameMask s.claim.now.position mask };
 
-    fn check(&self, work: &mut Work, mask: u8) -> Found {
+    fn check(&self, work: &mut PlanState, mask: u8) -> FirstFailure {
         check_stale(self.claim, work, self.replies, mask)
     }
 }
 
 /// Whether each position that is reached has an answer, mask by mask.
-fn check_all_left(claim: &ReducedClaim, work: &mut Work, replies: &Replies) -> Found
+fn check_all_left(claim: &ReducedClaim, work: &mut PlanState, replies: &Replies) -> FirstFailure
     requires { AreReplies claim.now replies.now.ply work.old.sets replies.now }
     ensures finds { FindsBy work.old (check_all_left_in claim.now work.old.sets replies.now) result }
     ensures later { IsLater work.old work.new }
@@ -155,7 +166,7 @@ fn check_all_left(claim: &ReducedClaim, work: &mut Work, replies: &Replies) -> F
 }
 
 /// Whether the loser is in check or has a reply in each claimed position, mask by mask.
-fn check_all_stale(claim: &ReducedClaim, work: &mut Work, replies: &Replies) -> Found
+fn check_all_stale(claim: &ReducedClaim, work: &mut PlanState, replies: &Replies) -> FirstFailure
     requires { AreReplies claim.now replies.now.ply work.old.sets replies.now }
     ensures finds { FindsBy work.old (check_all_stale_in claim.now work.old.sets replies.now) result }
     ensures later { IsLater work.old work.new }
@@ -165,7 +176,7 @@ fn check_all_stale(claim: &ReducedClaim, work: &mut Work, replies: &Replies) -> 
 }
 
 /// The rules of the replies at a ply. Its sets are let go after it.
-fn check_ply(claim: &ReducedClaim, work: &mut Work, ply: u8) -> Found
+fn check_ply(claim: &ReducedClaim, work: &mut PlanState, ply: u8) -> FirstFailure
     requires signed { AreSigned (claim_in claim.now) }
     requires ply { ply ≤ 41 }
     ensures finds { FindsBy work.old (plan.check_ply (claim_in claim.now) ply) result }
@@ -195,13 +206,17 @@ impl Checks for RepliesByPly<'_> {
 
     ghost takes = { λ _ ply. ply ≤ 41 };
 
-    fn check(&self, work: &mut Work, ply: u8) -> Found {
+    fn check(&self, work: &mut PlanState, ply: u8) -> FirstFailure {
         check_ply(self.claim, work, ply)
     }
 }
 
 /// The rules of the replies at all plies of the loser.
-pub(crate) fn check_replies(claim: &ReducedClaim, work: &mut Work, plies: &[u8]) -> Found
+pub(crate) fn check_replies(
+    claim: &ReducedClaim,
+    work: &mut PlanState,
+    plies: &[u8],
+) -> FirstFailure
     requires signed { AreSigned (claim_in claim.now) }
     requires low { All (λ ply. ply ≤ 41) plies.now }
     ensures finds { FindsBy work.old (plan.for_each plies.now (plan.check_ply (claim_in claim.now))) result }

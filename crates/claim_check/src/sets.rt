@@ -14,24 +14,24 @@ ghost use Rattle.claim_check.specs.Ready.{AreThere, claim_in};
 use crate::claimed::lone_level;
 use crate::in_turn::{Checks, first_failing};
 use crate::reduced::ReducedClaim;
-use crate::rules::{Found, judged, judged_by, rule_at};
+use crate::rules::{FirstFailure, failed_rule, failed_rule_by, rule_at};
 use auto_core::Auto;
 use auto_reduce::sign_stable;
 use claim_plan::Rule;
-use mate_plan::{Stage, StageLevel, Work, are_apart, are_safe};
+use mate_plan::{PlanState, Stage, StageLevel, are_on_distinct_squares, are_safe};
 use std::alloc::Global;
 
 /// Whether a claimed set is one of tuples of integers.
-fn check_sign(alloc: Global, ply: u8, mask: u8, set: &Auto) -> Found
+fn check_sign(alloc: Global, ply: u8, mask: u8, set: &Auto) -> FirstFailure
     ensures finds { (budget : ℕ) → Finds (plan.check_sign ply mask (Some set.now)) budget result }
     ensures signed { result ≡ Ok None → DecidesIntegers set.now }
 {
     let stable = sign_stable(alloc, set)?;
-    Ok(judged(rule_at(ply, mask, Rule::Sign), stable))
+    Ok(failed_rule(rule_at(ply, mask, Rule::Sign), stable))
 }
 
 /// Whether the live men stand apart in the set of the stage.
-fn check_same(claim: &ReducedClaim, work: &mut Work, at: &StageLevel) -> Found
+fn check_same(claim: &ReducedClaim, work: &mut PlanState, at: &StageLevel) -> FirstFailure
     requires mask { IsGameMask claim.now.position at.now.stage.mask }
     requires level { AreNamesIn claim.now.position work.old.sets at.now.level.now }
     ensures finds { FindsBy work.old (check_same_in claim.now work.old.sets at.now) result }
@@ -40,11 +40,11 @@ fn check_same(claim: &ReducedClaim, work: &mut Work, at: &StageLevel) -> Found
 {
     let bench = claim.bench();
     let rule = rule_at(at.stage.ply, at.stage.mask, Rule::Same);
-    judged_by(rule, are_apart(&bench, work, at))
+    failed_rule_by(rule, are_on_distinct_squares(&bench, work, at))
 }
 
 /// Whether no man of the side of the stage bears on the other king in its set.
-fn check_guard(claim: &ReducedClaim, work: &mut Work, at: &StageLevel) -> Found
+fn check_guard(claim: &ReducedClaim, work: &mut PlanState, at: &StageLevel) -> FirstFailure
     requires mask { IsGameMask claim.now.position at.now.stage.mask }
     requires level { AreNamesIn claim.now.position work.old.sets at.now.level.now }
     ensures finds { FindsBy work.old (check_guard_in claim.now work.old.sets at.now) result }
@@ -53,12 +53,12 @@ fn check_guard(claim: &ReducedClaim, work: &mut Work, at: &StageLevel) -> Found
 {
     let bench = claim.bench();
     let rule = rule_at(at.stage.ply, at.stage.mask, Rule::Guard);
-    judged_by(rule, are_safe(&bench, work, at))
+    failed_rule_by(rule, are_safe(&bench, work, at))
 }
 
 /// The rules of the set that is claimed at a ply for a mask. It is named only after its rule of signs is kept, since a
 /// named set is one of tuples of integers.
-fn check_set(claim: &ReducedClaim, work: &mut Work, ply: u8, mask: u8) -> Found
+fn check_set(claim: &ReducedClaim, work: &mut PlanState, ply: u8, mask: u8) -> FirstFailure
     requires { IsSome (claimed_at (claim_in claim.now) ply mask) }
     ensures finds { FindsBy work.old (plan.check_set (claim_in claim.now) ply mask) result }
     ensures later { IsLater work.old work.new }
@@ -105,13 +105,13 @@ impl Checks for SetsByMask<'_> {
 
     ghost takes = { λ s mask. IsSome (claimed_at (claim_in s.claim.now) s.ply mask) };
 
-    fn check(&self, work: &mut Work, mask: u8) -> Found {
+    fn check(&self, work: &mut PlanState, mask: u8) -> FirstFailure {
         check_set(self.claim, work, self.ply, mask)
     }
 }
 
 /// The rules of the sets of a ply.
-fn check_sets_at(claim: &ReducedClaim, work: &mut Work, ply: u8) -> Found
+fn check_sets_at(claim: &ReducedClaim, work: &mut PlanState, ply: u8) -> FirstFailure
     requires { AreThere (claim_in claim.now) ply }
     ensures finds { FindsBy work.old (plan.check_sets (claim_in claim.now) ply) result }
     ensures later { IsLater work.old work.new }
@@ -133,13 +133,13 @@ impl Checks for SetsByPly<'_> {
 
     ghost takes = { λ s ply. AreThere (claim_in s.claim.now) ply };
 
-    fn check(&self, work: &mut Work, ply: u8) -> Found {
+    fn check(&self, work: &mut PlanState, ply: u8) -> FirstFailure {
         check_sets_at(self.claim, work, ply)
     }
 }
 
 /// The rules of the sets of all plies of the loser.
-pub(crate) fn check_sets(claim: &ReducedClaim, work: &mut Work, plies: &[u8]) -> Found
+pub(crate) fn check_sets(claim: &ReducedClaim, work: &mut PlanState, plies: &[u8]) -> FirstFailure
     requires { plies.now ≡ losers_plies claim.now.winner claim.now.position.turn claim.now.moves }
     ensures finds { FindsBy work.old (plan.for_each plies.now (plan.check_sets (claim_in claim.now))) result }
     ensures budget { work.new.memo.budget ≡ work.old.memo.budget }

@@ -9,22 +9,22 @@ use Rattle.mask_sets.specs.Stock.{mask_of}
 use Rattle.mask_sets.specs.Tuple.{tuple_of}
 use Rattle.set_plan.specs.Program.{IsYes, Item, Question, Ask, Give, Empty, Has, Stable, Within, bind}
 use Rattle.set_plan.specs.Same.{SameSets}
-use Rattle.set_plan.specs.Unite.{are_empty, is_within, make, remainder, without}
+use Rattle.set_plan.specs.Unite.{are_empty, is_within, make, difference_set, without}
 use Rattle.set_plan.proofs.Alike.{Alike, SameQuestion}
 use Rattle.set_plan.proofs.Combined.{Empty-alike, SameItems, SameMade, bind-alike, make-alike, without-alike}
 use Rattle.set_plan.proofs.Folds.{each-alike}
 use Rattle.set_plan.proofs.SameSets.{SameItem-sets}
 use Rattle.mate_plan.specs.Plan.{Level, Program, Rules, bear_items, difference, name, point_level, pre_items, reach_level, union}
 use Rattle.mate_plan.specs.PlanOf.{rules_of}
-use Rattle.mate_plan.specs.Questions.{are_answered, are_apart, are_safe, has_first_move, have_moves, have_replies, quiet_set}
+use Rattle.mate_plan.specs.Questions.{are_answered, are_on_distinct_squares, are_safe, has_first_move, have_moves, have_replies, quiet_set}
 use Rattle.mate_plan.specs.Twins.{twin_item, twin_items, twins_of}
 use Rattle.mate_plan.specs.declared.names.Part.{Part}
 use Rattle.mate_plan.specs.declared.names.Part.TheVariants as kind
 use Rattle.mate_plan.specs.Once.{SameLevels}
-use Rattle.mate_plan.specs.Turns.{waits}
+use Rattle.mate_plan.specs.Turns.{plies_before_turn}
 use Rattle.mate_plan.proofs.PlanOnce.{bear-same, difference-alike, map-items, point_level-alike, pre-same, reach_level-alike, union-alike}
 use Rattle.mate_plan.specs.Claim.{Claim, ClaimedSet, claimed_at, claimed_in, claimed_level, losers_plies}
-use Rattle.claim_plan.specs.CheckPlan.{Finding, and_then, check_first, check_left, check_move, check_moving, check_plan, check_ply, check_replies, check_set, check_sets, check_sign, check_stale, check_waiting, for_each, go_on, holds_by, judged, rule_at}
+use Rattle.claim_plan.specs.CheckPlan.{Finding, and_then, check_first, check_left, check_move, check_moving, check_plan, check_ply, check_replies, check_set, check_sets, check_sign, check_stale, check_waiting, for_each, go_on, holds_by, failed_rule, rule_at}
 use Rattle.claim_plan.specs.SameClaims.{AreSameSets}
 use Rattle.claim_plan.specs.declared.names.RuleAt.{RuleAt}
 use Rattle.claim_plan.specs.declared.names.Rule.TheVariants as rule
@@ -65,13 +65,13 @@ module _ {P : Type 0} where
 
   is_within-alike : (tracks : List Var) (part : P) (s t u v : SetOf) → SameSets s t → SameSets u v → Alike Same (is_within tracks part s u) (is_within tracks part t v)
   is_within-alike tracks part s t u v first second =
-      bind-alike SameSets Same (remainder tracks part s u) (remainder tracks part t v) (λ rest. Ask (Within s u) (Give true) (Give false)) (λ rest. Ask (Within t v) (Give true) (Give false))
+      bind-alike SameSets Same (difference_set tracks part s u) (difference_set tracks part t v) (λ rest. Ask (Within s u) (Give true) (Give false)) (λ rest. Ask (Within t v) (Give true) (Give false))
       (bind-alike SameMade SameSets (without tracks part s u) (without tracks part t v) (λ made. Give made.0) (λ made. Give made.0)
       (without-alike tracks part s t u v first second) (λ a b made. made.sets))
       (λ a b rest. (Within-alike s t u v first second, refl, refl))
 
 holds_by-alike : (r : RuleAt) (m n : Program Bool) → Alike Same m n → Alike Same (holds_by r m) (holds_by r n)
-holds_by-alike r m n same = bind-alike Same Same m n (λ holds. Give (judged r holds)) (λ holds. Give (judged r holds)) same (λ a b e. ap (judged r) e)
+holds_by-alike r m n same = bind-alike Same Same m n (λ holds. Give (failed_rule r holds)) (λ holds. Give (failed_rule r holds)) same (λ a b e. ap (failed_rule r) e)
 
 asked-alike : (r : RuleAt) {q k : Question} → SameQuestion q k → Alike Same (holds_by r (Ask q (Give true) (Give false))) (holds_by r (Ask k (Give true) (Give false)))
 asked-alike r {q} {k} same = holds_by-alike r (Ask q (Give true) (Give false)) (Ask k (Give true) (Give false)) (same, refl, refl)
@@ -95,7 +95,7 @@ sign-alike ply mask None (Some b) same = absurd same
 sign-alike ply mask (Some a) None same = absurd same
 sign-alike ply mask (Some a) (Some b) same = asked-alike (rule_at ply mask rule.Sign) (Stable-alike a b (decides-same same))
 
-apart-alike : (p : Position) (ply mask : ℕ) (s t : SetOf) → SameSets s t → Alike Same (are_apart p ply mask s) (are_apart p ply mask t)
+apart-alike : (p : Position) (ply mask : ℕ) (s t : SetOf) → SameSets s t → Alike Same (are_on_distinct_squares p ply mask s) (are_on_distinct_squares p ply mask t)
 apart-alike p ply mask s t sets =
     are_empty-alike (name ply mask kind.Same) (twin_items p mask s) (twin_items p mask t) 1 1 refl
     (map-items (twin_item s) (twin_item t) (λ f. SameItem-sets f (λ _. s) (λ _. t) (λ k. sets)) (twins_of p mask 0))
@@ -184,7 +184,7 @@ module _ (p : Position) (w : Side) (n : ℕ) (xs ys : List ClaimedSet) (same : (
   set-alike ply mask =
       let members = levels-same ply mask in
       let at = λ (x : Claim). claimed_level x ply mask in
-      let twins = λ (x : Claim). are_apart p ply mask (at x) in
+      let twins = λ (x : Claim). are_on_distinct_squares p ply mask (at x) in
       let bears = λ (x : Claim). are_safe rules (other w) ply mask (at x) in
       let sign = λ (x : Claim). check_sign ply mask (claimed_at x ply mask) in
       let apart = λ (x : Claim). holds_by (rule_at ply mask rule.Same) (twins x) in
@@ -216,10 +216,10 @@ module _ (p : Position) (w : Side) (n : ℕ) (xs ys : List ClaimedSet) (same : (
   check_plan-alike =
       let plies = losers_plies w p.turn n in
       let sets = λ (x : Claim). for_each plies (check_sets x) in
-      let first = λ (x : Claim). check_first x (waits w p.turn) in
+      let first = λ (x : Claim). check_first x (plies_before_turn w p.turn) in
       let replies = λ (x : Claim). for_each plies (check_ply x) in
       and_then-alike (sets c) (sets d) (and_then (first c) (replies c)) (and_then (first d) (replies d))
       (for_each-alike (check_sets c) (check_sets d) plies sets-alike)
-      (and_then-alike (first c) (first d) (replies c) (replies d) (first-alike (waits w p.turn))
+      (and_then-alike (first c) (first d) (replies c) (replies d) (first-alike (plies_before_turn w p.turn))
       (for_each-alike (check_ply c) (check_ply d) plies
       (λ ply. replies-alike rules (other w) ply (claimed_level c ply) (claimed_level d ply) (claimed_level c (ply + 2)) (claimed_level d (ply + 2)) (levels-same ply) (levels-same (ply + 2)))))

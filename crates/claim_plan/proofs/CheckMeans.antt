@@ -9,7 +9,7 @@ use Rattle.rule_formula.specs.Mean.{RulesMean}
 use Rattle.rule_formula.specs.Trees.{point_of}
 use Rattle.winning_sets.proofs.KeptSets.{game_mask, in_masks}
 use Rattle.mate_plan.specs.Claim.{Claim, IsClaim, IsClaimed, IsLosersPly, losers_plies}
-use Rattle.mate_plan.specs.Turns.{waits}
+use Rattle.mate_plan.specs.Turns.{plies_before_turn}
 use Rattle.claim_plan.specs.CheckPlan.{Finding, and_then, check_first, check_plan, check_ply, check_set, check_sets, for_each, rule_at}
 use Rattle.claim_plan.specs.Checked.{IsFirstFailing, RuleHolds, KeepsRule, reply_rules, rules_in_order, set_rules}
 use Rattle.mate_plan.specs.Won.{LeadsInto, Won}
@@ -120,7 +120,7 @@ module _ (c : Claim) (is : IsClaim c) (mean : RulesMean c.position) where
     pub plan-checks : Checks (KeepsRule c) (rules_in_order c) (check_plan c)
     plan-checks =
         let later = flat_map (reply_rules c) plies in
-        let first = check_first c (waits c.winner c.position.turn) in
+        let first = check_first c (plies_before_turn c.winner c.position.turn) in
         let replies = for_each plies (check_ply c) in
         and_then-checks (KeepsRule c) sets (start ∷ later) (for_each plies (check_sets c)) (and_then first replies)
         (for_each-checks (KeepsRule c) (set_rules c) (check_sets c) plies (λ ply i. sets-checks ply))

@@ -26,7 +26,7 @@ use Rattle.mate_plan.specs.Claim.{Claim, IsClaim, IsClaimed, claimed_level}
 use Rattle.claim_plan.specs.CheckPlan.{Finding, check_first, check_moving, check_waiting, holds_if, rule_at}
 use Rattle.claim_plan.specs.Checked.{RuleHolds, KeepsRule}
 use Rattle.mate_plan.specs.Won.{IsBegun}
-use Rattle.mate_plan.specs.Turns.{waits}
+use Rattle.mate_plan.specs.Turns.{plies_before_turn}
 use Rattle.mate_plan.proofs.TurnLemmas.{moves_first, moves_later}
 use Rattle.claim_plan.specs.declared.names.RuleAt.{RuleAt}
 use Rattle.claim_plan.specs.declared.names.Rule.TheVariants as rule
@@ -146,9 +146,9 @@ module _ (c : Claim) (is : IsClaim c) (mean : RulesMean c.position) (some_point 
       (λ h. inr (turn, stands.0 h), λ h. elim h [ inl (his, (q, moves, is_in)) ↦ absurd (not_moved turn is_in) | inr (his, is_in) ↦ stands.1 is_in ])
       (has-told (claimed_level c 0 (mask_of p)) xs found t)
 
-  first_at : (plies : ℕ) → waits c.winner c.position.turn ≡ plies → Checks (KeepsRule c) (rule_at 0 (mask_of c.position) rule.First ∷ []) (check_first c plies)
+  first_at : (plies : ℕ) → plies_before_turn c.winner c.position.turn ≡ plies → Checks (KeepsRule c) (rule_at 0 (mask_of c.position) rule.First ∷ []) (check_first c plies)
   first_at zero none = moves-checks c.moves refl (moves_first c.winner c.position.turn none)
   first_at (suc plies) some = starting-checks (moves_later c.winner c.position.turn plies some)
 
-  pub first-checks : Checks (KeepsRule c) (rule_at 0 (mask_of c.position) rule.First ∷ []) (check_first c (waits c.winner c.position.turn))
-  first-checks = first_at (waits c.winner c.position.turn) refl
+  pub first-checks : Checks (KeepsRule c) (rule_at 0 (mask_of c.position) rule.First ∷ []) (check_first c (plies_before_turn c.winner c.position.turn))
+  first-checks = first_at (plies_before_turn c.winner c.position.turn) refl

@@ -6,7 +6,7 @@ use Rattle.game_rules.specs.declared.men.Side.{Side}
 use Rattle.mate_plan.specs.PlanOf.{last_ply}
 use Rattle.set_plan.proofs.Takings.{contains_head, contains_rest}
 use Rattle.mate_plan.specs.Claim.{IsLosersPly, every_second, losers_plies}
-use Rattle.mate_plan.specs.Turns.{waits}
+use Rattle.mate_plan.specs.Turns.{plies_before_turn}
 use Rattle.mate_plan.proofs.TurnLemmas.{waits_sum}
 
 every_second-has : (start count k : ℕ) → k < count → Contains (every_second start count) (start + 2 * k)
@@ -21,8 +21,8 @@ every_second-has start (suc count) (suc k) h =
 
 plies_at : (winner s : Side) (moves ply left : ℕ) → ply + (2 * left + 1) ≡ last_ply winner s moves → Contains (losers_plies winner s moves) ply
 plies_at winner s moves ply left e =
-    let first = waits (other winner) s in
-    let count = moves + waits winner s in
+    let first = plies_before_turn (other winner) s in
+    let count = moves + plies_before_turn winner s in
     let one = waits_sum winner s in
     let at : first + 2 * (count - left - 1) ≡ ply = omega (arith, e, one) in
     subst (λ j. Contains (every_second first count) j) at (every_second-has first count (count - left - 1) (omega (arith, e, one)))

@@ -20,7 +20,7 @@ use Rattle.mate_plan.specs.Questions.{are_answered, have_moves, have_replies, qu
 use Rattle.mate_plan.specs.declared.names.Part.TheVariants as kind
 use Rattle.winning_sets.proofs.KeptParts.{Checked, Image, Moves-safe, Pre, Safe, StepsTo-moves, Without, safe-moves}
 use Rattle.winning_sets.proofs.KeptSets.{Entries, Stands, check-stands, difference-stands, for_masks-level, game_mask, in_masks, pre-stands, reach_set-stands, reach_set_fitting}
-use Rattle.set_plan.proofs.Takings.{Takes-give, remainder-members}
+use Rattle.set_plan.proofs.Takings.{Takes-give, difference_set-members}
 use Rattle.mate_plan.specs.Claim.{Claim, IsClaim, IsClaimed, claimed_level}
 use Rattle.claim_plan.specs.CheckPlan.{and_then, check_left, check_replies, check_stale, for_each, rule_at}
 use Rattle.claim_plan.specs.Checked.{RuleHolds, KeepsRule, reply_rules}
@@ -206,7 +206,7 @@ module _ (c : Claim) (is : IsClaim c) (mean : RulesMean c.position) (apart : (pl
                   inr (i, z, pre.next, legal)
             ],
         λ says tuple h.
-            let of_both = remainder-members (mask_tracks p m) (name ply m kind.Quiet) (mean.game.tracks m 0 1) (claimed_level c ply m) check bs quiet (claimed_over c is mean ply m) quiets tuple in
+            let of_both = difference_set-members (mask_tracks p m) (name ply m kind.Quiet) (mean.game.tracks m 0 1) (claimed_level c ply m) check bs quiet (claimed_over c is mean ply m) quiets tuple in
             let known = claimed_positions c is ply m tuple (of_both.0 h).0 in
             let q = known.position in
             let claimed = known.is_in in

@@ -6,7 +6,7 @@ use Rattle.game_rules.specs.declared.men.Side.{Side}
 use Rattle.mask_sets.specs.Stock.{mask_of}
 use Rattle.mask_sets.specs.Tuple.{tuple_of}
 use Rattle.set_plan.specs.Outcome.{Ends, Stops}
-use Rattle.set_plan.specs.declared.stop.StepName.{StepName}
+use Rattle.set_plan.specs.declared.stop.PartStep.{PartStep}
 use Rattle.set_plan.proofs.Alike.{Ends-alike, Stops-alike}
 use Rattle.set_plan.proofs.Composition.{none_some}
 use Rattle.set_plan.proofs.Unique.{Ends-not_stops, Ends-one, Stops-one}
@@ -67,7 +67,7 @@ module _ (p : Position) (w : Side) (n : ℕ) (xs ys : List ClaimedSet) (same : (
       let (other_one, ends, is) = Ends-alike Same (check_plan d) (check_plan-alike p w n xs ys same) h in
       subst (λ (o : Finding). Ends (check_plan d) budget o) (sym is) ends
 
-  pub stop_along : (budget : ℕ) (x : StepName PartName) → Stops (check_plan (record { position = p; winner = w; moves = n; sets = xs })) budget x
+  pub stop_along : (budget : ℕ) (x : PartStep PartName) → Stops (check_plan (record { position = p; winner = w; moves = n; sets = xs })) budget x
       → Stops (check_plan (record { position = p; winner = w; moves = n; sets = ys })) budget x
   stop_along budget x h = Stops-alike Same (check_plan d) (check_plan-alike p w n xs ys same) h
 

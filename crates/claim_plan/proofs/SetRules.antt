@@ -35,7 +35,7 @@ use Rattle.set_plan.proofs.Takings.{AnyItem, IsOf, IsOver, Takes-give, any-map, 
 use Rattle.winning_sets.proofs.KeptWithin.{bear_within}
 use Rattle.mate_plan.specs.Claim.{Claim, IsClaim, IsClaimed, claimed_at, claimed_level}
 use Rattle.claim_plan.specs.CheckPlan.{and_then, check_set, check_sign, holds_by, rule_at}
-use Rattle.rule_formula.specs.declared.opt.Pair.{Pair}
+use Rattle.rule_formula.specs.declared.opt.ManPair.{ManPair}
 use Rattle.rule_formula.specs.Pairs.{pairs_of}
 use Rattle.mate_plan.specs.Twins.{twin_item, twins_of}
 use Rattle.claim_plan.specs.Checked.{IsClaimedWith, KeepsRule, RuleHolds}
@@ -91,14 +91,14 @@ module _ (c : Claim) (is : IsClaim c) (mean : RulesMean c.position) where
 
 module _ (c : Claim) (is : IsClaim c) (mean : RulesMean c.position) where
   -- same
-  abbrev tree_at : ℕ → Pair → Tree
+  abbrev tree_at : ℕ → ManPair → Tree
   tree_at m w = twins_tree 8 m w.first w.second 0
 
   any_twins : {ply m : ℕ} (game : IsGameMask c.position m) (i j : ℕ) (a b : Man) (z : Square) {q : Position} → IsClaimed c ply q → mask_of q ≡ m
       → i < j → man_at q i ≡ Some a → man_at q j ≡ Some b → StandsOn a z → StandsOn b z
       → AnyItem (map (twin_item (claimed_level c ply m)) (twins_of c.position m 0)) (tuple_of q)
   any_twins {ply} {m} game i j a b z {q} h e less is_a is_b on_a on_b =
-      let w : Pair = record { first = i; second = j } in
+      let w : ManPair = record { first = i; second = j } in
       let (low_i, high_i) = numbered_low q i a is_a in
       let (low_j, high_j) = numbered_low q j b is_b in
       let count = h.stock.count in

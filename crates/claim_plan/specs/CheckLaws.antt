@@ -2,7 +2,7 @@
 use Rattle.std.specs.Prelude.{◌≡◌, ◌↔◌, ℕ, List, Some, None}
 use Rattle.set_plan.specs.Outcome.{Ends, Stops}
 use Rattle.set_plan.specs.Program.{Entry, Takes}
-use Rattle.set_plan.specs.declared.stop.StepName.{StepName}
+use Rattle.set_plan.specs.declared.stop.PartStep.{PartStep}
 use Rattle.mate_plan.specs.Claim.{Claim, IsClaim}
 use Rattle.mate_plan.specs.Won.{Won}
 use Rattle.mate_plan.specs.declared.names.PartName.{PartName}
@@ -31,8 +31,8 @@ NoneFailsWhereWon = (c : Claim) (found : Finding) → IsClaim c → FindsFirst c
 -- within a budget the plan of a claim comes to one end, or stops at one step
 pub record EndsOnce (c : Claim) (budget : ℕ) : Type 0 where
   pub one_end : (a b : Finding) → Ends (check_plan c) budget a → Ends (check_plan c) budget b → a ≡ b
-  pub one_step : (x y : StepName PartName) → Stops (check_plan c) budget x → Stops (check_plan c) budget y → x ≡ y
-  pub not_both : (a : Finding) (x : StepName PartName) → Ends (check_plan c) budget a → Stops (check_plan c) budget x
+  pub one_step : (x y : PartStep PartName) → Stops (check_plan c) budget x → Stops (check_plan c) budget y → x ≡ y
+  pub not_both : (a : Finding) (x : PartStep PartName) → Ends (check_plan c) budget a → Stops (check_plan c) budget x
       → ⊥
 
 abbrev pub CheckEndsOnce : Type 0

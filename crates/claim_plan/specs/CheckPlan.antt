@@ -9,9 +9,9 @@ use Rattle.mask_sets.specs.Tuple.{tuple_of}
 use Rattle.set_plan.specs.Program.{Question, Give, Ask, Stable, Has, bind, each, ◌>>=◌}
 use Rattle.mate_plan.specs.Plan.{Level, Program, Rules, reach_level}
 use Rattle.mate_plan.specs.PlanOf.{rules_of}
-use Rattle.mate_plan.specs.Questions.{are_answered, are_apart, are_safe, has_first_move, have_replies}
+use Rattle.mate_plan.specs.Questions.{are_answered, are_on_distinct_squares, are_safe, has_first_move, have_replies}
 use Rattle.mate_plan.specs.Claim.{Claim, claimed_at, claimed_level, losers_plies}
-use Rattle.mate_plan.specs.Turns.{waits}
+use Rattle.mate_plan.specs.Turns.{plies_before_turn}
 use Rattle.claim_plan.specs.declared.names.Rule.{Rule}
 use Rattle.claim_plan.specs.declared.names.Rule.TheVariants as rule
 use Rattle.claim_plan.specs.declared.names.RuleAt.{RuleAt}
@@ -36,13 +36,13 @@ abbrev pub for_each : {X : Type 0} → List X → (X → Program Finding) → Pr
 for_each xs f = each xs (λ x. go_on (f x)) None
 
 -- nothing is found where the rule holds
-abbrev pub judged : RuleAt → Bool → Finding
-judged r true = None
-judged r false = Some r
+abbrev pub failed_rule : RuleAt → Bool → Finding
+failed_rule r true = None
+failed_rule r false = Some r
 
 -- the rule holds where the program gives true
 abbrev pub holds_by : RuleAt → Program Bool → Program Finding
-holds_by r program = bind program (λ holds. Give (judged r holds))
+holds_by r program = bind program (λ holds. Give (failed_rule r holds))
 
 -- the rule holds where the answer is yes
 abbrev pub holds_if : RuleAt → Question → Program Finding
@@ -97,7 +97,7 @@ module _ (c : Claim) where
 
   -- no two live men stand on one square in a claimed set
   abbrev pub check_same : ℕ → ℕ → Program Finding
-  check_same ply mask = holds_by (rule_at ply mask rule.Same) (are_apart c.position ply mask (claimed_level c ply mask))
+  check_same ply mask = holds_by (rule_at ply mask rule.Same) (are_on_distinct_squares c.position ply mask (claimed_level c ply mask))
 
   -- what each claimed set has to keep by itself
   abbrev pub check_set : ℕ → ℕ → Program Finding
@@ -129,4 +129,4 @@ module _ (c : Claim) where
   abbrev pub check_plan : Program Finding
   check_plan =
       and_then (for_each plies check_sets)
-      (and_then (check_first (waits c.winner c.position.turn)) (for_each plies check_ply))
+      (and_then (check_first (plies_before_turn c.winner c.position.turn)) (for_each plies check_ply))

@@ -4,7 +4,7 @@ use Rattle.auto_core.specs.Automaton.{Automaton}
 use Rattle.auto_reduce.specs.Tables.{AcceptSameWords}
 use Rattle.game_rules.specs.Game.{Position}
 use Rattle.set_plan.specs.Outcome.{Ends, Stops}
-use Rattle.set_plan.specs.declared.stop.StepName.{StepName}
+use Rattle.set_plan.specs.declared.stop.PartStep.{PartStep}
 use Rattle.mate_plan.specs.Claim.{Claim, IsClaim, IsClaimed, claimed_at}
 use Rattle.mate_plan.specs.Won.{Won}
 use Rattle.mate_plan.specs.declared.names.PartName.{PartName}
@@ -36,7 +36,7 @@ pub record AreCheckedAlike (c d : Claim) : Type 0 where
   pub claims : IsClaim c ↔ IsClaim d
   pub won : Won c ↔ Won d
   pub ends : (budget : ℕ) (found : Finding) → Ends (check_plan c) budget found ↔ Ends (check_plan d) budget found
-  pub stops : (budget : ℕ) (x : StepName PartName) → Stops (check_plan c) budget x ↔ Stops (check_plan d) budget x
+  pub stops : (budget : ℕ) (x : PartStep PartName) → Stops (check_plan c) budget x ↔ Stops (check_plan d) budget x
 
 abbrev pub SameClaimsAreCheckedAlike : Type 0
 SameClaimsAreCheckedAlike = (c d : Claim) → IsSameClaim c d → AreCheckedAlike c d

@@ -4,7 +4,7 @@ ghost use Rattle.desk_base.specs.Reading.{GoesOn, KeepsLine, Reading, StaysStopp
 
 use crate::buffer::{Buffer, LineBytes};
 use crate::line::{Line, LineError};
-use crate::scan::{Found, find_line};
+use crate::scan::{ScannedLine, find_line};
 use crate::source::Source;
 use std::marker::Model;
 
@@ -85,13 +85,13 @@ fn read_line<S: Source>(
     let mut scanned = 0;
     loop {
         match find_line(held.as_slice(), scanned) {
-            Found::Whole(len) => {
+            ScannedLine::Whole(len) => {
                 line.set(&held.as_slice()[..len]);
                 held.advance(len + 1);
                 return Ok(Line::Full(len));
             }
-            Found::Long => return Err(LineError::TooLong),
-            Found::Part => {
+            ScannedLine::Long => return Err(LineError::TooLong),
+            ScannedLine::Part => {
                 scanned = held.as_slice().len();
                 match held.fill(source) {
                     Err(_) => return Err(LineError::Read),

@@ -9,7 +9,7 @@ const LF: u8 = b'\n';
 
 /// What stands in front of some bytes.
 #[derive(Clone, Copy)]
-pub enum Found {
+pub enum ScannedLine {
     /// A line of this many bytes, and its LF.
     Whole(usize),
     /// 201 bytes without LF.
@@ -19,7 +19,7 @@ pub enum Found {
 }
 
 /// Finds the line in front of the bytes, of which the first `scanned` have no LF.
-pub fn find_line(bytes: &[u8], scanned: usize) -> Found
+pub fn find_line(bytes: &[u8], scanned: usize) -> ScannedLine
     requires within { scanned ≤ length bytes.now }
     requires short { scanned ≤ MOST_LINE_BYTES }
     requires free { HasNoLf (take scanned bytes.now) }
@@ -27,11 +27,11 @@ pub fn find_line(bytes: &[u8], scanned: usize) -> Found
 {
     for i in scanned..bytes.len() {
         if bytes[i] == LF {
-            return Found::Whole(i);
+            return ScannedLine::Whole(i);
         }
         if i == MOST_LINE_BYTES {
-            return Found::Long;
+            return ScannedLine::Long;
         }
     }
-    Found::Part
+    ScannedLine::Part
 }

@@ -2,7 +2,7 @@
 use Rattle.std.proofs.Common.{ℕ, ap}
 use Rattle.desk_base.specs.Files.{Files}
 use Rattle.desk_base.specs.Lines.{Lines}
-use Rattle.set_plan.specs.declared.stop.StepName.{StepName}
+use Rattle.set_plan.specs.declared.stop.PartStep.{PartStep}
 use Rattle.line_plan.proofs.Once.{plan_ends_once}
 use Rattle.desk_text.specs.declared.problem.Problem.{Problem}
 use Rattle.desk_report.specs.Outcome.{done_with}
@@ -18,7 +18,7 @@ problem_row n budget problem files =
     over_row step_line (ExceedsPlan problem budget n)
     {rest = λ report. FitsPlan problem budget n × IsDueOf (IsVerdict n problem) (λ line. done_with files line) report} files
     (and_row (FitsPlan problem budget n) (line_row (IsVerdict n problem) (λ line. line) files (once_verdict n problem)))
-    (λ s t a b. ap (λ (step : StepName (Unit {0})). step_line step.at) (once.one_step _ _ a b))
+    (λ s t a b. ap (λ (step : PartStep (Unit {0})). step_line step.at) (once.one_step _ _ a b))
     (λ step report over right. once.not_both right.0.0 _ right.0.1 over)
 
 pub crowd_row : (n budget : ℕ) (lines : Lines) (files : Files) → IsOne (CrowdSays n budget lines files)

@@ -12,7 +12,7 @@ use Rattle.period_sets.specs.Question.{IsFirstPast, StaysWithin, named, question
 use Rattle.period_sets.specs.declared.periodic.TheConstants.{MOST_PERIOD, MOST_RUNS}
 use Rattle.period_sets.specs.declared.periodic.Periodic.{Periodic}
 use Rattle.period_sets.specs.declared.periodic.Run.{Run}
-use Rattle.period_sets.specs.declared.periodic.Start.{Start}
+use Rattle.period_sets.specs.declared.periodic.PeriodStart.{PeriodStart}
 use Rattle.set_plan.proofs.SameSets.{Exceeds-same}
 use Rattle.desk_describe.specs.Description.{IsDescription}
 use Rattle.desk_describe.specs.declared.description.Description.{Description}
@@ -112,7 +112,7 @@ module _ {a b : Automaton} (same : (tuple : List ℤ) → IsAccepted a tuple ↔
       within = stays_alike h.period h.within;
     }
 
-    found_alike : (start : Start) → IsFound (Has a) a budget start → IsFound (Has b) b budget start
+    found_alike : (start : PeriodStart) → IsFound (Has a) a budget start → IsFound (Has b) b budget start
     found_alike start h = record {
       period = least_period_alike numbers start.period h.period;
       from = least_start_alike numbers start.period start.from h.from;

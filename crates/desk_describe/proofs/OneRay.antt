@@ -6,15 +6,15 @@ use Rattle.std.proofs.lemmas.Option.{same_Some}
 use Rattle.auto_core.specs.Automaton.{Automaton}
 use Rattle.auto_core.specs.Integers.{IsAccepted}
 use Rattle.auto_numbers.specs.Numbers.{Has}
-use Rattle.first_sets.specs.FirstSet.{IsFirstSet, IsRayError, RayStaysWithin}
-use Rattle.first_sets.proofs.LawLemmas.{no_error_within, one_first_set, one_ray_error}
+use Rattle.first_distances.specs.FirstSet.{IsFirstSet, IsRayError, RayStaysWithin}
+use Rattle.first_distances.proofs.LawLemmas.{no_error_within, one_first_set, one_ray_error}
 use Rattle.formula_auto.specs.declared.errors.CompileError.TheVariants as compile_error
 use Rattle.game_rules.specs.Game.{Position}
 use Rattle.game_rules.specs.Rays.{ray_of}
 use Rattle.game_rules.specs.declared.men.Man.{Man}
 use Rattle.game_rules.specs.declared.men.Ray.{Ray}
 use Rattle.game_rules.specs.declared.men.Side.{Side}
-use Rattle.game_session.specs.Firsts.{NoFirsts}
+use Rattle.winner_session.specs.Firsts.{NoFirsts}
 use Rattle.move_choice.specs.Aims.{IsMover}
 use Rattle.period_sets.proofs.Exclusion.{no-error-beside, one-error}
 use Rattle.period_sets.proofs.Ones.{one-description}

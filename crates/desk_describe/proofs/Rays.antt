@@ -3,9 +3,9 @@ use Rattle.std.proofs.Common.{◌≡◌, ℕ, Result, Err, IfErr, sym, subst}
 use Rattle.chess_game.specs.declared.way.Frame.{Frame}
 use Rattle.game_rules.specs.Game.{Position}
 use Rattle.game_rules.specs.declared.men.Side.{Side}
-use Rattle.game_session.proofs.FirstLemmas.{line_first}
-use Rattle.game_session.specs.Firsts.{IsFirstLine, NoFirsts}
-use Rattle.game_session.specs.declared.first_line.FirstLine.{FirstLine}
+use Rattle.winner_session.proofs.FirstLemmas.{line_first}
+use Rattle.winner_session.specs.Firsts.{IsFirstLine, NoFirsts}
+use Rattle.winner_session.specs.declared.first_line.FirstLine.{FirstLine}
 use Rattle.desk_describe.specs.Describe.{RayTells, StopsAt}
 use Rattle.desk_describe.specs.RayStep.{StopsWith}
 use Rattle.desk_describe.specs.declared.ray_step.DescribeError.{DescribeError}

@@ -5,7 +5,7 @@ use Rattle.chess_game.specs.declared.rays.TheConstants.{MOST_RAYS}
 use Rattle.desk_base.specs.Files.{Files}
 use Rattle.game_rules.specs.Game.{Position, Value}
 use Rattle.game_rules.specs.declared.men.Side.{Side}
-use Rattle.game_session.proofs.FirstLemmas.{firsts_value}
+use Rattle.winner_session.proofs.FirstLemmas.{firsts_value}
 use Rattle.winning_sets.specs.Solve.{IsOf, Solution}
 use Rattle.desk_report.specs.Outcome.{done_with}
 use Rattle.desk_report.proofs.One.{IsDueOf, IsOne, and_row, due_row, either_row, line_row, over_row}

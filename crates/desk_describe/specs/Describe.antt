@@ -4,12 +4,12 @@ use Rattle.auto_core.specs.Automaton.{Automaton}
 use Rattle.auto_numbers.specs.Numbers.{Has}
 use Rattle.chess_game.specs.declared.rays.TheConstants.{MOST_RAYS}
 use Rattle.desk_base.specs.Files.{Files}
-use Rattle.first_sets.specs.FirstSet.{IsFirstSet, IsRayError, RayStaysWithin}
+use Rattle.first_distances.specs.FirstSet.{IsFirstSet, IsRayError, RayStaysWithin}
 use Rattle.formula_auto.specs.declared.errors.CompileError.TheVariants as compile_error
 use Rattle.game_rules.specs.Game.{Position}
 use Rattle.game_rules.specs.declared.men.Ray.{Ray}
 use Rattle.game_rules.specs.declared.men.Side.{Side}
-use Rattle.game_session.specs.Firsts.{NoFirsts}
+use Rattle.winner_session.specs.Firsts.{NoFirsts}
 use Rattle.move_choice.specs.Aims.{IsMover}
 use Rattle.period_sets.specs.Question.{IsFirstPast}
 use Rattle.desk_report.specs.Outcome.{FirstOver, Report, done_with}

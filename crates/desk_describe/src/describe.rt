@@ -18,9 +18,9 @@ use desk_report::{Status, print};
 use desk_solve::first::has_no_first_move;
 use desk_text::Task;
 use desk_verdict::{ProblemSolver, print_error};
-use game_session::first_moves;
 use move_choice::{has_ray, his_ray};
 use std::alloc::Global;
+use winner_session::first_moves;
 
 /// Writes for each man and ray along which the winner has a first move, by which he mates within so many moves of his own, at which distances he has
 /// one, and a last line. All of it is known before the first byte is written.

@@ -8,7 +8,7 @@ ghost use Rattle.desk_describe.specs.Describe.{IsDescribed, StopsAt};
 ghost use Rattle.desk_describe.specs.RayStep.{StopsWith};
 
 use crate::ray_step::{DescribeError, RayPart, RayStep};
-use first_sets::ray_set;
+use first_distances::ray_set;
 use formula_auto::CompileError;
 use limits::Budget;
 use period_sets::{PeriodError, Periodic, describe_set};

@@ -15,7 +15,7 @@ use Rattle.strategy_file.specs.Fitting.{HasFileOf}
 use Rattle.strategy_file.specs.Layout.{Refusal}
 use Rattle.strategy_file.specs.Layout as layout
 use Rattle.strategy_file.specs.StrategyFile.{Charts, File, charts_of}
-use Rattle.file_writing.specs.Written.{most_bytes}
+use Rattle.strategy_writer.specs.Written.{most_bytes}
 use Rattle.strategy_file.specs.declared.claim.Claim.{Claim as ClaimHere}
 use Rattle.strategy_file.specs.declared.version.Version.TheVariants.{Shared}
 use Rattle.winning_sets.specs.Solve.{Solution}

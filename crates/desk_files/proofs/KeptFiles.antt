@@ -8,8 +8,8 @@ use Rattle.desk_base.specs.declared.files.KeepError.{KeepError}
 use Rattle.desk_base.specs.declared.files.KeepError.TheVariants as keep_error
 use Rattle.game_rules.specs.Game.{Position, Value}
 use Rattle.game_rules.specs.declared.men.Side.{Side}
-use Rattle.file_writing.specs.declared.writing.WriteFileError.{WriteFileError}
-use Rattle.file_writing.specs.declared.writing.WriteFileError.TheVariants as write_error
+use Rattle.strategy_writer.specs.declared.writing.WriteFileError.{WriteFileError}
+use Rattle.strategy_writer.specs.declared.writing.WriteFileError.TheVariants as write_error
 use Rattle.winning_sets.specs.Solve.{IsOf, Solution}
 use Rattle.desk_report.specs.Outcome.{DoesReport, RunEndsAs, NeverMisses, Report, Seen, WriteFailed, Writes, done_with, of_sink}
 use Rattle.desk_report.specs.declared.status.Status.{Status}

@@ -6,8 +6,8 @@ use Rattle.desk_base.specs.Faults.{HasRisen}
 use Rattle.desk_base.specs.Files.{Files}
 use Rattle.strategy_file.proofs.SameReads.{listed, read_is_same, same_words}
 use Rattle.strategy_file.specs.Claims.{claim_with, set_with}
-use Rattle.file_writing.specs.Laws.{IsReadAsSame}
-use Rattle.file_writing.specs.ReducedClaims.{IsReducedClaim, IsReducedSet, IsWrittenOf, IsWrittenTooLarge}
+use Rattle.strategy_writer.specs.Laws.{IsReadAsSame}
+use Rattle.strategy_writer.specs.ReducedClaims.{IsReducedClaim, IsReducedSet, IsWrittenOf, IsWrittenTooLarge}
 use Rattle.strategy_file.specs.StrategyFile.{Charts, chart_of, charts_of}
 use Rattle.desk_report.specs.Outcome.{RunEndsAs, Report, Seen}
 use Rattle.desk_report.specs.declared.status.Status.{Status}

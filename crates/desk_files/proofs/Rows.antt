@@ -10,13 +10,13 @@ use Rattle.claim_plan.specs.declared.names.RuleAt.{RuleAt}
 use Rattle.mate_plan.specs.Claim.{Claim}
 use Rattle.set_plan.specs.Outcome as plan
 use Rattle.strategy_file.proofs.OnceLemmas.{one_outcome}
-use Rattle.file_writing.proofs.KeptFiles.{one_kept_file}
-use Rattle.file_writing.proofs.WrittenClaims.{one_written}
+use Rattle.strategy_writer.proofs.KeptFiles.{one_kept_file}
+use Rattle.strategy_writer.proofs.WrittenClaims.{one_written}
 use Rattle.strategy_file.specs.Claims.{claim_with}
 use Rattle.strategy_file.specs.declared.version.Version.TheVariants.{Shared}
 use Rattle.strategy_file.specs.Layout.{Refusal}
 use Rattle.strategy_file.specs.StrategyFile.{Charts, File}
-use Rattle.file_writing.specs.Written.{most_bytes}
+use Rattle.strategy_writer.specs.Written.{most_bytes}
 use Rattle.winning_sets.specs.Solve.{IsSolveError}
 use Rattle.winning_sets.specs.declared.names.SolveError.TheVariants as solve_error
 use Rattle.winning_sets.specs.declared.names.StepName.{StepName}

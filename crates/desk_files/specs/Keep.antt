@@ -6,8 +6,8 @@ use Rattle.desk_base.specs.declared.files.Shelf.{Ghosts as ShelfModel}
 use Rattle.desk_base.specs.declared.sink.Sink.{Ghosts as SinkModel}
 use Rattle.game_rules.specs.Game.{Position, Value}
 use Rattle.game_rules.specs.declared.men.Side.{Side}
-use Rattle.file_writing.specs.KeptFile.{IsKeptFile, IsKeptTooLarge}
-use Rattle.file_writing.specs.Written.{most_bytes}
+use Rattle.strategy_writer.specs.KeptFile.{IsKeptFile, IsKeptTooLarge}
+use Rattle.strategy_writer.specs.Written.{most_bytes}
 use Rattle.strategy_file.specs.declared.version.Version.TheVariants.{Shared}
 use Rattle.desk_report.specs.Outcome.{RunEndsAs, Report, done_with}
 use Rattle.desk_report.specs.Ports.{shelf_seen}

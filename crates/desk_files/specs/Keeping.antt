@@ -4,8 +4,8 @@ use Rattle.std.specs.FinMap as map
 use Rattle.desk_base.specs.Files.{Files, FilesGain, FilesStay, OtherFilesStay}
 use Rattle.desk_base.specs.declared.files.KeepError.{KeepError}
 use Rattle.desk_base.specs.declared.files.KeepError.TheVariants as keep_error
-use Rattle.file_writing.specs.declared.writing.WriteFileError.{WriteFileError}
-use Rattle.file_writing.specs.declared.writing.WriteFileError.TheVariants as write_error
+use Rattle.strategy_writer.specs.declared.writing.WriteFileError.{WriteFileError}
+use Rattle.strategy_writer.specs.declared.writing.WriteFileError.TheVariants as write_error
 use Rattle.desk_report.specs.Outcome.{Report, done_with}
 use Rattle.desk_report.specs.declared.status.Status.{Status}
 use Rattle.desk_report.specs.declared.status.Status.TheVariants as is

@@ -6,10 +6,10 @@ use Rattle.desk_base.specs.declared.files.Shelf.{Ghosts as ShelfModel}
 use Rattle.desk_base.specs.declared.sink.Sink.{Ghosts as SinkModel}
 use Rattle.mate_plan.specs.Claim.{Claim}
 use Rattle.strategy_file.specs.Claims.{claim_with}
-use Rattle.file_writing.specs.Laws.{IsReadAsSame}
-use Rattle.file_writing.specs.ReducedClaims.{IsWrittenOf, IsWrittenTooLarge}
+use Rattle.strategy_writer.specs.Laws.{IsReadAsSame}
+use Rattle.strategy_writer.specs.ReducedClaims.{IsWrittenOf, IsWrittenTooLarge}
 use Rattle.strategy_file.specs.StrategyFile.{Charts}
-use Rattle.file_writing.specs.Written.{most_bytes}
+use Rattle.strategy_writer.specs.Written.{most_bytes}
 use Rattle.desk_report.specs.Outcome.{RunEndsAs, Report}
 use Rattle.desk_report.specs.Ports.{shelf_seen}
 use Rattle.desk_report.specs.declared.status.Status.{Status}

@@ -12,8 +12,8 @@ use desk_base::{Shelf, Sink};
 use desk_report::{Status, print};
 use desk_text::Task;
 use desk_verdict::{ProblemSolver, print_error, verdict_line};
-use file_writing::write_file;
 use std::alloc::Global;
+use strategy_writer::write_file;
 use winning_sets::Solved;
 
 /// Keeps a file of the sets by which the winner mates within so many moves of his own, under the name, and writes that he does; or that he does

@@ -11,9 +11,9 @@ use crate::file_claim::{fetch_file, refuse_file};
 use crate::no_file::{NoFile, refuse_keeping};
 use desk_base::{Shelf, Sink};
 use desk_report::{Status, print};
-use file_writing::write_claim;
 use std::alloc::Global;
 use strategy_file::Claim;
+use strategy_writer::write_claim;
 
 /// Reads the file of a name, of either version, and keeps its claim under another name, or under the same, in a file of the newest version. The claim
 /// is not checked.

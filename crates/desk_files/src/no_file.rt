@@ -8,7 +8,7 @@ ghost use Rattle.desk_report.specs.Ports.{OnSink};
 use crate::file_line::too_large_line;
 use desk_base::{KeepError, Sink};
 use desk_report::{Status, refuse};
-use file_writing::WriteFileError;
+use strategy_writer::WriteFileError;
 
 /// Why no file is kept.
 #[derive(Clone, Copy, PartialEq, Eq)]

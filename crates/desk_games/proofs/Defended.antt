@@ -10,12 +10,12 @@ use Rattle.move_choice.specs.Squares.{all_squares}
 use Rattle.winning_sets.specs.Claimed.{IsValid}
 use Rattle.winning_sets.specs.Solve.{IsOf, IsWithin, Solution}
 use Rattle.winning_sets.proofs.ValidLemmas.{plan_valid}
-use Rattle.game_session.specs.Game.{Game, start_of}
-use Rattle.line_game.specs.LineReport.{IsReport, LineReport}
-use Rattle.defender.specs.Defending.{DefenceMatch, seen}
-use Rattle.defender.specs.Unwon.{RestsFit}
-use Rattle.defender.proofs.Fitting.{rests_fit}
-use Rattle.defence_report.specs.LoserRules.{loser_rules}
+use Rattle.winner_session.specs.Game.{Game, start_of}
+use Rattle.play_loop.specs.LineReport.{IsReport, LineReport}
+use Rattle.loser_session.specs.Defending.{DefenceMatch, seen}
+use Rattle.loser_session.specs.Unwon.{RestsFit}
+use Rattle.loser_session.proofs.Fitting.{rests_fit}
+use Rattle.loser_player.specs.LoserRules.{loser_rules}
 use Rattle.desk_verdict.specs.Verdict.{FitsBudget}
 use Rattle.desk_text.specs.declared.problem.Problem.{Problem}
 use Rattle.desk_games.specs.Defend.{DefendReports, first_defence}

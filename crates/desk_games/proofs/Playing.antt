@@ -12,17 +12,17 @@ use Rattle.desk_base.specs.Moves.{AppendsFront}
 use Rattle.game_rules.specs.Game.{Value}
 use Rattle.chess_text.specs.PositionText.{text_of_lines}
 use Rattle.chess_game.specs.declared.way.Frame.{Frame}
-use Rattle.game_report.specs.WinnerRules.{Match, seen, strategy_by, winner_rules}
-use Rattle.line_game.specs.LineReport.{IsReport, LineReport, ending_line}
-use Rattle.line_game.specs.Played.{IsDue, IsPlayed, Ports, is_short}
-use Rattle.line_game.specs.Turns.{Rules}
+use Rattle.winner_player.specs.WinnerRules.{Match, seen, strategy_by, winner_rules}
+use Rattle.play_loop.specs.LineReport.{IsReport, LineReport, ending_line}
+use Rattle.play_loop.specs.Played.{IsDue, IsPlayed, Ports, is_short}
+use Rattle.play_loop.specs.Turns.{Rules}
 use Rattle.move_choice.specs.Squares.{all_squares}
 use Rattle.desk_text.specs.Taken.{TakesLines}
-use Rattle.line_game.specs.declared.ending.Ending.{Ending}
-use Rattle.line_game.specs.declared.ending.Ending.TheVariants.{Mated, Held, Stuck, Wide, Quit, NoLine, Many, CutAt, LongAt}
-use Rattle.line_game.specs.declared.play.GameError.{GameError}
-use Rattle.line_game.specs.declared.play.GameError.TheVariants.{Read, Write}
-use Rattle.game_session.specs.Game.{Game, start_of}
+use Rattle.play_loop.specs.declared.ending.Ending.{Ending}
+use Rattle.play_loop.specs.declared.ending.Ending.TheVariants.{Mated, Held, Stuck, Wide, Quit, NoLine, Many, CutAt, LongAt}
+use Rattle.play_loop.specs.declared.play.GameError.{GameError}
+use Rattle.play_loop.specs.declared.play.GameError.TheVariants.{Read, Write}
+use Rattle.winner_session.specs.Game.{Game, start_of}
 use Rattle.winning_sets.specs.Claimed.{claim_of}
 use Rattle.winning_sets.specs.Solve.{IsOf, Solution}
 use Rattle.winning_sets.specs.declared.origin.Origin.TheVariants as origin

@@ -12,9 +12,9 @@ use Rattle.desk_base.specs.Files.{Files, Go}
 use Rattle.desk_base.specs.Lines.{IsLine, Lines, lines_of}
 use Rattle.game_rules.specs.Game.{Position, Value}
 use Rattle.game_rules.specs.declared.men.Side.{Side}
-use Rattle.game_report.proofs.Alike.{by_claim, report_alike, report_by}
-use Rattle.game_report.specs.WinnerRules.{ByClaim, Match, winner_rules}
-use Rattle.line_game.specs.LineReport.{IsReport}
+use Rattle.winner_player.proofs.Alike.{by_claim, report_alike, report_by}
+use Rattle.winner_player.specs.WinnerRules.{ByClaim, Match, winner_rules}
+use Rattle.play_loop.specs.LineReport.{IsReport}
 use Rattle.move_choice.specs.Squares.{all_squares}
 use Rattle.chess_text.specs.PositionText.{text_of_lines}
 use Rattle.mate_plan.specs.Claim.{Claim}

@@ -3,15 +3,15 @@ use Rattle.std.proofs.Common.{◌≢◌, ℕ, List, ap}
 use Rattle.desk_base.specs.Files.{Files}
 use Rattle.desk_base.specs.Lines.{Lines}
 use Rattle.game_rules.specs.Game.{Value}
-use Rattle.game_report.specs.Playable.{winner_playable}
-use Rattle.game_report.specs.WinnerRules.{IsOfSession, winner_rules}
-use Rattle.line_game.proofs.Reports.{one_report}
-use Rattle.line_game.specs.LineReport.{IsReport}
-use Rattle.line_game.specs.Turns.{ArePlayable, Rules}
-use Rattle.line_game.specs.declared.ending.Ending.{Ending}
-use Rattle.line_game.specs.declared.ending.Ending.TheVariants.{Mated, Held, Stuck, Wide, Quit, NoLine, Many, CutAt, LongAt}
-use Rattle.defence_report.specs.LoserRules.{IsOfDefence, loser_rules}
-use Rattle.defence_report.specs.Playable.{loser_plays}
+use Rattle.winner_player.specs.Playable.{winner_playable}
+use Rattle.winner_player.specs.WinnerRules.{IsOfSession, winner_rules}
+use Rattle.play_loop.proofs.Reports.{one_report}
+use Rattle.play_loop.specs.LineReport.{IsReport}
+use Rattle.play_loop.specs.Turns.{ArePlayable, Rules}
+use Rattle.play_loop.specs.declared.ending.Ending.{Ending}
+use Rattle.play_loop.specs.declared.ending.Ending.TheVariants.{Mated, Held, Stuck, Wide, Quit, NoLine, Many, CutAt, LongAt}
+use Rattle.loser_player.specs.LoserRules.{IsOfDefence, loser_rules}
+use Rattle.loser_player.specs.Playable.{loser_plays}
 use Rattle.desk_report.specs.Outcome.{done_with}
 use Rattle.desk_report.specs.declared.status.Status.TheVariants as is
 use Rattle.desk_report.proofs.One.{IsDueOf, IsOne, and_row, due_of_row, due_row, either_row}

@@ -8,9 +8,9 @@ use Rattle.desk_base.specs.declared.sink.Sink.{Ghosts as SinkModel}
 use Rattle.desk_base.specs.declared.source.Source.{Ghosts as SourceModel}
 use Rattle.game_rules.specs.Game.{Value}
 use Rattle.move_choice.specs.Squares.{all_squares}
-use Rattle.line_game.specs.LineReport.{IsReport, LineReport}
-use Rattle.defender.specs.Defending.{DefenceMatch}
-use Rattle.defence_report.specs.LoserRules.{loser_rules}
+use Rattle.play_loop.specs.LineReport.{IsReport, LineReport}
+use Rattle.loser_session.specs.Defending.{DefenceMatch}
+use Rattle.loser_player.specs.LoserRules.{loser_rules}
 use Rattle.desk_report.specs.ByLines.{EndsByLines}
 use Rattle.desk_report.specs.Outcome.{NeverMisses, Report, Seen, done_with}
 use Rattle.desk_report.specs.Ports.{streams_seen}

@@ -7,13 +7,13 @@ use Rattle.desk_base.specs.Reading.{Reading}
 use Rattle.desk_base.specs.declared.sink.Sink.{Ghosts as SinkModel}
 use Rattle.desk_base.specs.declared.source.Source.{Ghosts as SourceModel}
 use Rattle.game_rules.specs.Game.{Value}
-use Rattle.game_report.specs.WinnerRules.{ByKept, Match, winner_rules}
-use Rattle.line_game.specs.LineReport.{IsReport, LineReport, ending_line}
-use Rattle.line_game.specs.Played.{is_short}
-use Rattle.line_game.specs.declared.ending.Ending.{Ending}
-use Rattle.line_game.specs.declared.ending.Ending.TheVariants.{Mated, Held, Stuck, Wide, Quit, NoLine, Many, CutAt, LongAt}
-use Rattle.line_game.specs.declared.play.GameError.{GameError}
-use Rattle.line_game.specs.declared.play.GameError.TheVariants.{Read, Write}
+use Rattle.winner_player.specs.WinnerRules.{ByKept, Match, winner_rules}
+use Rattle.play_loop.specs.LineReport.{IsReport, LineReport, ending_line}
+use Rattle.play_loop.specs.Played.{is_short}
+use Rattle.play_loop.specs.declared.ending.Ending.{Ending}
+use Rattle.play_loop.specs.declared.ending.Ending.TheVariants.{Mated, Held, Stuck, Wide, Quit, NoLine, Many, CutAt, LongAt}
+use Rattle.play_loop.specs.declared.play.GameError.{GameError}
+use Rattle.play_loop.specs.declared.play.GameError.TheVariants.{Read, Write}
 use Rattle.move_choice.specs.Squares.{all_squares}
 use Rattle.desk_report.specs.ByLines.{EndsByLines}
 use Rattle.desk_report.specs.Outcome.{NeverMisses, Report, Seen, Writes, done_with}

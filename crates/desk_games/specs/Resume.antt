@@ -6,8 +6,8 @@ use Rattle.desk_base.specs.Lines.{Lines}
 use Rattle.desk_base.specs.declared.files.Shelf.{Ghosts as ShelfModel}
 use Rattle.desk_base.specs.declared.sink.Sink.{Ghosts as SinkModel}
 use Rattle.desk_base.specs.declared.source.Source.{Ghosts as SourceModel}
-use Rattle.game_report.specs.WinnerRules.{ByClaim, Match, winner_rules}
-use Rattle.line_game.specs.LineReport.{IsReport, LineReport}
+use Rattle.winner_player.specs.WinnerRules.{ByClaim, Match, winner_rules}
+use Rattle.play_loop.specs.LineReport.{IsReport, LineReport}
 use Rattle.mate_plan.specs.Claim.{Claim}
 use Rattle.move_choice.specs.Squares.{all_squares}
 use Rattle.winning_sets.specs.Claimed.{claim_of}

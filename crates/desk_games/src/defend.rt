@@ -7,13 +7,13 @@ ghost use Rattle.desk_verdict.specs.Verdict.{IsTask};
 
 use crate::play::finish;
 use chess_game::Frame;
-use defence_report::Loser;
-use defender::Defence;
 use desk_base::{LineReader, Sink, Source};
 use desk_report::{Status, print, refuse};
 use desk_text::Task;
 use desk_verdict::{print_error, verdict_line};
-use line_game::play_game;
+use loser_player::Loser;
+use loser_session::Defence;
+use play_loop::play_game;
 use std::alloc::Global;
 use winning_sets::solve;
 

@@ -2,7 +2,7 @@
 
 ghost use Rattle.std.specs.Prelude.{◌≡◌, ◌≤◌, [], length};
 ghost use Rattle.desk_base.specs.Reading.{GoesOn};
-ghost use Rattle.line_game.specs.LineReport.{ending_line};
+ghost use Rattle.play_loop.specs.LineReport.{ending_line};
 ghost use Rattle.desk_report.specs.Outcome.{Writes};
 ghost use Rattle.desk_report.specs.Ports.{OnSink};
 ghost use Rattle.desk_games.specs.Play.{Finishes, PlayEndsOn, status_of};
@@ -13,10 +13,10 @@ use desk_base::{LineReader, Sink, Source};
 use desk_report::{Status, print, refusal_line, refuse};
 use desk_text::{LineWhy, Task};
 use desk_verdict::{ProblemSolver, print_error, verdict_line};
-use game_report::Winner;
-use game_session::Session;
-use line_game::{Ending, GameError, play_game};
+use play_loop::{Ending, GameError, play_game};
 use std::alloc::Global;
+use winner_player::Winner;
+use winner_session::Session;
 
 /// Writes the game that the winner plays, whose replies are read behind the text, or that he does not mate within so many moves.
 /// All memory is taken before the first line.

@@ -11,10 +11,10 @@ use desk_base::{LineReader, Shelf, Sink, Source};
 use desk_files::{fetch_claim, refuse_file};
 use desk_report::{Status, refuse};
 use desk_text::FileTask;
-use game_report::Winner;
-use game_session::Session;
-use line_game::play_game;
+use play_loop::play_game;
 use std::alloc::Global;
+use winner_player::Winner;
+use winner_session::Session;
 use winning_sets::Solved;
 
 /// Checks the claim of the file of a name, and writes the game that its winner plays by its sets, whose replies are read.

@@ -5,7 +5,7 @@ use Rattle.desk_base.specs.Lines.{Lines}
 use Rattle.game_rules.specs.Game.{Position, Sound}
 use Rattle.chess_game.specs.Unsoundness.{IsFirstUnsoundness}
 use Rattle.chess_game.proofs.UnsoundnessLemmas.{unsound_refuted}
-use Rattle.chess_text.specs.declared.reader.Stage.TheVariants.{Header}
+use Rattle.chess_text.specs.declared.reader.ReaderState.TheVariants.{Header}
 use Rattle.desk_report.specs.FaultLines.{unsound_line}
 use Rattle.desk_report.specs.OfText.{OfLines, OfRead, OfSound}
 use Rattle.desk_report.specs.Outcome.{Report, refusal_as}

@@ -4,7 +4,7 @@ use Rattle.std.specs.Prelude.{count_by, slice_get}
 use Rattle.std.proofs.lemmas.List.{length-append}
 use Rattle.std.proofs.lemmas.List.Sums.{sum_by_push}
 use Rattle.std.proofs.lemmas.Option.{same_Some}
-use Rattle.desk_words.specs.declared.order.TheConstants.{DEFAULT_STATES}
+use Rattle.desk_args.specs.declared.order.TheConstants.{DEFAULT_STATES}
 use Rattle.desk_base.specs.Files.{Files}
 use Rattle.game_rules.specs.Game.{Value}
 use Rattle.game_rules.specs.declared.men.Side.TheVariants.{White}

@@ -8,8 +8,8 @@ use Rattle.game_rules.specs.Game.{Position, Value}
 use Rattle.game_rules.specs.declared.men.Side.{Side}
 use Rattle.game_laws.proofs.SoundLemmas.{side_or_other}
 use Rattle.move_choice.specs.Aims.{HasRay}
-use Rattle.game_session.specs.Firsts.{Firsts}
-use Rattle.game_session.proofs.FirstLemmas.{firsts_ray, firsts_value, line_first, line_once}
+use Rattle.winner_session.specs.Firsts.{Firsts}
+use Rattle.winner_session.proofs.FirstLemmas.{firsts_ray, firsts_value, line_first, line_once}
 use Rattle.winning_sets.specs.Solve.{IsOf, Solution}
 use Rattle.desk_solve.specs.First.{Adds, AreLines, FirstReports, HasNoFirstMove, Listed, ManText, RayText, line_of}
 use Rattle.desk_report.specs.Outcome.{done_with}

@@ -1,7 +1,7 @@
 -- The positions of `drill`, and what is reported of them.
 use Rattle.std.specs.Prelude.{◌≡◌, ◌↔◌, ℕ, zero, suc, ◌+◌, ◌*◌, ◌/◌, ◌%◌, ◌^◌, ◌<◌, ◌==◌, if◌then◌else◌, ℤ, pos, negsuc, ◌-ℤ◌, Bool, List, [], ◌∷◌, ◌++◌, length, Some, IsTrue, codes, count_by, slice_get}
 use Rattle.std.specs.Fmt.{decimal}
-use Rattle.desk_words.specs.declared.order.TheConstants.{DEFAULT_STATES}
+use Rattle.desk_args.specs.declared.order.TheConstants.{DEFAULT_STATES}
 use Rattle.desk_base.specs.Files.{Files}
 use Rattle.game_rules.specs.Game.{Position, Value}
 use Rattle.game_rules.specs.declared.men.Kind.TheVariants.{King, Rook}

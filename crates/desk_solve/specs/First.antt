@@ -8,9 +8,9 @@ use Rattle.desk_base.specs.Files.{Files}
 use Rattle.game_rules.specs.Game.{Position, other}
 use Rattle.game_rules.specs.declared.men.Side.{Side}
 use Rattle.move_choice.specs.Squares.{all_squares}
-use Rattle.game_session.specs.Firsts.{Firsts, IsFirstLine}
-use Rattle.game_session.specs.Game.{HasRoom}
-use Rattle.game_session.specs.declared.first_line.FirstLine.{FirstLine}
+use Rattle.winner_session.specs.Firsts.{Firsts, IsFirstLine}
+use Rattle.winner_session.specs.Game.{HasRoom}
+use Rattle.winner_session.specs.declared.first_line.FirstLine.{FirstLine}
 use Rattle.winning_sets.specs.Solve.{Solution}
 use Rattle.winning_sets.specs.declared.origin.Origin.TheVariants.{Plan}
 use Rattle.desk_report.specs.Outcome.{Report, done_with}

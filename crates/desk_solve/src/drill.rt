@@ -9,11 +9,11 @@ ghost use Rattle.desk_verdict.specs.Verdict.{ExceedsAt, FitsBudget, IfOver};
 
 use crate::drill_positions::{Generator, problem_of};
 use chess_text::line_buffer::LineBuffer;
+use desk_args::DEFAULT_STATES;
 use desk_base::Sink;
 use desk_report::{Status, print};
 use desk_text::Problem;
 use desk_verdict::{ProblemSolver, print_error};
-use desk_words::DEFAULT_STATES;
 use limits::Budget;
 use std::alloc::Global;
 use winning_sets::SolveError;

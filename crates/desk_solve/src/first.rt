@@ -14,9 +14,9 @@ use desk_base::Sink;
 use desk_report::{Status, print, push_large};
 use desk_text::Task;
 use desk_verdict::{ProblemSolver, print_error};
-use game_session::{FirstLine, first_moves};
 use move_choice::has_ray;
 use std::alloc::{AllocError, Global};
+use winner_session::{FirstLine, first_moves};
 use winning_sets::{SolveError, Solved};
 
 /// Writes for each man and ray the winner's first moves along it by which he mates within so many moves of his own, and a last line. All of it is

@@ -4,8 +4,8 @@ use Rattle.std.specs.Prelude.{nat_lt}
 use Rattle.desk_base.specs.Lines.{Lines, full, long, lines_from, lines_of}
 use Rattle.chess_text.specs.PositionText.{Turnout}
 use Rattle.chess_text.specs.PositionText as turnouts
-use Rattle.chess_text.specs.declared.reader.Stage.{Stage}
-use Rattle.chess_text.specs.declared.reader.Stage.TheVariants.{Header}
+use Rattle.chess_text.specs.declared.reader.ReaderState.{ReaderState}
+use Rattle.chess_text.specs.declared.reader.ReaderState.TheVariants.{Header}
 use Rattle.desk_text.specs.Text.{AfterLine, IsTextOf, Reading, ReadsLines, Text, whole, refused}
 use Rattle.desk_text.specs.declared.text.LineWhy.{LineWhy}
 
@@ -19,11 +19,11 @@ module _ {A : Type 0} (r : Reading A) (said : A) (rest : Lines) where
   not_refused : {B : Type 0} (number : ℕ) (why : LineWhy) → whole said rest ≡ refused number why → B
   not_refused number why e = absurd (cc)
 
-  abbrev Now : Stage → ℕ → Lines → Type 0
+  abbrev Now : ReaderState → ℕ → Lines → Type 0
   Now stage number lines = ReadsLines r stage number lines (whole said rest)
 
   after_line : (turnout : Turnout) (number : ℕ) (bytes : List ℕ)
-      → ((next : Stage) → Now next (number + 1) (lines_of bytes) → IsBefore (λ more text. ReadsLines r next (number + 1) (lines_of (bytes ++ more)) text))
+      → ((next : ReaderState) → Now next (number + 1) (lines_of bytes) → IsBefore (λ more text. ReadsLines r next (number + 1) (lines_of (bytes ++ more)) text))
       → AfterLine r turnout number (lines_of bytes) (whole said rest) (λ next. Now next (number + 1) (lines_of bytes))
       → IsBefore (λ more text. AfterLine r turnout number (lines_of (bytes ++ more)) text (λ next. ReadsLines r next (number + 1) (lines_of (bytes ++ more)) text))
   after_line (turnouts.more next) number bytes go h = go next h
@@ -33,8 +33,8 @@ module _ {A : Type 0} (r : Reading A) (said : A) (rest : Lines) where
       record { behind = bytes; rest_is = lines; reads = λ more. ap (λ q. whole q (lines_of (bytes ++ more))) same }
   after_line (turnouts.wrong why) number bytes go h = not_refused number _ h
 
-  line_more : (stage : Stage) (number : ℕ) (front : List ℕ) (b : ℕ) (bytes : List ℕ) (lf room : Bool)
-      → ((next : Stage) (k : ℕ) → Now next k (lines_of bytes) → IsBefore (λ more text. ReadsLines r next k (lines_of (bytes ++ more)) text))
+  line_more : (stage : ReaderState) (number : ℕ) (front : List ℕ) (b : ℕ) (bytes : List ℕ) (lf room : Bool)
+      → ((next : ReaderState) (k : ℕ) → Now next k (lines_of bytes) → IsBefore (λ more text. ReadsLines r next k (lines_of (bytes ++ more)) text))
       → (Now stage number (lines_from (front ++ b ∷ []) bytes) → IsBefore (λ more text. ReadsLines r stage number (lines_from (front ++ b ∷ []) (bytes ++ more)) text))
       → Now stage number (if lf then full front (lines_from [] bytes) else (if room then lines_from (front ++ b ∷ []) bytes else long))
       → IsBefore (λ more text. ReadsLines r stage number
@@ -45,7 +45,7 @@ module _ {A : Type 0} (r : Reading A) (said : A) (rest : Lines) where
   line_more stage number front b bytes false true later on h = on h
   line_more stage number front b bytes false false later on h = not_refused number _ h
 
-  more_lines : (stage : Stage) (number : ℕ) (front bytes : List ℕ) → Now stage number (lines_from front bytes)
+  more_lines : (stage : ReaderState) (number : ℕ) (front bytes : List ℕ) → Now stage number (lines_from front bytes)
       → IsBefore (λ more text. ReadsLines r stage number (lines_from front (bytes ++ more)) text)
   more_lines stage number [] [] h = not_refused number _ h
   more_lines stage number (b ∷ front) [] h = not_refused number _ h

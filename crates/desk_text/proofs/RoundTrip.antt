@@ -22,8 +22,8 @@ use Rattle.chess_text.specs.Draft.{Draft}
 use Rattle.chess_text.specs.Grammar.{positions}
 use Rattle.chess_text.specs.PositionText.{Completes, FitsPlace, IsWritable, draft_of, end_line, position_lines, position_text, text_of_lines}
 use Rattle.chess_text.specs.PositionText as turnouts
-use Rattle.chess_text.specs.declared.reader.Stage.{Stage}
-use Rattle.chess_text.specs.declared.reader.Stage.TheVariants.{Header}
+use Rattle.chess_text.specs.declared.reader.ReaderState.{ReaderState}
+use Rattle.chess_text.specs.declared.reader.ReaderState.TheVariants.{Header}
 use Rattle.chess_text.proofs.PositionLemmas.{positions_writable, spelled_is_accepted}
 use Rattle.desk_text.specs.TextLaws.{TextIsRead}
 use Rattle.desk_text.specs.Text.{Reading, ReadsLines, problems, whole}
@@ -106,7 +106,7 @@ turn_line s Black =
 
 -- lines that are read as a text are read from their bytes, where so many lines stood before them, and there are as many with them
 module _ {A : Type 0} (r : Reading A) (d : Draft) (rest : List ℕ) (all : ℕ) where
-  read_last : (stage : Stage) (number : ℕ) (line more : List ℕ) → IsLine line → more ≡ rest → number ≡ all
+  read_last : (stage : ReaderState) (number : ℕ) (line more : List ℕ) → IsLine line → more ≡ rest → number ≡ all
       → turnouts.Feeds r.grammar stage line (turnouts.complete d)
       → ReadsLines r stage number (lines_of (line ++ 10 ∷ more)) (whole (r.says d all) (lines_of rest))
   read_last stage number line more is same last feeds =
@@ -114,7 +114,7 @@ module _ {A : Type 0} (r : Reading A) (d : Draft) (rest : List ℕ) (all : ℕ) 
       subst P (sym (line_first line more is.free is.short))
       (turnouts.complete d, feeds, ap (λ b. whole (r.says d all) (lines_of b)) (sym same) ∙ ap (λ k. whole (r.says d k) (lines_of more)) (sym last))
 
-  pub read_lines : (stage : Stage) (number : ℕ) (lines : List (List ℕ)) → All IsLine lines → number + length lines ≡ all + 1
+  pub read_lines : (stage : ReaderState) (number : ℕ) (lines : List (List ℕ)) → All IsLine lines → number + length lines ≡ all + 1
       → Completes r.grammar stage lines d
       → ReadsLines r stage number (lines_of (text_of_lines lines ++ rest)) (whole (r.says d all) (lines_of rest))
   read_lines stage number [] are count completes = absurd completes

@@ -3,8 +3,8 @@ use Rattle.std.proofs.Common.{ℕ, ◌+◌, List, Option, Result, Ok, Err, ap, t
 use Rattle.desk_base.specs.Lines.{Lines, full, ended, cut, long}
 use Rattle.chess_text.specs.PositionText.{Turnout, text_of_lines}
 use Rattle.chess_text.specs.PositionText as turnouts
-use Rattle.chess_text.specs.declared.reader.Stage.{Stage}
-use Rattle.chess_text.specs.declared.reader.Stage.TheVariants.{Header}
+use Rattle.chess_text.specs.declared.reader.ReaderState.{ReaderState}
+use Rattle.chess_text.specs.declared.reader.ReaderState.TheVariants.{Header}
 use Rattle.desk_text.specs.Taken.{TakesLines}
 use Rattle.desk_text.specs.Text.{AfterLine, Reading, ReadsLines, Text, refused, texts_of, whole}
 use Rattle.desk_text.specs.TextRead.{IsMissingOf, ReadsText, TextReadOf}
@@ -28,13 +28,13 @@ module _ {A : Type 0} (r : Reading A) where
   said_so (Ok text) = Ok (says_of text)
   said_so (Err end) = Err end
 
-  after_said : (turnout : Turnout) (number : ℕ) (rest : Lines) (text : Text WholeText) (F G : Stage → Type 0) → ((next : Stage) → F next → G next)
+  after_said : (turnout : Turnout) (number : ℕ) (rest : Lines) (text : Text WholeText) (F G : ReaderState → Type 0) → ((next : ReaderState) → F next → G next)
       → AfterLine plain turnout number rest text F → AfterLine r turnout number rest (said text) G
   after_said (turnouts.more next) number rest text F G go h = go next h
   after_said (turnouts.complete d) number rest text F G go h = ap said h
   after_said (turnouts.wrong why) number rest text F G go h = ap said h
 
-  lines_said : (stage : Stage) (number : ℕ) (lines : Lines) (text : Text WholeText) → ReadsLines plain stage number lines text → ReadsLines r stage number lines (said text)
+  lines_said : (stage : ReaderState) (number : ℕ) (lines : Lines) (text : Text WholeText) → ReadsLines plain stage number lines text → ReadsLines r stage number lines (said text)
   lines_said stage number (full line rest) text (turnout, feeds, h) = (
     turnout,
     feeds,

@@ -19,10 +19,10 @@ use Rattle.chess_text.specs.declared.grammar.Grammar.{Grammar}
 use Rattle.chess_text.specs.PositionText as turnouts
 use Rattle.chess_text.specs.Progress.{IsFed, Progress, Reads, line_due}
 use Rattle.chess_text.specs.declared.man_line.TextWhy.{TextWhy}
-use Rattle.chess_text.specs.declared.reader.Stage.{Stage}
-use Rattle.chess_text.specs.declared.reader.Stage.TheVariants as stages
-use Rattle.chess_text.specs.declared.reader.Step.{Step}
-use Rattle.chess_text.specs.declared.reader.Step.TheVariants as steps
+use Rattle.chess_text.specs.declared.reader.ReaderState.{ReaderState}
+use Rattle.chess_text.specs.declared.reader.ReaderState.TheVariants as stages
+use Rattle.chess_text.specs.declared.reader.LineOutcome.{LineOutcome}
+use Rattle.chess_text.specs.declared.reader.LineOutcome.TheVariants as steps
 use Rattle.desk_text.specs.Taken.{TakesLines}
 use Rattle.desk_text.specs.Text.{Text, Reading, whole, refused, AfterLine, IsTextOf, ReadsLines, is_end}
 use Rattle.desk_text.specs.TextRead.{IsMissingOf, TextReadOf}
@@ -31,27 +31,27 @@ use Rattle.desk_text.specs.declared.text.LineWhy.TheVariants as refusals
 use Rattle.desk_text.specs.declared.text.TextEnd.TheVariants.{Fault, Refused}
 
 -- how many lines may come before the last
-abbrev pub lines_left : Grammar → Stage → ℕ
+abbrev pub lines_left : Grammar → ReaderState → ℕ
 lines_left g stages.Header = g.most_men + 2
 lines_left g stages.Turn = g.most_men + 1
 lines_left g (stages.Men d) = g.most_men - length d.men
 
 -- there are no more men than a text may have, on places that it may name
-abbrev pub AreMen : Grammar → Stage → Type 0
+abbrev pub AreMen : Grammar → ReaderState → Type 0
 AreMen g stages.Header = Unit {0}
 AreMen g stages.Turn = Unit {0}
 AreMen g (stages.Men d) = (length d.men ≤ g.most_men) × All (λ m. IsPlaceOf g m.place) d.men
 
 -- what a text that goes on has come to
-pub record GoesOn (g : Grammar) (stage next : Stage) : Type 0 where
+pub record GoesOn (g : Grammar) (stage next : ReaderState) : Type 0 where
   pub counted : line_due next ≡ line_due stage + 1
   pub men : AreMen g next
   pub nearer : AreMen g stage → lines_left g next < lines_left g stage
 
-goes_to : (g : Grammar) (stage next due : Stage) → next ≡ due → GoesOn g stage due → GoesOn g stage next
-goes_to g stage next due is h = let P : Stage → Type 0 = λ s. GoesOn g stage s in subst P (sym is) h
+goes_to : (g : Grammar) (stage next due : ReaderState) → next ≡ due → GoesOn g stage due → GoesOn g stage next
+goes_to g stage next due is h = let P : ReaderState → Type 0 = λ s. GoesOn g stage s in subst P (sym is) h
 
-pub fed_more : (g : Grammar) (stage next : Stage) (line : List ℕ) → AreMen g stage → Feeds g stage line (turnouts.more next) → GoesOn g stage next
+pub fed_more : (g : Grammar) (stage next : ReaderState) (line : List ℕ) → AreMen g stage → Feeds g stage line (turnouts.more next) → GoesOn g stage next
 fed_more g stages.Header next line are (inl (e, i)) =
     goes_to g stages.Header next stages.Turn (let s : next ≡ stages.Turn = cc in s) (record { counted = refl; men = tt; nearer = λ h. omega arith })
 fed_more g stages.Header next line are (inr (e, i)) = absurd (cc)
@@ -72,20 +72,20 @@ fed_more g (stages.Men d) next line are (inr (inr (inr (a, e, inl (m, is, i)))))
 fed_more g (stages.Men d) next line are (inr (inr (inr (a, e, inr (reason, r, i))))) = absurd (cc)
 
 -- what the reader of a text has answered
-module _ (g kind : Grammar) (stage : Stage) (line : List ℕ) (same : kind ≡ g) where
+module _ (g kind : Grammar) (stage : ReaderState) (line : List ℕ) (same : kind ≡ g) where
   abbrev Fed : Turnout → Grammar → Type 0
   Fed turnout k = Feeds k stage line turnout
 
-  pub answer_more : (to : Step) (reader : Progress) → to ≡ steps.More → Reads kind stage line (Ok to) reader
+  pub answer_more : (to : LineOutcome) (reader : Progress) → to ≡ steps.More → Reads kind stage line (Ok to) reader
       → Feeds g stage line (turnouts.more reader.stage) × (reader.end ≡ None)
   answer_more steps.More reader is reads = (subst (Fed (turnouts.more reader.stage)) same reads.0, reads.1)
   answer_more steps.Whole reader is reads = absurd (cc)
 
-  pub answer_whole : (to : Step) (reader : Progress) (d : Draft) → to ≡ steps.Whole → reader.stage ≡ stages.Men d → Reads kind stage line (Ok to) reader
+  pub answer_whole : (to : LineOutcome) (reader : Progress) (d : Draft) → to ≡ steps.Whole → reader.stage ≡ stages.Men d → Reads kind stage line (Ok to) reader
       → Feeds g stage line (turnouts.complete d)
   answer_whole steps.More reader d is says reads = absurd (cc)
   answer_whole steps.Whole reader d is says reads =
-      let At : Stage → Type 0 = λ s. IsFed kind stage line (Ok steps.Whole) s in
+      let At : ReaderState → Type 0 = λ s. IsFed kind stage line (Ok steps.Whole) s in
       subst (Fed (turnouts.complete d)) same (subst At says reads.0)
 
 -- what is known of the bytes behind those taken, or nothing
@@ -110,7 +110,7 @@ pub line_read : (len : ℕ) (old new : List ℕ) → KeepsLine (Ok (Full len)) o
 line_read len old new keeps = record { free = keeps.2; short = omega (arith, keeps.0, keeps.1) }
 
 -- The lines read so far are a text up to this stage, and `pending` was taken behind them.
-pub record SoFar {A : Type 0} (r : Reading A) (stage : Stage) (number : ℕ) (pending : List ℕ) (before after : Option (List ℕ)) : Type 0 where
+pub record SoFar {A : Type 0} (r : Reading A) (stage : ReaderState) (number : ℕ) (pending : List ℕ) (before after : Option (List ℕ)) : Type 0 where
   pub lines : List (List ℕ)
   pub are_lines : All IsLine lines
   pub due : (k : ℕ) → k < length lines → IsMissingOf r (take k lines)
@@ -128,7 +128,7 @@ nothing_read r left = record {
   text = λ more text reads. reads;
 }
 
-module _ {A : Type 0} (r : Reading A) (stage : Stage) (number : ℕ) (pending : List ℕ) (before mid after : Option (List ℕ)) (line rest : List ℕ) (so_far : SoFar r stage number pending before mid) where
+module _ {A : Type 0} (r : Reading A) (stage : ReaderState) (number : ℕ) (pending : List ℕ) (before mid after : Option (List ℕ)) (line rest : List ℕ) (so_far : SoFar r stage number pending before mid) where
   abbrev lines : List (List ℕ)
   lines = so_far.lines
 
@@ -191,7 +191,7 @@ module _ {A : Type 0} (r : Reading A) (stage : Stage) (number : ℕ) (pending : 
         let Q : List ℕ → Type 0 = λ b. IsTextOf r (lines_of b) t in
         subst Q (sym (append_assoc (text_of_lines now) rest more)) (text_full (rest ++ more) t turnout feeds after_it)
 
-    pub goes_on : (next : Stage) → Feeds r.grammar stage line (turnouts.more next) → SoFar r next (number + 1) rest before after
+    pub goes_on : (next : ReaderState) → Feeds r.grammar stage line (turnouts.more next) → SoFar r next (number + 1) rest before after
     goes_on next feeds = record {
       lines = now;
       are_lines = all_lines lines so_far.are_lines is_line;

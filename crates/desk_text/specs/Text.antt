@@ -8,8 +8,8 @@ use Rattle.chess_text.specs.PositionText.{Feeds, Turnout, drafted}
 use Rattle.chess_text.specs.PositionText as turnouts
 use Rattle.chess_text.specs.declared.man_line.TextWhy.TheVariants as grammar
 use Rattle.chess_text.specs.declared.grammar.Grammar as kinds
-use Rattle.chess_text.specs.declared.reader.Stage.{Stage}
-use Rattle.chess_text.specs.declared.reader.Stage.TheVariants.{Header}
+use Rattle.chess_text.specs.declared.reader.ReaderState.{ReaderState}
+use Rattle.chess_text.specs.declared.reader.ReaderState.TheVariants.{Header}
 use Rattle.desk_text.specs.declared.problem.Problem.{Problem}
 use Rattle.desk_text.specs.declared.problem.WholeText.{WholeText}
 use Rattle.desk_text.specs.declared.text.LineWhy.{LineWhy}
@@ -42,13 +42,13 @@ abbrev pub texts_of : kinds.Grammar → Reading WholeText
 texts_of g = record { grammar = g; says = text_of }
 
 -- the text, after a line of this number of which the text makes that
-abbrev pub AfterLine : {A : Type 0} → Reading A → Turnout → ℕ → Lines → Text A → (Stage → Type 0) → Type 0
+abbrev pub AfterLine : {A : Type 0} → Reading A → Turnout → ℕ → Lines → Text A → (ReaderState → Type 0) → Type 0
 AfterLine r (turnouts.more next) number rest text go_on = go_on next
 AfterLine r (turnouts.complete d) number rest text go_on = text ≡ whole (r.says d number) rest
 AfterLine r (turnouts.wrong why) number rest text go_on = text ≡ refused number (Grammar why)
 
 -- the text that the lines are from this stage on, of which the first has this number
-abbrev pub ReadsLines : {A : Type 0} → Reading A → Stage → ℕ → Lines → Text A → Type 0
+abbrev pub ReadsLines : {A : Type 0} → Reading A → ReaderState → ℕ → Lines → Text A → Type 0
 ReadsLines r stage number (full line rest) text =
     (turnout : Turnout) × Feeds r.grammar stage line turnout
     × AfterLine r turnout number rest text (λ next. ReadsLines r next (number + 1) rest text)

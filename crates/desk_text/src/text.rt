@@ -12,7 +12,7 @@ ghost use Rattle.desk_text.specs.TextRead.{TextRead, TextReadOf};
 
 use crate::problem::{Problem, WholeText};
 use chess_game::Position;
-use chess_text::{Grammar, Step, TextReader, TextWhy};
+use chess_text::{Grammar, LineOutcome, TextReader, TextWhy};
 use desk_base::{Line, LineError, LineReader, Source};
 
 /// Why a line is refused.
@@ -120,8 +120,8 @@ pub fn read_text<S: Source>(
         let number = text.line_due();
         match reader.next_line(source) {
             Ok(Line::Full(_)) => match text.feed_line(reader.line()) {
-                Ok(Step::More) => {}
-                Ok(Step::Whole) => return Ok(whole_text(text, number)),
+                Ok(LineOutcome::More) => {}
+                Ok(LineOutcome::Whole) => return Ok(whole_text(text, number)),
                 Err(error) => {
                     return Err(TextEnd::Refused(error.line, LineWhy::Grammar(error.why)));
                 }

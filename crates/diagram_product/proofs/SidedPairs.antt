@@ -9,7 +9,7 @@ use Rattle.letter_diagram.specs.declared.diagrams.Shape.{Shape}
 use Rattle.diagram_product.specs.declared.absorbing.Absorbing.{Absorbing}
 use Rattle.letter_diagram.specs.Diagram.{map_at, top_track, chosen, Grows}
 use Rattle.letter_diagram.specs.Numbering.{Numbers, PairsKept}
-use Rattle.letter_diagram.specs.declared.pair_memo.Slot.{Slot}
+use Rattle.letter_diagram.specs.declared.pair_memo.PairSlot.{PairSlot}
 use Rattle.letter_diagram.specs.PairMemo.{AnswersNothing, LearnsPair}
 use Rattle.letter_diagram.specs.Splits.{room_from}
 use Rattle.diagram_product.specs.Absorbed.{absorbed, ArePairs}
@@ -49,14 +49,14 @@ IsPaired-grows {pairs'} {r} grows kept is =
       top = rw (tops, top_r) top;
     }
 
-pub RemembersPaired-nothing : {sides : Sides} {shapes : List Shape} {pairs : List (ℕ × ℕ)} {memo : List Slot} → AnswersNothing memo → RemembersPaired sides shapes pairs memo
+pub RemembersPaired-nothing : {sides : Sides} {shapes : List Shape} {pairs : List (ℕ × ℕ)} {memo : List PairSlot} → AnswersNothing memo → RemembersPaired sides shapes pairs memo
 RemembersPaired-nothing none = record { paired = λ a b r at. absurd (none a b r at) }
 
-pub RemembersPaired-grows : {sides : Sides} {old new : List Shape} {pairs pairs' : List (ℕ × ℕ)} {memo : List Slot} → Grows old new
+pub RemembersPaired-grows : {sides : Sides} {old new : List Shape} {pairs pairs' : List (ℕ × ℕ)} {memo : List PairSlot} → Grows old new
     → PairsKept pairs pairs' → RemembersPaired sides old pairs memo → RemembersPaired sides new pairs' memo
 RemembersPaired-grows grows kept all = record { paired = λ a b r at. IsPaired-grows grows kept (all.paired a b r at) }
 
-pub RemembersPaired-learn : {sides : Sides} {shapes : List Shape} {pairs : List (ℕ × ℕ)} {memo new : List Slot} {a b r : ℕ}
+pub RemembersPaired-learn : {sides : Sides} {shapes : List Shape} {pairs : List (ℕ × ℕ)} {memo new : List PairSlot} {a b r : ℕ}
     → RemembersPaired sides shapes pairs memo
     → LearnsPair memo new a b r → IsPaired sides shapes pairs a b r → RemembersPaired sides shapes pairs new
 RemembersPaired-learn {sides} {shapes} {pairs} all learns is = record { paired = pair_answers-learn (IsPaired sides shapes pairs) all.paired learns is }

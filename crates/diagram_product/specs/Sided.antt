@@ -7,7 +7,7 @@ use Rattle.letter_diagram.specs.declared.diagrams.Shape.TheVariants.{Leaf, Test}
 use Rattle.diagram_product.specs.declared.absorbing.Absorbing.{Absorbing}
 use Rattle.letter_diagram.specs.Diagram.{map_at, top_track, LooksBelow}
 use Rattle.letter_diagram.specs.Relabelled.{relabelled}
-use Rattle.letter_diagram.specs.declared.pair_memo.Slot.{Slot}
+use Rattle.letter_diagram.specs.declared.pair_memo.PairSlot.{PairSlot}
 use Rattle.letter_diagram.specs.PairMemo.{Answers}
 use Rattle.letter_diagram.specs.Splits.{room_from}
 use Rattle.diagram_product.specs.Paired.{NumbersPairs}
@@ -138,5 +138,5 @@ pub record IsPaired (sides : Sides) (shapes : List Shape) (pairs : List (ℕ × 
   pub top : pair_top sides shapes a b ≤ top_track shapes r
 
 -- the pairs of nodes in a memo are paired
-pub record RemembersPaired (sides : Sides) (shapes : List Shape) (pairs : List (ℕ × ℕ)) (memo : List Slot) : Type 0 where
+pub record RemembersPaired (sides : Sides) (shapes : List Shape) (pairs : List (ℕ × ℕ)) (memo : List PairSlot) : Type 0 where
   pub paired : (a b r : ℕ) → Answers memo a b r → IsPaired sides shapes pairs a b r

@@ -13,6 +13,6 @@ pub use absorbing::Absorbing;
 pub use apply::apply2;
 pub use pairs::Pairs;
 pub use product::Product;
-pub use side::{LentSide, Side};
+pub use side::{LentReader, NodeReader};
 pub use sided_product::SidedProduct;
 pub use sides::{PairShape, PairTest, TwoSides};

@@ -9,7 +9,7 @@ use limits::MOST_TRACKS;
 use std::marker::Model;
 
 /// A way to read nodes: those of another `Diagrams`, or those of the one to which nodes are added, which is `to`.
-pub trait Side: Drop {
+pub trait NodeReader: Drop {
     ghost reading: { Self → Reading };
 
     /// What a node looks at first, by the tracks from which its own tracks take their bits.
@@ -23,7 +23,7 @@ pub trait Side: Drop {
 #[derive(Drop)]
 pub struct Here;
 
-impl Side for Here {
+impl NodeReader for Here {
     ghost reading = { λ _. None };
 
     fn shape(&self, to: &Diagrams, node: Node) -> Shape {
@@ -33,14 +33,14 @@ impl Side for Here {
 
 /// Nodes of another `Diagrams`, each track of which takes its bit from a later or the same track.
 #[derive(Drop)]
-pub struct LentSide<'a> {
+pub struct LentReader<'a> {
     from: &'a Diagrams,
     tracks: Vec<u8>,
     ghost ascending: { IsStrictlyIncreasing tracks.items },
     ghost low: { All (λ track. track < MOST_TRACKS) tracks.items },
 }
 
-impl<'a> Model for LentSide<'a> {
+impl<'a> Model for LentReader<'a> {
     ghost use Rattle.diagram_product.specs.Sided.{LentNodes};
 
     ghost Value = { LentNodes };
@@ -48,7 +48,7 @@ impl<'a> Model for LentSide<'a> {
     ghost view = { λ s. record { shapes = s.from.now; tracks = s.tracks.items } };
 }
 
-impl<'a> LentSide<'a> {
+impl<'a> LentReader<'a> {
     /// Track t takes its bit from `tracks[t]`.
     pub fn new(from: &'a Diagrams, tracks: Vec<u8>) -> Self
         requires ascending { IsStrictlyIncreasing tracks.items }
@@ -56,7 +56,7 @@ impl<'a> LentSide<'a> {
         ensures shapes { result.shapes ≡ from.now }
         ensures tracks { result.tracks ≡ tracks.items }
     {
-        LentSide { from, tracks }
+        LentReader { from, tracks }
     }
 
     /// How many nodes are lent.
@@ -67,7 +67,7 @@ impl<'a> LentSide<'a> {
     }
 }
 
-impl<'a> Side for LentSide<'a> {
+impl<'a> NodeReader for LentReader<'a> {
     ghost use Rattle.std.specs.Prelude.{Some};
 
     ghost reading = { λ s. Some s };
@@ -85,7 +85,7 @@ impl<'a> Side for LentSide<'a> {
 }
 
 /// The value of a map where it is constant.
-pub(crate) fn constant<S: Side>(side: &S, to: &Diagrams, node: Node) -> Option<u32>
+pub(crate) fn constant<S: NodeReader>(side: &S, to: &Diagrams, node: Node) -> Option<u32>
     requires { CanBeRead (S.reading side.now) to.now node }
     ensures constant { IfSome result
         (λ value. (letter : ℕ) → read_at (S.reading side.now) to.now node letter ≡ value) }
@@ -99,7 +99,7 @@ pub(crate) fn constant<S: Side>(side: &S, to: &Diagrams, node: Node) -> Option<u
 }
 
 /// The least track that a map looks at, or 20 where it is constant.
-pub(crate) fn top<S: Side>(side: &S, to: &Diagrams, node: Node) -> u8
+pub(crate) fn top<S: NodeReader>(side: &S, to: &Diagrams, node: Node) -> u8
     requires { CanBeRead (S.reading side.now) to.now node }
     ensures { result ≡ read_top (S.reading side.now) to.now node }
 {
@@ -110,7 +110,7 @@ pub(crate) fn top<S: Side>(side: &S, to: &Diagrams, node: Node) -> u8
 }
 
 /// A map where the bit of a track is 0, and where it is 1.
-pub(crate) fn split<S: Side>(side: &S, to: &Diagrams, node: Node, track: u8) -> (Node, Node)
+pub(crate) fn split<S: NodeReader>(side: &S, to: &Diagrams, node: Node, track: u8) -> (Node, Node)
     requires read { CanBeRead (S.reading side.now) to.now node }
     requires track_low { track < MOST_TRACKS }
     requires below { track ≤ read_top (S.reading side.now) to.now node }

@@ -8,7 +8,7 @@ ghost use Rattle.diagram_product.specs.Product.{read_pair_at, AddsReadPairs};
 
 use crate::absorbing::Absorbing;
 use crate::pairs::Pairs;
-use crate::side::LentSide;
+use crate::side::LentReader;
 use crate::sides::TwoSides;
 use letter_diagram::{Diagrams, Node, PairMemo};
 use limits::MOST_TRACKS;
@@ -19,7 +19,7 @@ use std::marker::Model;
 /// common is done once, and no node of a side is copied.
 #[derive(Drop)]
 pub struct SidedProduct<'a> {
-    sides: TwoSides<LentSide<'a>>,
+    sides: TwoSides<LentReader<'a>>,
     diagrams: Diagrams,
     pairs: Pairs,
     memo: PairMemo,
@@ -41,8 +41,8 @@ impl<'a> SidedProduct<'a> {
     /// larger side has nodes.
     pub fn new(
         alloc: Global,
-        left: LentSide<'a>,
-        right: LentSide<'a>,
+        left: LentReader<'a>,
+        right: LentReader<'a>,
         pairs: Pairs,
         absorbing: Absorbing,
     ) -> Result<Self, AllocError>

@@ -7,7 +7,7 @@ ghost use Rattle.diagram_product.specs.Shapes.{IsPairTest, IsPairShape};
 
 use crate::absorbing::{Absorbing, absorbs};
 use crate::pairs::Pairs;
-use crate::side::{Here, Side, constant, split, top};
+use crate::side::{Here, NodeReader, constant, split, top};
 use letter_diagram::{Diagrams, Node, PairMemo};
 use limits::MOST_TRACKS;
 use std::alloc::AllocError;
@@ -31,13 +31,13 @@ pub enum PairShape {
 
 /// Both sides of a product, and which of their values absorb the other's.
 #[derive(Drop)]
-pub struct TwoSides<S: Side> {
+pub struct TwoSides<S: NodeReader> {
     pub(crate) left: S,
     pub(crate) right: S,
     pub(crate) absorbing: Absorbing,
 }
 
-impl<S: Side> Model for TwoSides<S> {
+impl<S: NodeReader> Model for TwoSides<S> {
     ghost use Rattle.diagram_product.specs.Sided.{Sides};
 
     ghost Value = { Sides };
@@ -58,7 +58,7 @@ impl TwoSides<Here> {
     }
 }
 
-impl<S: Side> TwoSides<S> {
+impl<S: NodeReader> TwoSides<S> {
     pub fn new(left: S, right: S, absorbing: Absorbing) -> Self
         ensures left { result.left ≡ S.reading left }
         ensures right { result.right ≡ S.reading right }

@@ -11,7 +11,7 @@ use asking::ask;
 use bench::Bench;
 use making::make;
 use std::process::ExitCode;
-use trial_rows::{Fields, Row, RowError, Rows, answer_script};
+use trial_rows::{Fields, Row, RowError, RowInterpreter, answer_script};
 
 /// No row names anything.
 #[derive(Drop)]
@@ -38,7 +38,7 @@ fn diagram_row(row: &mut Row) -> Result<(), RowError> {
     Ok(())
 }
 
-impl Rows for Diagram {
+impl RowInterpreter for Diagram {
     fn answer(&mut self, kind: &str, row: &mut Row) -> Result<(), RowError> {
         match kind {
             "diagram" => diagram_row(row),

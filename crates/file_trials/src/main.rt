@@ -8,7 +8,7 @@ mod spelling;
 
 use rows::{file_row, noise_row, of_file};
 use std::process::ExitCode;
-use trial_rows::{Named, Row, RowError, Rows, answer_script};
+use trial_rows::{Named, Row, RowError, RowInterpreter, answer_script};
 
 /// The bytes of the files that rows have named.
 #[derive(Drop)]
@@ -16,7 +16,7 @@ struct Files {
     named: Named<Vec<u8>>,
 }
 
-impl Rows for Files {
+impl RowInterpreter for Files {
     fn answer(&mut self, kind: &str, row: &mut Row) -> Result<(), RowError> {
         match kind {
             "file" => file_row(&mut self.named, row),

@@ -1,4 +1,4 @@
-//! The rows, each a call of `strategy_file` or `file_writing`.
+//! The rows, each a call of `strategy_file` or `strategy_writer`.
 
 ghost use Rattle.std.specs.Prelude.{◌≡◌, IfOk};
 ghost use Rattle.winning_sets.specs.declared.origin.Origin.TheVariants.{Plan};
@@ -8,10 +8,10 @@ ghost use Rattle.strategy_file.specs.Fitting.{HasFileOf};
 use crate::outcome::write_read;
 use crate::spelling::spelled;
 use auto_core::Auto;
-use file_writing::{WriteFileError, write_claim, write_file, write_file_1};
 use limits::Budget;
 use std::alloc::Global;
 use strategy_file::{Claim, FileError, Version, read_file};
+use strategy_writer::{WriteFileError, write_claim, write_file, write_file_1};
 use trial_rows::{Named, Row, RowError};
 use winning_sets::{SolveError, Solved, solve};
 

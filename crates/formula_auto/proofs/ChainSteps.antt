@@ -14,15 +14,15 @@ use Rattle.formula_auto.specs.PartOf.{IsRememberedOn}
 use Rattle.formula_auto.specs.declared.chain.Extension.{Extension}
 use Rattle.formula_auto.specs.declared.chain.Link.{Link}
 use Rattle.formula_auto.specs.declared.chain.Link.TheVariants.{Made}
-use Rattle.formula_auto.specs.declared.standing.Standing.{Standing}
+use Rattle.formula_auto.specs.declared.standing.PartPosition.{PartPosition}
 use Rattle.formula_auto.specs.declared.standing.Recall.{Recall}
 use Rattle.formula_auto.specs.declared.standing.Recall.TheVariants.{Plain, Nothing}
 use Rattle.formula_auto.specs.declared.errors.CompileError.{CompileError}
-use Rattle.formula_auto.specs.declared.pair.Pair.{Pair}
+use Rattle.formula_auto.specs.declared.pair.FormulaPair.{FormulaPair}
 use Rattle.formula_auto.specs.declared.part_auto.Remembered.{Remembered}
 use Rattle.formula_auto.proofs.WithMemo.{remembered_two, remembered_as, interrupted_left, interrupted_right, interrupted_at_two}
 
-abbrev pub as_pair : Extension → Pair
+abbrev pub as_pair : Extension → FormulaPair
 as_pair extension = record { connective = And; left = extension.left; right = extension.right }
 
 some_symbol : (n k : ℕ) (b : Bool) → IsTrue (nat_lt 0 n) → (nat_eq (n + k) 0 && b) ≡ false
@@ -42,11 +42,11 @@ module _ (extension : Extension) (is : IsExtension extension) where
   outside : (r : Recall) → is_recalled r (and_of extension) ≡ false
   outside r = extension-outside r extension is
 
-  pub stopped_before : {standing : Standing} {m0 m1 : MemoState} {e : ℕ → SetOf} {why : CompileError} → IsInterrupted (tree_of extension.left.now) e standing m0 m1 why
+  pub stopped_before : {standing : PartPosition} {m0 m1 : MemoState} {e : ℕ → SetOf} {why : CompileError} → IsInterrupted (tree_of extension.left.now) e standing m0 m1 why
       → IsInterrupted (and_of extension) e standing m0 m1 why
   stopped_before {standing} h = interrupted_left (as_pair extension) (outside standing.recall) tt h
 
-  module _ {standing : Standing} {m0 m1 : MemoState} {e : ℕ → SetOf} {a : Automaton} {last : ℕ} (left : IsRemembered (tree_of extension.left.now) e standing m0 m1 a last) where
+  module _ {standing : PartPosition} {m0 m1 : MemoState} {e : ℕ → SetOf} {a : Automaton} {last : ℕ} (left : IsRemembered (tree_of extension.left.now) e standing m0 m1 a last) where
     pub stopped_beside : {m2 : MemoState} {why : CompileError} → IsInterrupted (tree_of extension.right.now) e (record standing { before = last }) m1 m2 why
         → IsInterrupted (and_of extension) e standing m0 m2 why
     stopped_beside h = interrupted_right (as_pair extension) (outside standing.recall) tt left h
@@ -73,7 +73,7 @@ module _ (extension : Extension) (is : IsExtension extension) where
           subst (IsInterrupted (and_of extension) e standing m0 m2) (sym h.is)
           (interrupted_at_two (as_pair extension) (outside standing.recall) tt left right h.cause h.over)
 
-module _ {f : Tree} {standing : Standing} {old new : MemoState} {l k : MeetState} where
+module _ {f : Tree} {standing : PartPosition} {old new : MemoState} {l k : MeetState} where
   -- a chain begins with what is made
   pub linked-made : {made : Remembered} → IsRememberedOn f standing old new l k made → IsLinkedOn f standing old new l k (Made made)
   linked-made part = record {

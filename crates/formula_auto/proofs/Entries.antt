@@ -10,20 +10,20 @@ use Rattle.auto_core.specs.Automaton.{Automaton}
 use Rattle.lin_formula.specs.Tree.{Tree}
 use Rattle.lin_formula.specs.TreeOf.{tree_of}
 use Rattle.lin_formula.specs.declared.formula.Formula.{Formula}
-use Rattle.formula_auto.specs.declared.entry.Entry.{Entry}
+use Rattle.formula_auto.specs.declared.entry.MemoEntry.{MemoEntry}
 use Rattle.formula_auto.specs.EntryOf.{entry_of, IsPlaceOf}
 
 abbrev pub tree_in : Formula × Automaton → Tree
 tree_in entry = tree_of entry.0
 
 -- no entry before a place has the formula
-abbrev pub None_of : Tree → List Entry → Type 0
+abbrev pub None_of : Tree → List MemoEntry → Type 0
 None_of f entries = All (λ entry. tree_of entry.formula ≢ f) entries
 
-pub none_at_end : (entries : List Entry) (f : Tree) (place : ℕ) → length entries ≤ place → None_of f (take place entries) → None_of f entries
+pub none_at_end : (entries : List MemoEntry) (f : Tree) (place : ℕ) → length entries ≤ place → None_of f (take place entries) → None_of f entries
 none_at_end entries f place past none = subst (None_of f) (take_all place entries past) none
 
-pub found_at : (entries : List Entry) (f : Tree) (place : ℕ) (entry : Entry) → place < length entries
+pub found_at : (entries : List MemoEntry) (f : Tree) (place : ℕ) (entry : MemoEntry) → place < length entries
     → entry ≡ get_or entries place entry → tree_of entry.formula ≡ f → IsPlaceOf entries f place
 found_at entries f place entry within is same = record {
   entry = entry;
@@ -32,13 +32,13 @@ found_at entries f place entry within is same = record {
 }
 
 -- where no entry has the formula, it is not known
-pub not_known : (items : List Entry) (f : Tree) → None_of f items → Contains (map tree_in (map entry_of items)) f → ⊥
+pub not_known : (items : List MemoEntry) (f : Tree) → None_of f items → Contains (map tree_in (map entry_of items)) f → ⊥
 not_known items f none there =
     let trees : All (λ t. t ≢ f) (map tree_in (map entry_of items)) =
     All-map (λ t. t ≢ f) tree_in (map entry_of items) (All-map (λ (en : Formula × Automaton). tree_in en ≢ f) entry_of items none) in
     All-contains (λ t. t ≢ f) (map tree_in (map entry_of items)) f trees there refl
 
-module _ {items : List Entry} {f : Tree} {place : ℕ} (at : IsPlaceOf items f place) where
+module _ {items : List MemoEntry} {f : Tree} {place : ℕ} (at : IsPlaceOf items f place) where
   pub mapped_there : slice_get (map entry_of items) place ≡ Some (entry_of at.entry)
   mapped_there = slice_get-map entry_of items place ∙ ap (option_map entry_of) at.there
 
@@ -54,7 +54,7 @@ get-last {X = X} xs x place size =
     ∙ ap (λ (y : X). Some y) (subst (λ k. get_or (xs ++ x ∷ []) k x ≡ x) size (get_or-append_seam xs x [] x))
 
 -- one more entry
-module _ (items longer : List Entry) (en : Entry) (pushed : longer ≡ items ++ en ∷ []) where
+module _ (items longer : List MemoEntry) (en : MemoEntry) (pushed : longer ≡ items ++ en ∷ []) where
   pub entries_is : map entry_of longer ≡ map entry_of items ++ entry_of en ∷ []
   entries_is = ap (map entry_of) pushed ∙ map-append entry_of items (en ∷ [])
 

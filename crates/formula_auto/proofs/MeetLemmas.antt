@@ -7,17 +7,17 @@ use Rattle.auto_core.specs.Automaton.{Automaton}
 use Rattle.lin_formula.specs.Tree.{Tree}
 use Rattle.lin_formula.specs.TreeOf.{tree_of}
 use Rattle.lin_formula.specs.declared.formula.Formula.{Formula}
-use Rattle.formula_auto.specs.declared.entry.Entry.{Entry}
+use Rattle.formula_auto.specs.declared.entry.MemoEntry.{MemoEntry}
 use Rattle.formula_auto.specs.EntryOf.{entry_of, IsPlaceOf}
 use Rattle.formula_auto.specs.MeetState.{MeetState, IsPair, IsMeetTable, IsPairAt, MeetsGrow}
 use Rattle.formula_auto.proofs.Entries.{mapped_there, mapped_all, entries_is, all_pushed, last_pushed}
 
 -- the fields of a table of meets as contracts see them
-abbrev pub meets_of : List Automaton → ℕ → List Entry → MeetState
+abbrev pub meets_of : List Automaton → ℕ → List MemoEntry → MeetState
 meets_of sets budget items = record { sets = sets; budget = budget; pairs = map entry_of items }
 
-module _ (sets : List Automaton) (budget : ℕ) (items : List Entry) (l : MeetState) (view_is : meets_of sets budget items ≡ l) where
-  pub pair_found : (slice : List Entry) (f : Tree) (place : Option ℕ) → slice ≡ items
+module _ (sets : List Automaton) (budget : ℕ) (items : List MemoEntry) (l : MeetState) (view_is : meets_of sets budget items ≡ l) where
+  pub pair_found : (slice : List MemoEntry) (f : Tree) (place : Option ℕ) → slice ≡ items
       → IsMeetTable (meets_of sets budget items) → IfSome place (IsPlaceOf slice f) → IfSome place (IsPairAt l f)
   pair_found slice f None same meets some = some
   pair_found slice f (Some k) same meets some =
@@ -30,7 +30,7 @@ module _ (sets : List Automaton) (budget : ℕ) (items : List Entry) (l : MeetSt
       } in
       subst (λ t. IsPairAt l t k) at.same (subst (λ n. IsPairAt n (tree_of at.entry.formula) k) view_is here)
 
-  module _ (longer : List Entry) (en : Entry) (pushed : longer ≡ items ++ en ∷ []) where
+  module _ (longer : List MemoEntry) (en : MemoEntry) (pushed : longer ≡ items ++ en ∷ []) where
     pub meets-pushed : (f : Tree) → tree_of en.formula ≡ f → IsMeetTable (meets_of sets budget items) → IsPair l.sets l.budget f en.auto → IsMeetTable (meets_of sets budget longer)
     meets-pushed f tree meets pair =
         let here : IsPair sets budget f en.auto = subst (λ n. IsPair n.sets n.budget f en.auto) (sym view_is) pair in

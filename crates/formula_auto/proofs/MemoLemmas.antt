@@ -4,7 +4,7 @@ use Rattle.std.specs.List.{Contains, slice_get}
 use Rattle.std.specs.Prelude.{Option, IfNone, IfSome, MatchOption}
 use Rattle.std.proofs.lemmas.Option.{slice_get_within, get_or_from_slice_get}
 use Rattle.lin_formula.specs.TreeOf.{tree_of}
-use Rattle.formula_auto.specs.declared.entry.Entry.{Entry}
+use Rattle.formula_auto.specs.declared.entry.MemoEntry.{MemoEntry}
 use Rattle.formula_auto.specs.EntryOf.{entry_of, IsPlaceOf}
 use Rattle.std.proofs.lemmas.List.{map-append, length-map}
 use Rattle.std.proofs.Math.ListN.{get_or-map}
@@ -18,7 +18,7 @@ use Rattle.formula_auto.specs.PlainParts.{is_plain, plain_within, plain_parts}
 use Rattle.formula_auto.specs.Recalled.{is_recalled, recalled_within, recalled_parts}
 use Rattle.formula_auto.specs.MemoState.{MemoState, IsEntry, IsMemo, IsEntryAt, known, counted, with_entry, IsMemoAfter}
 use Rattle.formula_auto.specs.Remembered.{IsStopped}
-use Rattle.formula_auto.specs.declared.standing.Standing.{Standing}
+use Rattle.formula_auto.specs.declared.standing.PartPosition.{PartPosition}
 use Rattle.formula_auto.specs.declared.standing.Recall.{Recall}
 use Rattle.formula_auto.specs.declared.standing.Recall.TheVariants.{Plain, Nothing}
 use Rattle.formula_auto.specs.declared.errors.CompileError.{CompileError}
@@ -98,7 +98,7 @@ pub recalled-stepless : (r : Recall) (f : Tree) (n : ℕ) → steps f ≡ [] →
 recalled-stepless Plain f n none = stepless f n none
 recalled-stepless Nothing f n none = refl
 
-module _ {standing : Standing} {f : Tree} {old new : MemoState} where
+module _ {standing : PartPosition} {f : Tree} {old new : MemoState} where
   -- memory ran out before a step of the formula
   pub stopped-memory : IsMemoAfter old new [] → IsStopped f standing old new Memory
   stopped-memory after = record {
@@ -164,10 +164,10 @@ known-at m f place at =
     subst (Contains (known m)) at.same (place, omega (arith, size, within), tree)
 
 -- the fields of a memo as contracts see them
-abbrev pub state_of : ℕ → List Entry → ℕ → MemoState
+abbrev pub state_of : ℕ → List MemoEntry → ℕ → MemoState
 state_of budget items found = record { budget = budget; entries = map entry_of items; found = found }
 
-module _ (budget found : ℕ) (items fields : List Entry) (m : MemoState) (same_items : items ≡ fields) (view_is : state_of budget fields found ≡ m) where
+module _ (budget found : ℕ) (items fields : List MemoEntry) (m : MemoState) (same_items : items ≡ fields) (view_is : state_of budget fields found ≡ m) where
   view : state_of budget items found ≡ m
   view = subst (λ l. state_of budget l found ≡ m) (sym same_items) view_is
 
@@ -188,7 +188,7 @@ module _ (budget found : ℕ) (items fields : List Entry) (m : MemoState) (same_
   found_or_not f None memo none some = λ there. not_known items f none (subst (λ n. Contains (known n) f) (sym view) there)
   found_or_not f (Some k) memo none some = one_found memo some
 
-module _ (budget found : ℕ) (items longer : List Entry) (m : MemoState) (en : Entry) (f : Tree) (view : state_of budget items found ≡ m) (pushed : longer ≡ items ++ en ∷ [])
+module _ (budget found : ℕ) (items longer : List MemoEntry) (m : MemoState) (en : MemoEntry) (f : Tree) (view : state_of budget items found ≡ m) (pushed : longer ≡ items ++ en ∷ [])
     (some_room : length m.entries < 2 ^ 32 - 1) (tree : tree_of en.formula ≡ f) where
   entries_are : map entry_of longer ≡ map entry_of items ++ entry_of en ∷ []
   entries_are = entries_is items longer en pushed

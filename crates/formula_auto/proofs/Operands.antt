@@ -23,8 +23,8 @@ use Rattle.formula_auto.specs.declared.joint.Joint.TheVariants as joint
 use Rattle.formula_auto.specs.Compiled.{IsAccessible}
 use Rattle.auto_bool.specs.declared.connective.Connective.{Connective}
 use Rattle.auto_bool.specs.declared.connective.Connective.TheVariants.{And, Or, AndNot}
-use Rattle.formula_auto.specs.declared.pair.Pair.{Pair}
-use Rattle.formula_auto.specs.declared.standing.Standing.{Standing}
+use Rattle.formula_auto.specs.declared.pair.FormulaPair.{FormulaPair}
+use Rattle.formula_auto.specs.declared.standing.PartPosition.{PartPosition}
 use Rattle.formula_auto.specs.declared.part_auto.PartAuto.{PartAuto}
 use Rattle.formula_auto.specs.declared.part_auto.PartAuto.TheVariants.{Fresh, Kept, Paired, Named, Shared}
 use Rattle.formula_auto.specs.declared.part_auto.Remembered.{Remembered}
@@ -130,7 +130,7 @@ module _ (connective : Connective) (m : MemoState) (l : MeetState) (left right :
       record { auto = c; has = refl; reached = made.1; step = made.0 }
 
 -- a part whose automaton serves is what the step makes
-module _ (pair : Pair) {e : ℕ → SetOf} {standing : Standing} {m0 m1 m2 : MemoState} {l k : MeetState} {left right : Remembered}
+module _ (pair : FormulaPair) {e : ℕ → SetOf} {standing : PartPosition} {m0 m1 m2 : MemoState} {l k : MeetState} {left right : Remembered}
     (outside : is_recalled standing.recall (connected pair) ≡ false) (one : MayBeOneStep standing.recall pair.connective (tree_of pair.right.now))
     (first : IsRememberedPart (tree_of pair.left.now) e standing m0 m1 l left)
     (second : IsRememberedPart (tree_of pair.right.now) e (record standing { before = left.done }) m1 m2 k right) where

@@ -11,7 +11,7 @@ use Rattle.formula_auto.specs.MeetState.{MeetState, is_pair, IsPair, IsPairAt, M
 use Rattle.formula_auto.specs.MemoState.{MemoState, IsMemoAfter}
 use Rattle.formula_auto.specs.Recalled.{is_recalled, recalled_parts}
 use Rattle.formula_auto.specs.PartOf.{IsPart, IsRememberedPart}
-use Rattle.formula_auto.specs.declared.standing.Standing.{Standing}
+use Rattle.formula_auto.specs.declared.standing.PartPosition.{PartPosition}
 use Rattle.formula_auto.specs.declared.standing.Recall.{Recall}
 use Rattle.formula_auto.specs.declared.standing.Recall.TheVariants.{Plain, Nothing}
 use Rattle.formula_auto.specs.declared.part_auto.PartAuto.TheVariants.{Paired}
@@ -53,7 +53,7 @@ module _ (f : Tree) (pair : is_pair f ≡ true) where
   pub pair_size : length (steps f) ≡ 1
   pair_size = subst (λ g. length (steps g) ≡ 1) (sym are.is) refl
 
-  module _ (standing : Standing) (m : MemoState) (l : MeetState) (same : l.budget ≡ m.budget) where
+  module _ (standing : PartPosition) (m : MemoState) (l : MeetState) (same : l.budget ≡ m.budget) where
     -- what was remembered serves again
     pub part-paired : {place : ℕ} → IsPairAt l f place → IsRememberedPart f (tables l.sets) standing m m l (record { part = Paired place; done = standing.before + 1 })
     part-paired {place = place} at = record {
@@ -73,7 +73,7 @@ module _ (f : Tree) (pair : is_pair f ≡ true) where
     }
 
   -- what was made may be remembered
-  pub may_remember : {standing : Standing} {old new : MemoState} {l k : MeetState} {made : Remembered} {a : Automaton} → IsRememberedPart f (tables l.sets) standing old new k made
+  pub may_remember : {standing : PartPosition} {old new : MemoState} {l k : MeetState} {made : Remembered} {a : Automaton} → IsRememberedPart f (tables l.sets) standing old new k made
       → l.budget ≡ old.budget → MeetsGrow l k → IsPart new k made.part a → IsPair k.sets k.budget f a
   may_remember {standing = standing} {old = old} {l = l} {k = k} {a = a} part same grows has =
       let remembered = lent part has in
@@ -87,7 +87,7 @@ module _ (f : Tree) (pair : is_pair f ≡ true) where
       } in
       subst (λ s. IsPair s k.budget f a) (sym grows.sets) (subst (λ b. IsPair l.sets b f a) (sym (grows.budget ∙ same)) here)
 
-  pub part-remembered : {standing : Standing} {old new : MemoState} {e : ℕ → SetOf} {l k : MeetState} {made : Remembered} {a : Automaton} {place : ℕ}
+  pub part-remembered : {standing : PartPosition} {old new : MemoState} {e : ℕ → SetOf} {l k : MeetState} {made : Remembered} {a : Automaton} {place : ℕ}
       → IsRememberedPart f e standing old new l made → IsPart new l made.part a → (g : Formula) × (slice_get k.pairs place ≡ Some (g, a))
       → IsRememberedPart f e standing old new k (record { part = Paired place; done = made.done })
   part-remembered {a = a} part has there = record {

@@ -18,7 +18,7 @@ use Rattle.formula_auto.specs.Recalled.{is_recalled, start}
 use Rattle.formula_auto.specs.declared.standing.Recall.{Recall}
 use Rattle.formula_auto.specs.Remembered.{IsRemembered}
 use Rattle.formula_auto.specs.PartOf.{IsPart, IsRememberedPart}
-use Rattle.formula_auto.specs.declared.standing.Standing.{Standing}
+use Rattle.formula_auto.specs.declared.standing.PartPosition.{PartPosition}
 use Rattle.formula_auto.specs.declared.part_auto.PartAuto.{PartAuto}
 use Rattle.formula_auto.specs.declared.part_auto.PartAuto.TheVariants.{Fresh, Kept, Paired, Named, Shared}
 use Rattle.formula_auto.specs.declared.part_auto.Remembered.{Remembered}
@@ -58,7 +58,7 @@ part-after {old} {new} {fs} {l} {k} (Shared auto) a has after grows = has
 pub same_few : {n m : ℕ} (a : Automaton) → n ≡ m → length a.accept ≤ n → length a.accept ≤ m
 same_few a same = subst (λ n. length a.accept ≤ n) same
 
-module _ {f : Tree} {e : ℕ → SetOf} {standing : Standing} {l : MeetState} where
+module _ {f : Tree} {e : ℕ → SetOf} {standing : PartPosition} {l : MeetState} where
   pub part-fresh : {old new : MemoState} {a : Automaton} {last : ℕ} {made : Remembered} → made ≡ record { part = Fresh a; done = last }
       → AllReached a → (0 < length (steps f) → length a.accept ≤ old.budget) → IsRemembered f e standing old new a last → IsRememberedPart f e standing old new l made
   part-fresh {old = old} {new = new} {a = a} is reached few remembered =

@@ -8,7 +8,7 @@ use Rattle.formula_auto.specs.Remembered.{IsStopped}
 use Rattle.formula_auto.specs.Connected.{connect}
 use Rattle.auto_bool.specs.declared.connective.Connective.{Connective}
 use Rattle.auto_bool.specs.declared.connective.Connective.TheVariants as connective
-use Rattle.formula_auto.specs.declared.standing.Standing.{Standing}
+use Rattle.formula_auto.specs.declared.standing.PartPosition.{PartPosition}
 use Rattle.formula_auto.specs.declared.standing.Recall.{Recall}
 use Rattle.formula_auto.specs.declared.standing.Recall.TheVariants as recall
 use Rattle.formula_auto.specs.declared.errors.CompileError.{CompileError}
@@ -155,7 +155,7 @@ of_two recall.Nothing connective.And f g h one = record { parts = λ n. refl; si
 of_two recall.Nothing connective.Or f g h one = record { parts = λ n. refl; size = both_fit f g (Or f g) }
 of_two recall.Nothing connective.AndNot f g h one = record { parts = λ n. refl; size = both_fit f g (And f (Not g)) }
 
-module _ {standing : Standing} {h f : Tree} {a b : MemoState} {why : CompileError} (one : IsOfOne standing.recall h f) where
+module _ {standing : PartPosition} {h f : Tree} {a b : MemoState} {why : CompileError} (one : IsOfOne standing.recall h f) where
   pub stopped_one : IsStopped f standing a b why → IsStopped h standing a b why
   stopped_one part = record {
     done = part.done;
@@ -204,7 +204,7 @@ module _ {r : Recall} {h f g : Tree} (two : IsOfTwo r h f g) where
     pub after_two : IsMemoAfter b c (recalled_parts r g) → IsMemoAfter a c (recalled_parts r h)
     after_two right = subst (IsMemoAfter a c) two_all (after-append left right)
 
-module _ {standing : Standing} {h f g : Tree} (two : IsOfTwo standing.recall h f g) where
+module _ {standing : PartPosition} {h f g : Tree} (two : IsOfTwo standing.recall h f g) where
   pub stopped_left : {a b : MemoState} {why : CompileError} → IsStopped f standing a b why → IsStopped h standing a b why
   stopped_left {a = a} {b = b} part = record {
     done = part.done;

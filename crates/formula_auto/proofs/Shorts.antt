@@ -11,7 +11,7 @@ use Rattle.formula_auto.specs.MemoState.{MemoState, IsMemoAfter}
 use Rattle.formula_auto.specs.MeetState.{MeetState}
 use Rattle.formula_auto.specs.PartOf.{IsRememberedPart}
 use Rattle.formula_auto.specs.Short.{is_short, IsShort, IsShortPart}
-use Rattle.formula_auto.specs.declared.standing.Standing.{Standing}
+use Rattle.formula_auto.specs.declared.standing.PartPosition.{PartPosition}
 use Rattle.formula_auto.specs.declared.standing.Recall.{Recall}
 use Rattle.formula_auto.specs.declared.standing.Recall.TheVariants.{Plain, Nothing}
 use Rattle.formula_auto.specs.declared.plain.TheConstants.{MOST_SHORT_STEPS}
@@ -61,7 +61,7 @@ short_same short same reached fewer = record {
       record { made = made_same same was.made; reached = reached; few = λ some. let few = was.few some in omega (arith, fewer, few) };
 }
 
-module _ {f : Tree} {standing : Standing} {old new : MemoState} {l : MeetState} {e : ℕ → SetOf} where
+module _ {f : Tree} {standing : PartPosition} {old new : MemoState} {l : MeetState} {e : ℕ → SetOf} where
   -- what compiling it made may be kept
   pub short_part : {made : Remembered} → is_short f ≡ true → IsRememberedPart f e standing old new l made → IsShortPart new l f made.part
   short_part short part = record {

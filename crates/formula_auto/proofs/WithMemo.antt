@@ -21,8 +21,8 @@ use Rattle.formula_auto.specs.Recalled.{is_recalled, start, MayBeOneStep}
 use Rattle.formula_auto.specs.Step.{FirstOver, Exceeds}
 use Rattle.formula_auto.specs.MemoState.{MemoState, IsEntry, known, counted, IsMemoAfter, IsMemoStopped}
 use Rattle.formula_auto.specs.Remembered.{IsRemembered, IsStopped, IsInterrupted}
-use Rattle.formula_auto.specs.declared.pair.Pair.{Pair}
-use Rattle.formula_auto.specs.declared.standing.Standing.{Standing}
+use Rattle.formula_auto.specs.declared.pair.FormulaPair.{FormulaPair}
+use Rattle.formula_auto.specs.declared.standing.PartPosition.{PartPosition}
 use Rattle.formula_auto.specs.declared.standing.Recall.{Recall}
 use Rattle.formula_auto.specs.declared.standing.Recall.TheVariants.{Plain, Nothing}
 use Rattle.formula_auto.specs.declared.errors.CompileError.{CompileError}
@@ -39,7 +39,7 @@ number_of : (step : ℕ) (why : Grown) (k : ℕ) → step_error step why ≡ Ove
 number_of step grown.Over k is = cc
 number_of step grown.Memory k is = absurd (cc)
 
-module _ {e : ℕ → SetOf} {standing : Standing} {f : Tree} {m0 m1 : MemoState} where
+module _ {e : ℕ → SetOf} {standing : PartPosition} {f : Tree} {m0 m1 : MemoState} where
   module _ (outside : is_recalled standing.recall (Not f) ≡ false) where
     pub interrupted_not : {why : CompileError} → IsInterrupted f e standing m0 m1 why → IsInterrupted (Not f) e standing m0 m1 why
     interrupted_not {why = why} part = record {
@@ -87,16 +87,16 @@ module _ {e : ℕ → SetOf} {standing : Standing} {f : Tree} {m0 m1 : MemoState
 pub made_same : {f : Tree} {e : ℕ → SetOf} {before budget : ℕ} {a c : Automaton} → AcceptSame a c → IsMade f e before budget a → IsMade f e before budget c
 made_same same made = record { decides = still_decides same made.decides; within = made.within }
 
-abbrev left_of : Pair → Tree
+abbrev left_of : FormulaPair → Tree
 left_of pair = tree_of pair.left.now
 
-abbrev right_of : Pair → Tree
+abbrev right_of : FormulaPair → Tree
 right_of pair = tree_of pair.right.now
 
-of_pair : (r : Recall) (pair : Pair) → is_recalled r (connected pair) ≡ false → MayBeOneStep r pair.connective (right_of pair) → IsOfTwo r (connected pair) (left_of pair) (right_of pair)
+of_pair : (r : Recall) (pair : FormulaPair) → is_recalled r (connected pair) ≡ false → MayBeOneStep r pair.connective (right_of pair) → IsOfTwo r (connected pair) (left_of pair) (right_of pair)
 of_pair r pair outside one = of_two r pair.connective (left_of pair) (right_of pair) outside one
 
-module _ (pair : Pair) {e : ℕ → SetOf} {standing : Standing} {m0 m1 : MemoState} (outside : is_recalled standing.recall (connected pair) ≡ false)
+module _ (pair : FormulaPair) {e : ℕ → SetOf} {standing : PartPosition} {m0 m1 : MemoState} (outside : is_recalled standing.recall (connected pair) ≡ false)
     (one : MayBeOneStep standing.recall pair.connective (right_of pair)) where
   pub interrupted_left : {why : CompileError} → IsInterrupted (left_of pair) e standing m0 m1 why → IsInterrupted (connected pair) e standing m0 m1 why
   interrupted_left {why = why} part = record {
@@ -148,7 +148,7 @@ module _ (pair : Pair) {e : ℕ → SetOf} {standing : Standing} {m0 m1 : MemoSt
       interrupted_at_both why over = interrupted_at_two why (λ is. on_theirs.0 (over is))
 
 -- another automaton that decides the formula serves as well
-pub remembered_as : {f : Tree} {e : ℕ → SetOf} {standing : Standing} {m0 m1 : MemoState} {a c : Automaton} {last : ℕ} → IsRemembered f e standing m0 m1 a last
+pub remembered_as : {f : Tree} {e : ℕ → SetOf} {standing : PartPosition} {m0 m1 : MemoState} {a c : Automaton} {last : ℕ} → IsRemembered f e standing m0 m1 a last
     → Decides c f (members e) → IsRemembered f e standing m0 m1 c last
 remembered_as made decides = record {
   counts = made.counts;
@@ -156,7 +156,7 @@ remembered_as made decides = record {
   after = made.after;
 }
 
-module _ {e : ℕ → SetOf} {standing : Standing} {f : Tree} {m : MemoState} where
+module _ {e : ℕ → SetOf} {standing : PartPosition} {f : Tree} {m : MemoState} where
   -- without a step nothing is entered and nothing taken
   pub remembered_leaf : {a : Automaton} → steps f ≡ [] → Decides a f (members e) → IsRemembered f e standing m m a standing.before
   remembered_leaf none decides = record {
@@ -183,7 +183,7 @@ module _ {e : ℕ → SetOf} {standing : Standing} {f : Tree} {m : MemoState} wh
       subst (IsInterrupted f e standing m m1) (sym is) (record { error = tt; stopped = stopped })
 
 -- nothing of its parts was looked up, and it is to be entered
-module _ (standing : Standing) {e : ℕ → SetOf} {f : Tree} {m m1 : MemoState} (recalled : is_recalled standing.recall f ≡ true) where
+module _ (standing : PartPosition) {e : ℕ → SetOf} {f : Tree} {m m1 : MemoState} (recalled : is_recalled standing.recall f ≡ true) where
   pub interrupted_inside : {why : CompileError} → IsInterrupted f e (record standing { recall = Nothing }) m m1 why → IsInterrupted f e standing m m1 why
   interrupted_inside {why = why} part = record { error = part.error; stopped = stopped-inside e recalled part.error part.stopped }
 

@@ -23,7 +23,7 @@ use Rattle.formula_auto.specs.declared.chain.Link.{Link}
 use Rattle.formula_auto.specs.declared.chain.Link.TheVariants.{Made, Waiting}
 use Rattle.formula_auto.specs.declared.chain.Pending.{Pending}
 use Rattle.formula_auto.specs.declared.chain.ShortPart.{ShortPart}
-use Rattle.formula_auto.specs.declared.standing.Standing.{Standing}
+use Rattle.formula_auto.specs.declared.standing.PartPosition.{PartPosition}
 use Rattle.formula_auto.specs.declared.errors.CompileError.{CompileError}
 use Rattle.formula_auto.specs.declared.part_auto.PartAuto.{PartAuto}
 use Rattle.formula_auto.specs.declared.part_auto.Remembered.{Remembered}
@@ -130,7 +130,7 @@ abbrev pub HaveRoom : MemoState → MeetState → PartAuto → PartAuto → Type
 HaveRoom m l left right = (a b : Automaton) → IsPart m l left a → IsPart m l right b → HasRoom a b m.budget
 
 -- no step of the formula exceeds the budget, the memo has passed it, and the link is of it
-pub record IsLinkedOn (f : Tree) (standing : Standing) (old new : MemoState) (meets new_meets : MeetState)
+pub record IsLinkedOn (f : Tree) (standing : PartPosition) (old new : MemoState) (meets new_meets : MeetState)
     (link : Link) : Type 0 where
   pub auto : Automaton
   pub remembered : IsRemembered f (tables meets.sets) standing old new auto (link_done link)

@@ -10,7 +10,7 @@ use Rattle.formula_auto.specs.Decides.{Decides}
 use Rattle.formula_auto.specs.MemoState.{MemoState}
 use Rattle.formula_auto.specs.MeetState.{MeetState}
 use Rattle.formula_auto.specs.Remembered.{IsRemembered, IsInterrupted}
-use Rattle.formula_auto.specs.declared.standing.Standing.{Standing}
+use Rattle.formula_auto.specs.declared.standing.PartPosition.{PartPosition}
 use Rattle.formula_auto.specs.declared.errors.CompileError.{CompileError}
 use Rattle.formula_auto.specs.declared.part_auto.PartAuto.{PartAuto}
 use Rattle.formula_auto.specs.declared.part_auto.PartAuto.TheVariants.{Fresh, Kept, Paired, Named, Shared}
@@ -41,7 +41,7 @@ pub record IsMembership (l : MeetState) (number : ℕ) (vars : List Var) (part :
 
 -- the part has the automaton that compiling it makes; words lead to each state, and where the part has a step, there
 -- are no more states than the budget
-pub record IsRememberedPart (f : Tree) (e : ℕ → SetOf) (standing : Standing) (old new : MemoState)
+pub record IsRememberedPart (f : Tree) (e : ℕ → SetOf) (standing : PartPosition) (old new : MemoState)
     (meets : MeetState) (made : Remembered) : Type 0 where
   pub auto : Automaton
   pub has : IsPart new meets made.part auto
@@ -50,10 +50,10 @@ pub record IsRememberedPart (f : Tree) (e : ℕ → SetOf) (standing : Standing)
   pub remembered : IsRemembered f e standing old new auto made.done
 
 -- the part has the automaton that compiling it on a table of meets makes
-abbrev pub IsRememberedOn : Tree → Standing → MemoState → MemoState → MeetState → MeetState → Remembered → Type 0
+abbrev pub IsRememberedOn : Tree → PartPosition → MemoState → MemoState → MeetState → MeetState → Remembered → Type 0
 IsRememberedOn f standing old new meets new_meets made =
     IsRememberedPart f (tables meets.sets) standing old new new_meets made
 
 -- why a part has no automaton on a table of meets, and the memo then
-abbrev pub IsInterruptedOn : Tree → Standing → MemoState → MemoState → MeetState → CompileError → Type 0
+abbrev pub IsInterruptedOn : Tree → PartPosition → MemoState → MemoState → MeetState → CompileError → Type 0
 IsInterruptedOn f standing old new meets why = IsInterrupted f (tables meets.sets) standing old new why

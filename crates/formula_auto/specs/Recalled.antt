@@ -4,7 +4,7 @@ use Rattle.lin_formula.specs.Tree.{Tree, Not, steps}
 use Rattle.formula_auto.specs.PlainParts.{is_plain, plain_within}
 use Rattle.formula_auto.specs.declared.standing.Recall.{Recall}
 use Rattle.formula_auto.specs.declared.standing.Recall.TheVariants.{Plain, Nothing}
-use Rattle.formula_auto.specs.declared.standing.Standing.{Standing}
+use Rattle.formula_auto.specs.declared.standing.PartPosition.{PartPosition}
 use Rattle.auto_bool.specs.declared.connective.Connective.{Connective}
 use Rattle.auto_bool.specs.declared.connective.Connective.TheVariants.{And, Or, AndNot}
 
@@ -29,5 +29,5 @@ abbrev pub recalled_parts : Recall → Tree → List Tree
 recalled_parts recall f = recalled_within recall f (length (steps f))
 
 -- where a whole formula stands
-abbrev pub start : Recall → Standing
+abbrev pub start : Recall → PartPosition
 start recall = record { before = 0; recall = recall }

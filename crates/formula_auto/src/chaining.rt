@@ -63,7 +63,7 @@ impl Memo {
         ensures { IfOk result (IsMadePart self.now meets.now pending) }
     {
         let parts = (&pending.base, &pending.rest.part);
-        match self.put_together(alloc, meets, Connective::And, parts) {
+        match self.combine(alloc, meets, Connective::And, parts) {
             Ok(joint) => Ok(joint.of(pending.base, pending.rest.part)),
             Err(Grown::Memory) => Err(AllocError),
             Err(Grown::Over) => unreachable!(),
@@ -164,7 +164,7 @@ impl Memo {
             part,
             step,
         } = next;
-        match self.put_together(alloc, meets, Connective::And, (&left.part, &part)) {
+        match self.combine(alloc, meets, Connective::And, (&left.part, &part)) {
             Ok(joint) => Ok(Link::Made(Remembered {
                 part: joint.of(left.part, part),
                 done: step,

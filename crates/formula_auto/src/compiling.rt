@@ -29,11 +29,11 @@ use crate::errors::CompileError;
 use crate::joint::Joint;
 use crate::meet_table::MeetTable;
 use crate::memo::Memo;
-use crate::pair::Pair;
+use crate::pair::FormulaPair;
 use crate::part_auto::{PartAuto, Remembered};
 use crate::plain::{has_step, is_pair, is_plain, is_short, steps_of};
 use crate::shortcut::Shortcut;
-use crate::standing::{Recall, Standing};
+use crate::standing::{PartPosition, Recall};
 use crate::steps::{comparison, complement, joined, projection, value_of};
 use crate::table::SetTable;
 use auto_bool::{Connective, none_of};
@@ -76,18 +76,18 @@ fn is_looked_up(f: &Formula, recall: Recall) -> bool
 }
 
 /// And of two formulas. Where the second is Not of a formula, and is not looked up itself, both are one step.
-fn conjunction<'a>(left: &'a Formula, right: &'a Formula, recall: Recall) -> Pair<'a>
+fn conjunction<'a>(left: &'a Formula, right: &'a Formula, recall: Recall) -> FormulaPair<'a>
     ensures connected { connected result ≡ tree.And (tree_of left.now) (tree_of right.now) }
     ensures one_step { MayBeOneStep recall result.connective (tree_of result.right.now) }
 {
     match right {
         Formula::Not(inner) => {
             if is_looked_up(right, recall) {
-                return Pair::new(Connective::And, left, right);
+                return FormulaPair::new(Connective::And, left, right);
             }
-            Pair::new(Connective::AndNot, left, inner)
+            FormulaPair::new(Connective::AndNot, left, inner)
         }
-        _ => Pair::new(Connective::And, left, right),
+        _ => FormulaPair::new(Connective::And, left, right),
     }
 }
 
@@ -117,7 +117,7 @@ impl Memo {
 
     /// As `Memo::compile` over the table of the table of meets, for those who go on with the automaton: what the last step made is not reduced.
     /// And of two sets is made once for all formulas that are compiled on the table of meets.
-    pub fn compile_on(
+    pub fn compile_unreduced(
         &mut self,
         alloc: Global,
         f: &Formula,
@@ -141,8 +141,8 @@ impl Memo {
         self.whole_on(alloc, f, meets, Recall::Plain)
     }
 
-    /// As `compile_on`, apart from the entries, for sets that never come again: of these none is looked up, and none is added.
-    pub fn compile_apart(
+    /// As `compile_unreduced`, apart from the entries, for sets that never come again: of these none is looked up, and none is added.
+    pub fn compile_uncached(
         &mut self,
         alloc: Global,
         f: &Formula,
@@ -179,7 +179,7 @@ impl Memo {
         ensures after { OnOk result (IsMemoAfter self.old self.new (recalled_parts recall (tree_of f.now))) }
         ensures err { IfErr result (IsInterruptedOn (tree_of f.now) (start recall) self.old self.new meets.old) }
     {
-        let made = self.compiled(alloc, f, meets, Standing { before: 0, recall })?;
+        let made = self.compiled(alloc, f, meets, PartPosition { before: 0, recall })?;
         Ok(self.taken(alloc, meets, made.part)?)
     }
 
@@ -199,7 +199,7 @@ impl Memo {
         ensures err { IfErr result (IsInterruptedOn (tree_of f.now) (start recall) self.old self.new meets.old) }
         ensures grows { MeetsGrow meets.old meets.new }
     {
-        let made = self.compiled(alloc, f, meets, Standing { before: 0, recall })?;
+        let made = self.compiled(alloc, f, meets, PartPosition { before: 0, recall })?;
         Ok(self.finished(alloc, f, meets, made.part)?)
     }
 
@@ -229,7 +229,7 @@ impl Memo {
         alloc: Global,
         f: &Formula,
         meets: &mut MeetTable,
-        standing: Standing,
+        standing: PartPosition,
     ) -> Result<Remembered, CompileError>
         requires same_budget { meets.old.budget ≡ self.old.budget }
         requires ready { IsReady (tree_of f.now) meets.old.sets }
@@ -260,7 +260,7 @@ impl Memo {
         alloc: Global,
         f: &Formula,
         meets: &mut MeetTable,
-        standing: Standing,
+        standing: PartPosition,
     ) -> Result<Remembered, CompileError>
         requires recalled { is_recalled standing.recall (tree_of f.now) ≡ true }
         requires same_budget { meets.old.budget ≡ self.old.budget }
@@ -289,7 +289,7 @@ impl Memo {
         alloc: Global,
         f: &Formula,
         meets: &mut MeetTable,
-        standing: Standing,
+        standing: PartPosition,
     ) -> Result<Remembered, CompileError>
         requires recalled { is_recalled standing.recall (tree_of f.now) ≡ true }
         requires unknown { ¬ IsKnown self.old (tree_of f.now) }
@@ -300,7 +300,7 @@ impl Memo {
         ensures err { IfErr result (IsInterruptedOn (tree_of f.now) standing self.old self.new meets.old) }
         ensures grows { MeetsGrow meets.old meets.new }
     {
-        let alone = Standing {
+        let alone = PartPosition {
             recall: Recall::Nothing,
             ..standing
         };
@@ -320,7 +320,7 @@ impl Memo {
         alloc: Global,
         f: &Formula,
         meets: &mut MeetTable,
-        standing: Standing,
+        standing: PartPosition,
     ) -> Result<Remembered, CompileError>
         requires not_recalled { is_recalled standing.recall (tree_of f.now) ≡ false }
         requires short { short.is_short (tree_of f.now) ≡ true }
@@ -352,7 +352,7 @@ impl Memo {
         alloc: Global,
         f: &Formula,
         meets: &mut MeetTable,
-        standing: Standing,
+        standing: PartPosition,
     ) -> Result<Remembered, CompileError>
         requires pair { meet_state.is_pair (tree_of f.now) ≡ true }
         requires same_budget { meets.old.budget ≡ self.old.budget }
@@ -384,7 +384,7 @@ impl Memo {
         alloc: Global,
         f: &Formula,
         meets: &mut MeetTable,
-        standing: Standing,
+        standing: PartPosition,
     ) -> Result<Remembered, CompileError>
         requires not_recalled { is_recalled standing.recall (tree_of f.now) ≡ false }
         requires same_budget { meets.old.budget ≡ self.old.budget }
@@ -421,7 +421,7 @@ impl Memo {
             }
             Formula::Or(left, right) => {
                 let connective = Connective::Or;
-                let pair = Pair {
+                let pair = FormulaPair {
                     connective,
                     left,
                     right,
@@ -445,9 +445,9 @@ impl Memo {
     fn both(
         &mut self,
         alloc: Global,
-        pair: Pair,
+        pair: FormulaPair,
         meets: &mut MeetTable,
-        standing: Standing,
+        standing: PartPosition,
     ) -> Result<Remembered, CompileError>
         requires not_recalled { is_recalled standing.recall (connected pair) ≡ false }
         requires one_step { MayBeOneStep standing.recall pair.connective (tree_of pair.right.now) }
@@ -459,14 +459,14 @@ impl Memo {
         ensures grows { MeetsGrow meets.old meets.new }
     {
         let left = self.compiled(alloc, pair.left, meets, standing)?;
-        let after_left = Standing {
+        let after_left = PartPosition {
             before: left.done,
             ..standing
         };
         let right = self.compiled(alloc, pair.right, meets, after_left)?;
         let step = right.done + 1;
         let parts = (&left.part, &right.part);
-        match self.put_together(alloc, meets, pair.connective, parts) {
+        match self.combine(alloc, meets, pair.connective, parts) {
             Ok(joint) => Ok(Remembered {
                 part: joint.of(left.part, right.part),
                 done: step,
@@ -482,7 +482,7 @@ impl Memo {
         alloc: Global,
         extension: Extension,
         meets: &mut MeetTable,
-        standing: Standing,
+        standing: PartPosition,
     ) -> Result<Remembered, CompileError>
         requires extension { IsExtension extension }
         requires same_budget { meets.old.budget ≡ self.old.budget }
@@ -504,7 +504,7 @@ impl Memo {
         alloc: Global,
         extension: Extension,
         meets: &mut MeetTable,
-        standing: Standing,
+        standing: PartPosition,
     ) -> Result<Link, CompileError>
         requires extension { IsExtension extension }
         requires same_budget { meets.old.budget ≡ self.old.budget }
@@ -515,7 +515,7 @@ impl Memo {
         ensures grows { MeetsGrow meets.old meets.new }
     {
         let left = self.begun(alloc, extension.left, meets, standing)?;
-        let after_left = Standing {
+        let after_left = PartPosition {
             before: left.done(),
             ..standing
         };
@@ -536,7 +536,7 @@ impl Memo {
         alloc: Global,
         f: &Formula,
         meets: &mut MeetTable,
-        standing: Standing,
+        standing: PartPosition,
     ) -> Result<Link, CompileError>
         requires same_budget { meets.old.budget ≡ self.old.budget }
         requires ready { IsReady (tree_of f.now) meets.old.sets }
@@ -553,7 +553,7 @@ impl Memo {
     }
 
     /// What the connective makes of two parts, within the budget. Where it is one of the two, nothing is made.
-    pub(crate) fn put_together(
+    pub(crate) fn combine(
         &self,
         alloc: Global,
         meets: &MeetTable,

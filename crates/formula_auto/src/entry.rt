@@ -8,13 +8,13 @@ use lin_formula::{Formula, same};
 
 /// A formula and its automaton.
 #[derive(Drop)]
-pub struct Entry {
+pub struct MemoEntry {
     pub formula: Formula,
     pub auto: Auto,
 }
 
 /// The place of the first entry of a formula. Goes over the entries from their start.
-pub fn place_of(entries: &[Entry], f: &Formula) -> Option<usize>
+pub fn place_of(entries: &[MemoEntry], f: &Formula) -> Option<usize>
     ensures none { IfNone result (All (λ entry. tree_of entry.formula ≢ tree_of f.now) entries.now) }
     ensures some { IfSome result (IsPlaceOf entries.now (tree_of f.now)) }
 {

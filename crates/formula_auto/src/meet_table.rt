@@ -7,7 +7,7 @@ ghost use Rattle.formula_auto.specs.Compiled.{IsSetFor};
 ghost use Rattle.formula_auto.specs.MeetState.{IsPair, IsPairAt, MeetsGrow};
 ghost use Rattle.formula_auto.specs.PartOf.{IsMembership};
 
-use crate::entry::{Entry, place_of};
+use crate::entry::{MemoEntry, place_of};
 use crate::part_auto::PartAuto;
 use crate::steps::membership;
 use crate::table::SetTable;
@@ -23,7 +23,7 @@ use track_word::Var;
 pub struct MeetTable<'a> {
     sets: &'a SetTable,
     budget: Budget,
-    pairs: Vec<Entry>,
+    pairs: Vec<MemoEntry>,
 }
 
 impl<'a> Model for MeetTable<'a> {
@@ -120,7 +120,7 @@ impl<'a> MeetTable<'a> {
         ensures there { IfOk result (λ place. (f : Formula) × (slice_get self.new.pairs place ≡ Some (f, auto))) }
     {
         let place = self.pairs.len();
-        let entry = Entry {
+        let entry = MemoEntry {
             formula: copy(alloc, f)?,
             auto,
         };

@@ -10,7 +10,7 @@ ghost use Rattle.formula_auto.specs.Short.{IsShort, IsShortPart};
 ghost use Rattle.formula_auto.specs.Shortcuts.{IsShortcutOf, IsSeen};
 ghost use Rattle.formula_auto.specs.Nodes.{AcceptSame, IsNoLarger};
 
-use crate::entry::{Entry, place_of};
+use crate::entry::{MemoEntry, place_of};
 use crate::meet_table::MeetTable;
 use crate::part_auto::{PartAuto, same_place};
 use crate::short_table::ShortTable;
@@ -30,7 +30,7 @@ use std::rc::Rc;
 #[derive(Drop)]
 pub struct Memo {
     shorts: ShortTable,
-    entries: Vec<Entry>,
+    entries: Vec<MemoEntry>,
     found: u64,
 }
 
@@ -213,7 +213,7 @@ impl Memo {
         if kept == u32::MAX {
             return Ok(PartAuto::Fresh(auto));
         }
-        let entry = Entry {
+        let entry = MemoEntry {
             formula: copy(alloc, f)?,
             auto,
         };

@@ -6,19 +6,19 @@ use lin_formula::Formula;
 
 /// Two formulas to be put together.
 #[derive(Clone, Copy)]
-pub struct Pair<'a> {
+pub struct FormulaPair<'a> {
     pub connective: Connective,
     pub left: &'a Formula,
     pub right: &'a Formula,
 }
 
-impl<'a> Pair<'a> {
-    pub fn new(connective: Connective, left: &'a Formula, right: &'a Formula) -> Pair<'a>
+impl<'a> FormulaPair<'a> {
+    pub fn new(connective: Connective, left: &'a Formula, right: &'a Formula) -> FormulaPair<'a>
         ensures connective { result.connective ≡ connective }
         ensures left { result.left.now ≡ left.now }
         ensures right { result.right.now ≡ right.now }
     {
-        Pair {
+        FormulaPair {
             connective,
             left,
             right,

@@ -11,7 +11,7 @@ pub enum Recall {
 
 /// Where in its formula a part stands: the number of steps before it, and what of it is looked up.
 #[derive(Clone, Copy)]
-pub struct Standing {
+pub struct PartPosition {
     pub before: u32,
     pub recall: Recall,
 }

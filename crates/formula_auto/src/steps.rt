@@ -19,11 +19,11 @@ use auto_bool::{Connective, not};
 use auto_compact::renamed;
 use auto_core::Auto;
 use auto_merge::merge;
+use auto_merged_product::merged_product_within;
 use auto_project::forget_within;
 use auto_reduce::reduce;
 use auto_walk::Grown;
 use limits::{Budget, MOST_TRACKS};
-use merged_product::merged_product_within;
 use std::alloc::{AllocError, Global};
 use track_word::{Rel, Var, are_distinct};
 

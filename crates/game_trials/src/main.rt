@@ -12,7 +12,7 @@ use chess_game::Position;
 use ports::{put_row, shelf_row, sink_row};
 use positions::{of_position, position_row, ray_row, reply_row};
 use std::process::ExitCode;
-use trial_rows::{Named, Row, RowError, Rows, answer_script};
+use trial_rows::{Named, Row, RowError, RowInterpreter, answer_script};
 
 /// The positions that rows have named.
 #[derive(Drop)]
@@ -20,7 +20,7 @@ struct Games {
     positions: Named<Position>,
 }
 
-impl Rows for Games {
+impl RowInterpreter for Games {
     fn answer(&mut self, kind: &str, row: &mut Row) -> Result<(), RowError> {
         match kind {
             "position" => position_row(&mut self.positions, row),

@@ -1,9 +1,9 @@
-//! Rows that write to a sink in memory, and that keep and fetch files of a store in memory.
+//! RowInterpreter that write to a sink in memory, and that keep and fetch files of a store in memory.
 
 ghost use Rattle.std.specs.Prelude.{◌<◌, IfOk};
 
 use desk_base::{FetchError, KeepError, MemShelf, MemSink, Shelf, Sink, put_all};
-use trial_rows::{Row, RowError, Rows, answer_steps};
+use trial_rows::{Row, RowError, RowInterpreter, answer_steps};
 
 /// A sink: the calls that are to fail, the most that a call writes, and the room.
 fn sink_of(row: &mut Row) -> Result<MemSink, RowError> {
@@ -92,7 +92,7 @@ struct Store {
     shelf: MemShelf,
 }
 
-impl Rows for Store {
+impl RowInterpreter for Store {
     /// A call of the store, or a look at one of its files.
     fn answer(&mut self, kind: &str, row: &mut Row) -> Result<(), RowError> {
         match kind {

@@ -1,4 +1,4 @@
-//! Rows that play games: the winner by a session, and the other side by moves that stand in the row.
+//! RowInterpreter that play games: the winner by a session, and the other side by moves that stand in the row.
 
 ghost use Rattle.std.specs.Prelude.{◌≤◌, ◌≡◌};
 ghost use Rattle.game_rules.specs.Game.{Sound};
@@ -6,10 +6,10 @@ ghost use Rattle.game_rules.specs.Game.{Sound};
 use crate::positions::{frame, illegal_words, move_of, side};
 use chess_game::{Frame, Position, Side};
 use chess_text::position_bytes;
-use game_session::{Played, Session, TooWide};
 use limits::MOST_MOVES;
 use std::alloc::Global;
-use trial_rows::{Row, RowError, Rows, answer_steps};
+use trial_rows::{Row, RowError, RowInterpreter, answer_steps};
+use winner_session::{Played, Session, TooWide};
 use winning_sets::{SolveError, Solved, solve};
 
 /// The session of a position that is won.
@@ -105,7 +105,7 @@ impl Drop for Game {
     }
 }
 
-impl Rows for Game {
+impl RowInterpreter for Game {
     fn answer(&mut self, kind: &str, row: &mut Row) -> Result<(), RowError> {
         match kind {
             "win" => return win_step(&mut self.session, row),

@@ -1,4 +1,4 @@
-//! Rows that solve positions for one number of moves after another, and ask for the sets.
+//! RowInterpreter that solve positions for one number of moves after another, and ask for the sets.
 
 ghost use Rattle.std.specs.Prelude.{◌≤◌};
 ghost use Rattle.game_rules.specs.Game.{Sound};
@@ -8,7 +8,7 @@ use auto_core::Auto;
 use auto_reduce::sign_stable;
 use chess_game::Position;
 use limits::MOST_MOVES;
-use trial_rows::{Named, Row, RowError, Rows, answer_steps};
+use trial_rows::{Named, Row, RowError, RowInterpreter, answer_steps};
 use winning_sets::{SolveError, Solved, Solver};
 
 /// A solver of a row, what it has solved last, and the positions that steps may name.
@@ -110,7 +110,7 @@ fn keeps_step(bench: &Bench, row: &mut Row) -> Result<(), RowError> {
     Ok(())
 }
 
-impl<'a> Rows for Bench<'a> {
+impl<'a> RowInterpreter for Bench<'a> {
     fn answer(&mut self, kind: &str, row: &mut Row) -> Result<(), RowError> {
         match kind {
             "solve" => solve_step(self, row),

@@ -37,13 +37,13 @@ pub Carries-grows : (c : Carrier) {old new : List Shape} (a r : ℕ) → Grows o
 Carries-grows c a r grows is = IsCarried-grows (source-grows c grows) grows is
 
 pub RemembersCarried-grows : {c : Carrier} {old new : List Shape} {answers : ℕ → Option ℕ} → Grows old new → RemembersCarried c old answers → RemembersCarried c new answers
-RemembersCarried-grows {c} {old} {new} grows all = record { carried = λ a r at. Carries-grows c a r grows (all.carried a r at) }
+RemembersCarried-grows {c} {old} {new} grows all = record { rebuilt = λ a r at. Carries-grows c a r grows (all.rebuilt a r at) }
 
 pub RemembersCarried-learns : {c : Carrier} {shapes : List Shape} {old new : ℕ → Option ℕ} {node made : ℕ} → Learns old new node made → Carries c shapes node made
     → RemembersCarried c shapes old → RemembersCarried c shapes new
 RemembersCarried-learns {c} {shapes} {node} learns is all = record {
-  carried = λ a r at. elim (learns.only a r at) [
-    | inl before ↦ all.carried a r before
+  rebuilt = λ a r at. elim (learns.only a r at) [
+    | inl before ↦ all.rebuilt a r before
     | inr now ↦ let R : ℕ → ℕ → Type 0 = λ x y. Carries c shapes x y in subst (λ n. R n r) (sym now.0) (subst (R node) (sym now.1) is)
   ];
 }

@@ -2,7 +2,7 @@
 use Rattle.std.proofs.Common.{◌≡◌, ℕ, ◌<◌, ◌≤◌, Bool, true, false, List, length, nat_eq, arith, sym, ◌∙◌, if◌then◌else◌}
 use Rattle.std.specs.Int.{bit_at}
 use Rattle.letter_diagram.specs.declared.diagrams.Shape.{Shape}
-use Rattle.letter_diagram.specs.declared.pair_memo.Slot.{Slot}
+use Rattle.letter_diagram.specs.declared.pair_memo.PairSlot.{PairSlot}
 use Rattle.letter_diagram.specs.Diagram.{map_at, top_track, chosen, Grows}
 use Rattle.letter_diagram.specs.Splits.{IsSplit, top_of_both}
 use Rattle.letter_diagram.specs.PairMemo.{AnswersNothing, LearnsPair}
@@ -27,14 +27,14 @@ IsChosen-grows {old} {new} {track} {low} {high} {r} grows is =
       top = omega arith;
     }
 
-pub RemembersChosen-nothing : {shapes : List Shape} {track : ℕ} {memo : List Slot} → AnswersNothing memo → RemembersChosen shapes track memo
+pub RemembersChosen-nothing : {shapes : List Shape} {track : ℕ} {memo : List PairSlot} → AnswersNothing memo → RemembersChosen shapes track memo
 RemembersChosen-nothing none = record { chosen = λ low high r at. absurd (none low high r at) }
 
-pub RemembersChosen-grows : {old new : List Shape} {track : ℕ} {memo : List Slot}
+pub RemembersChosen-grows : {old new : List Shape} {track : ℕ} {memo : List PairSlot}
     → Grows old new → RemembersChosen old track memo → RemembersChosen new track memo
 RemembersChosen-grows grows all = record { chosen = λ low high r at. IsChosen-grows grows (all.chosen low high r at) }
 
-pub RemembersChosen-learn : {shapes : List Shape} {track : ℕ} {memo new : List Slot} {low high r : ℕ} → RemembersChosen shapes track memo
+pub RemembersChosen-learn : {shapes : List Shape} {track : ℕ} {memo new : List PairSlot} {low high r : ℕ} → RemembersChosen shapes track memo
     → LearnsPair memo new low high r → IsChosen shapes track low high r → RemembersChosen shapes track new
 RemembersChosen-learn {shapes} {track} all learns is = record { chosen = pair_answers-learn (IsChosen shapes track) all.chosen learns is }
 

@@ -5,7 +5,7 @@ use Rattle.std.specs.HashMap.{HashMap, Updates}
 use Rattle.std.proofs.lemmas.Bool.{cases_lt, cases_eq}
 use Rattle.track_word.proofs.LetterBits.{bit_cases}
 use Rattle.letter_diagram.specs.declared.diagrams.Shape.{Shape}
-use Rattle.letter_diagram.specs.declared.pair_memo.Slot.{Slot}
+use Rattle.letter_diagram.specs.declared.pair_memo.PairSlot.{PairSlot}
 use Rattle.letter_diagram.specs.PairMemo.{AnswersNothing, LearnsPair}
 use Rattle.letter_diagram.specs.Diagram.{map_at, top_track, chosen, IsDiagram, Grows}
 use Rattle.letter_diagram.specs.Splits.{IsSplit, top_of_both}
@@ -109,14 +109,14 @@ IsUnited-sides {shapes} r track low high ha hb kr sa sb e ul uh map top = record
       };
 }
 
-pub RemembersUnited-nothing : {shapes : List Shape} {sets : List (List ℕ)} {memo : List Slot} → AnswersNothing memo → RemembersUnited shapes sets memo
+pub RemembersUnited-nothing : {shapes : List Shape} {sets : List (List ℕ)} {memo : List PairSlot} → AnswersNothing memo → RemembersUnited shapes sets memo
 RemembersUnited-nothing none = record { united = λ a b r at. absurd (none a b r at) }
 
-pub RemembersUnited-grows : {old new : List Shape} {sets sets' : List (List ℕ)} {memo : List Slot} → Grows old new → SetsKept sets sets'
+pub RemembersUnited-grows : {old new : List Shape} {sets sets' : List (List ℕ)} {memo : List PairSlot} → Grows old new → SetsKept sets sets'
     → RemembersUnited old sets memo → RemembersUnited new sets' memo
 RemembersUnited-grows grows kept all = record { united = λ a b r at. IsUnited-grows grows kept (all.united a b r at) }
 
-pub RemembersUnited-learn : {shapes : List Shape} {sets : List (List ℕ)} {memo new : List Slot} {a b r : ℕ} → RemembersUnited shapes sets memo
+pub RemembersUnited-learn : {shapes : List Shape} {sets : List (List ℕ)} {memo new : List PairSlot} {a b r : ℕ} → RemembersUnited shapes sets memo
     → LearnsPair memo new a b r → IsUnited shapes sets a b r → RemembersUnited shapes sets new
 RemembersUnited-learn {shapes} {sets} all learns is = record { united = pair_answers-learn (IsUnited shapes sets) all.united learns is }
 

@@ -51,7 +51,7 @@ pub record CanBeCarried (c : Carrier) (Can : ℕ → Type 0) (shapes : List Shap
 
 -- the answers of a memo are the nodes carried
 pub record RemembersCarried (c : Carrier) (shapes : List Shape) (answers : ℕ → Option ℕ) : Type 0 where
-  pub carried : (a r : ℕ) → answers a ≡ Some r → Carries c shapes a r
+  pub rebuilt : (a r : ℕ) → answers a ≡ Some r → Carries c shapes a r
 
 -- no more than one answer is new
 pub record Learns (old new : ℕ → Option ℕ) (node made : ℕ) : Type 0 where

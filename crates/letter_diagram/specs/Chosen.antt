@@ -2,7 +2,7 @@
 use Rattle.std.specs.Prelude.{◌≡◌, ℕ, ◌<◌, ◌≤◌, min, List, length}
 use Rattle.letter_diagram.specs.declared.diagrams.Shape.{Shape}
 use Rattle.letter_diagram.specs.Diagram.{map_at, top_track, chosen}
-use Rattle.letter_diagram.specs.declared.pair_memo.Slot.{Slot}
+use Rattle.letter_diagram.specs.declared.pair_memo.PairSlot.{PairSlot}
 use Rattle.letter_diagram.specs.PairMemo.{Answers}
 use Rattle.letter_diagram.specs.Splits.{top_of_both}
 
@@ -15,5 +15,5 @@ pub record IsChosen (shapes : List Shape) (track low high r : ℕ) : Type 0 wher
   pub top : min track (top_of_both shapes low high) ≤ top_track shapes r
 
 -- it is chosen between the pairs of nodes in a memo
-pub record RemembersChosen (shapes : List Shape) (track : ℕ) (memo : List Slot) : Type 0 where
+pub record RemembersChosen (shapes : List Shape) (track : ℕ) (memo : List PairSlot) : Type 0 where
   pub chosen : (low high r : ℕ) → Answers memo low high r → IsChosen shapes track low high r

@@ -4,7 +4,7 @@ use Rattle.std.specs.Int.{bit_at}
 use Rattle.std.specs.HashMap.{HashMap, get}
 use Rattle.letter_diagram.specs.declared.diagrams.Shape.{Shape}
 use Rattle.letter_diagram.specs.Diagram.{map_at, top_track}
-use Rattle.letter_diagram.specs.declared.pair_memo.Slot.{Slot}
+use Rattle.letter_diagram.specs.declared.pair_memo.PairSlot.{PairSlot}
 use Rattle.letter_diagram.specs.PairMemo.{Answers}
 use Rattle.letter_diagram.specs.Splits.{top_of_both}
 use Rattle.letter_diagram.specs.Sets.{IsUnion}
@@ -38,7 +38,7 @@ pub record AreUnions (shapes : List Shape) (from : ℕ) (sets : List (List ℕ))
       → (letter : ℕ) × IsUnion sets (map_at shapes a letter) (map_at shapes b letter) number
 
 -- the pairs of nodes in a memo are united
-pub record RemembersUnited (shapes : List Shape) (sets : List (List ℕ)) (memo : List Slot) : Type 0 where
+pub record RemembersUnited (shapes : List Shape) (sets : List (List ℕ)) (memo : List PairSlot) : Type 0 where
   pub united : (a b r : ℕ) → Answers memo a b r → IsUnited shapes sets a b r
 
 -- among new nodes, r's map gives the number of the union of the sets that a's map gave with the bit 0 and with the bit 1

@@ -4,7 +4,7 @@ ghost use Rattle.limits.specs.declared.numbers.TheConstants.{MOST_TRACKS};
 ghost use Rattle.letter_diagram.specs.Diagram.{Grows};
 ghost use Rattle.letter_diagram.specs.Carried.{AreCarried};
 
-use crate::carry::{Carry, carried_all};
+use crate::carry::{Rebuild, rebuilt_all};
 use crate::diagrams::{Diagrams, Node, Shape};
 use crate::node_memo::NodeMemo;
 use std::alloc::AllocError;
@@ -15,7 +15,7 @@ struct Bringing<'a> {
     from: &'a Diagrams,
 }
 
-impl<'a> Carry for Bringing<'a> {
+impl<'a> Rebuild for Bringing<'a> {
     ghost carrier = { λ s.
         record {
           from = Some s.from.now;
@@ -55,7 +55,7 @@ impl Diagrams {
         ensures grows { Grows self.old self.new }
     {
         let mut memo = NodeMemo::new(self.alloc(), from.len())?;
-        let made = carried_all(&Bringing { from }, nodes, self, &mut memo)?;
+        let made = rebuilt_all(&Bringing { from }, nodes, self, &mut memo)?;
         Ok(made)
     }
 }

@@ -5,13 +5,13 @@ ghost use Rattle.letter_diagram.specs.Carried.{Carrier, KeepsLetters, source_of,
 ghost use Rattle.letter_diagram.specs.Listed.{EachAnswers};
 
 use crate::diagrams::{Diagrams, Node, Shape};
-use crate::memo::Memo;
+use crate::memo::NodeCache;
 use limits::MOST_TRACKS;
 use std::alloc::AllocError;
 
 /// A way to carry maps over: what becomes of a map's values, and of the tracks that it looks at.
 /// `carrier` says how, and which nodes are carried: those of another `Diagrams`, or those of the one to which nodes are added.
-pub trait Carry: Drop {
+pub trait Rebuild: Drop {
     ghost carrier: { Self → Carrier };
 
     ghost can: { Self → ℕ → Type 0 };
@@ -44,7 +44,7 @@ pub trait Carry: Drop {
 }
 
 /// The node in `to` that is a node carried over. What the memo has an answer for is not visited again.
-pub fn carried<C: Carry, M: Memo>(
+pub fn rebuilt<C: Rebuild, M: NodeCache>(
     carry: &C,
     node: Node,
     to: &mut Diagrams,
@@ -52,7 +52,7 @@ pub fn carried<C: Carry, M: Memo>(
 ) -> Result<Node, AllocError>
     requires can { CanBeCarried (C.carrier carry.now) (C.can carry.now) to.old node }
     requires remembered { RemembersCarried (C.carrier carry.now) to.old (M.answers memo.old) }
-    ensures carried { IfOk result (Carries (C.carrier carry.now) to.new node) }
+    ensures rebuilt { IfOk result (Carries (C.carrier carry.now) to.new node) }
     ensures remembered { OnOk result (RemembersCarried (C.carrier carry.now) to.new (M.answers memo.new)) }
     ensures grows { Grows to.old to.new }
 {
@@ -62,8 +62,8 @@ pub fn carried<C: Carry, M: Memo>(
     let made = match carry.shape(to, node) {
         Shape::Leaf(value) => carry.leaf(to, value)?,
         Shape::Test { track, low, high } => {
-            let low = carried(carry, low, to, memo)?;
-            let high = carried(carry, high, to, memo)?;
+            let low = rebuilt(carry, low, to, memo)?;
+            let high = rebuilt(carry, high, to, memo)?;
             carry.test(to, track, low, high)?
         }
     };
@@ -71,8 +71,8 @@ pub fn carried<C: Carry, M: Memo>(
     Ok(made)
 }
 
-/// `carried` for several nodes, in their order. What they share is done once.
-pub fn carried_all<C: Carry, M: Memo>(
+/// `rebuilt` for several nodes, in their order. What they share is done once.
+pub fn rebuilt_all<C: Rebuild, M: NodeCache>(
     carry: &C,
     nodes: &[Node],
     to: &mut Diagrams,
@@ -80,12 +80,12 @@ pub fn carried_all<C: Carry, M: Memo>(
 ) -> Result<Vec<Node>, AllocError>
     requires can { All (CanBeCarried (C.carrier carry.now) (C.can carry.now) to.old) nodes.now }
     requires remembered { RemembersCarried (C.carrier carry.now) to.old (M.answers memo.old) }
-    ensures carried { IfOk result (λ made. EachAnswers (Carries (C.carrier carry.now) to.new) nodes.now made.items) }
+    ensures rebuilt { IfOk result (λ made. EachAnswers (Carries (C.carrier carry.now) to.new) nodes.now made.items) }
     ensures grows { Grows to.old to.new }
 {
     let mut made = Vec::with_capacity(to.alloc(), nodes.len())?;
     for node in nodes {
-        let answer = carried(carry, *node, to, memo)?;
+        let answer = rebuilt(carry, *node, to, memo)?;
         made.push(answer)?;
     }
     Ok(made)

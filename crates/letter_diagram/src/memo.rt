@@ -8,7 +8,7 @@ use std::alloc::AllocError;
 use std::collections::HashMap;
 
 /// Answers for nodes. A memo may forget some.
-pub trait Memo: Drop {
+pub trait NodeCache: Drop {
     ghost answers: { Self → ℕ → Option ℕ };
 
     /// The answer for a node.
@@ -21,7 +21,7 @@ pub trait Memo: Drop {
 }
 
 /// For a few nodes of many.
-impl Memo for HashMap<Node, Node> {
+impl NodeCache for HashMap<Node, Node> {
     ghost answers = { λ memo. get nat_eq memo };
 
     fn answer(&self, node: Node) -> Option<Node> {

@@ -3,7 +3,7 @@ ghost use Rattle.std.specs.Prelude.{◌≡◌, ◌≤◌, ℕ, length, IfOk, OnO
 ghost use Rattle.letter_diagram.specs.NodeMemo.{answer_of, Forgets, Remembers};
 
 use crate::diagrams::Node;
-use crate::memo::Memo;
+use crate::memo::NodeCache;
 use std::alloc::{AllocError, Global};
 use std::marker::Model;
 
@@ -71,7 +71,7 @@ impl NodeMemo {
 }
 
 /// For most nodes of a table.
-impl Memo for NodeMemo {
+impl NodeCache for NodeMemo {
     ghost answers = { answer_of };
 
     fn answer(&self, node: Node) -> Option<Node> {

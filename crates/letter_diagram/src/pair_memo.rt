@@ -3,29 +3,29 @@ ghost use Rattle.std.specs.Prelude.{◌<◌, ◌≤◌, ◌+◌, ◌*◌, length
 ghost use Rattle.letter_diagram.specs.PairMemo.{Answers, AnswersNothing, AnswersOnly, LearnsPair};
 
 use crate::diagrams::{NO_NODE, Node};
-use crate::probing::{place, slots_for, spread};
+use crate::probing::{place, scatter, slots_for};
 use std::alloc::{AllocError, Global};
 use std::marker::Model;
 
 /// A pair of nodes and its answer. One whose left node is `NO_NODE` is free.
 #[derive(Clone, Copy)]
-pub struct Slot {
+pub struct PairSlot {
     left: Node,
     right: Node,
     answer: Node,
 }
 
-const FREE: Slot = Slot {
+const FREE: PairSlot = PairSlot {
     left: NO_NODE,
     right: NO_NODE,
     answer: NO_NODE,
 };
 
 /// Puts a pair and its answer into the first slot that is free.
-fn put(slots: &mut [Slot], new: Slot)
+fn put(slots: &mut [PairSlot], new: PairSlot)
     ensures { LearnsPair slots.old slots.new new.left new.right new.answer }
 {
-    let number = spread(new.left.number(), new.right.number());
+    let number = scatter(new.left.number(), new.right.number());
     for step in 0..slots.len() {
         let place = place(slots.len(), number, step);
         if slots[place].left == NO_NODE {
@@ -38,7 +38,7 @@ fn put(slots: &mut [Slot], new: Slot)
 /// Answers for pairs of nodes, in an open table. It may forget: no answer is one that was put in for another pair, but one that
 /// was put in may be missing.
 pub struct PairMemo {
-    slots: Vec<Slot>,
+    slots: Vec<PairSlot>,
     taken: usize,
     ghost half_free: { 2 * taken ≤ length slots.items },
 }
@@ -52,9 +52,9 @@ impl Drop for PairMemo {
 
 impl Model for PairMemo {
     ghost use Rattle.std.specs.Prelude.{List};
-    ghost use Rattle.letter_diagram.specs.declared.pair_memo.Slot.{Slot};
+    ghost use Rattle.letter_diagram.specs.declared.pair_memo.PairSlot.{PairSlot};
 
-    ghost Value = { List Slot };
+    ghost Value = { List PairSlot };
 
     ghost view = { λ m. m.slots.items };
 }
@@ -92,7 +92,7 @@ impl PairMemo {
     pub fn get(&self, left: Node, right: Node) -> Option<Node>
         ensures { IfSome result (Answers self.now left right) }
     {
-        let number = spread(left.number(), right.number());
+        let number = scatter(left.number(), right.number());
         for step in 0..self.slots.len() {
             let slot = self.slots[place(self.slots.len(), number, step)];
             if slot.left == NO_NODE {
@@ -113,7 +113,7 @@ impl PairMemo {
             let slots = self.grown()?;
             self.slots = slots;
         }
-        let slot = Slot {
+        let slot = PairSlot {
             left,
             right,
             answer,
@@ -124,7 +124,7 @@ impl PairMemo {
     }
 
     /// Twice as many slots, with the same pairs and answers.
-    fn grown(&self) -> Result<Vec<Slot>, AllocError>
+    fn grown(&self) -> Result<Vec<PairSlot>, AllocError>
         ensures only { IfOk result (λ grown. AnswersOnly self.now grown.items) }
         ensures more { IfOk result (λ grown. length self.now + 2 ≤ length grown.items) }
     {

@@ -26,7 +26,7 @@ pub fn slots_for(items: usize) -> Result<usize, AllocError>
 }
 
 /// A number that differs for most pairs of numbers below 2^32: the upper half of a sum of products.
-pub fn spread(left: usize, right: usize) -> usize
+pub fn scatter(left: usize, right: usize) -> usize
     ensures { result ≡ spread_of left right }
 {
     let left = left.wrapping_mul(LEFT_FACTOR);

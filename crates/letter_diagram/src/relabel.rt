@@ -4,7 +4,7 @@ ghost use Rattle.limits.specs.declared.numbers.TheConstants.{MOST_TRACKS};
 ghost use Rattle.letter_diagram.specs.Diagram.{map_at, HasMap, Grows, LooksBelow};
 ghost use Rattle.letter_diagram.specs.Relabelled.{relabelled, KeepsTracks, AreRelabelled};
 
-use crate::carry::{Carry, carried, carried_all};
+use crate::carry::{Rebuild, rebuilt, rebuilt_all};
 use crate::diagrams::{Diagrams, Node, Shape};
 use crate::node_memo::NodeMemo;
 use std::alloc::AllocError;
@@ -17,7 +17,7 @@ struct Relabelling<'a> {
     ghost tracks_low: { All (λ track. track < MOST_TRACKS) tracks.now },
 }
 
-impl<'a> Carry for Relabelling<'a> {
+impl<'a> Rebuild for Relabelling<'a> {
     ghost carrier = { λ s.
         record {
           from = option_copied s.from;
@@ -75,7 +75,7 @@ impl Diagrams {
         ensures grows { Grows self.old self.new }
     {
         let mut memo = NodeMemo::new(self.alloc(), self.len())?;
-        let node = carried(&Relabelling { from: None, tracks }, a, self, &mut memo)?;
+        let node = rebuilt(&Relabelling { from: None, tracks }, a, self, &mut memo)?;
         Ok(node)
     }
 
@@ -103,7 +103,7 @@ impl Diagrams {
             from: Some(from),
             tracks,
         };
-        let made = carried_all(&relabelling, nodes, self, &mut memo)?;
+        let made = rebuilt_all(&relabelling, nodes, self, &mut memo)?;
         Ok(made)
     }
 }

@@ -3,7 +3,7 @@ ghost use Rattle.std.specs.Prelude.{◌≡◌, [], ◌∷◌, ◌++◌, slice_ge
 ghost use Rattle.letter_diagram.specs.ShapeTable.{start_of, IsHashed, IsFirstFree, IsFound, AddsShape};
 
 use crate::diagrams::Shape;
-use crate::probing::{place, slots_for, spread};
+use crate::probing::{place, scatter, slots_for};
 use std::alloc::{AllocError, Global};
 use std::marker::Model;
 
@@ -27,8 +27,8 @@ fn start(shape: &Shape) -> usize
     ensures { result ≡ start_of shape.now }
 {
     match shape {
-        Shape::Leaf(value) => spread(*value as usize, 0),
-        Shape::Test { low, high, .. } => spread(low.number(), high.number()),
+        Shape::Leaf(value) => scatter(*value as usize, 0),
+        Shape::Test { low, high, .. } => scatter(low.number(), high.number()),
     }
 }
 

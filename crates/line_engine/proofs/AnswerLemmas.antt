@@ -7,7 +7,7 @@ use Rattle.set_plan.specs.Outcome.{Ends, Stops}
 use Rattle.set_plan.specs.Program.{Ask, Empty, Give, IsNo, IsYes, Item, Question, bind}
 use Rattle.set_plan.specs.Same.{IsLacking, SameItem}
 use Rattle.set_plan.specs.Unite.{Made, compute, either, join, make, positives}
-use Rattle.set_plan.specs.declared.stop.StepName.{StepName}
+use Rattle.set_plan.specs.declared.stop.PartStep.{PartStep}
 use Rattle.set_plan.proofs.Composition.{Ends-ask_no, Ends-ask_yes, Ends-bind, Ends-give, Error-later, Stops-ask_no, Stops-ask_yes, Takes-none, none_some}
 use Rattle.set_plan.proofs.Thinned.{Ends-make_same, Stops-make_same}
 use Rattle.line_plan.specs.Plan.{Program}
@@ -48,7 +48,7 @@ module _ {A R : Type 0} (question : Question) (if_yes if_no : Program A) (budget
         | inr (inr (is, t)) ↦ record { entries = h.entries; takes = t; past = h.past }
       ]
 
-  stops_unasked : (name : StepName (Unit {0})) → ¬ IsYes question → Stops (Ask question if_yes if_no) budget name → Stops if_no budget name
+  stops_unasked : (name : PartStep (Unit {0})) → ¬ IsYes question → Stops (Ask question if_yes if_no) budget name → Stops if_no budget name
   stops_unasked name never h =
       elim h.takes [
         | inl (e, o) ↦ record { entries = h.entries; takes = rw e (Takes-none if_no); past = h.past }

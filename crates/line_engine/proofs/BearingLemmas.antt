@@ -17,7 +17,7 @@ use Rattle.rule_formula.specs.Options.{is_side}
 use Rattle.rule_formula.specs.Placed.{is_live}
 use Rattle.rule_formula.proofs.BearLemmas.{IsNumber, stock_number}
 use Rattle.rule_formula.proofs.BearingTheorem.{king_is}
-use Rattle.path_formula.specs.Small.{AreTwo}
+use Rattle.line_formula.specs.Small.{AreTwo}
 
 -- a man bears on the man of this number
 pub record IsAimed (men : List Man) (g : ℕ) (b : Bearing) : Type 0 where

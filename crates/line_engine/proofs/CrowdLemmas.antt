@@ -7,8 +7,8 @@ use Rattle.game_rules.specs.declared.men.Place.{Place}
 use Rattle.game_rules.specs.declared.men.Place.TheVariants.{Gone, At}
 use Rattle.game_rules.specs.declared.men.Square.{Square}
 use Rattle.game_rules.specs.Game.{place_square}
-use Rattle.path_formula.specs.Small.{AreNear, IsNearSquare}
-use Rattle.path_formula.proofs.GapLemmas.{near_square}
+use Rattle.line_formula.specs.Small.{AreNear, IsNearSquare}
+use Rattle.line_formula.proofs.GapLemmas.{near_square}
 use Rattle.line_engine.specs.Crowds.{IsNearPlace}
 
 pub near_at : (men : List Man) (i : ℕ) (d : Man) → AreNear men → i < length men → IsNearPlace (get_or men i d).place

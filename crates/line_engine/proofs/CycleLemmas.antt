@@ -9,7 +9,7 @@ use Rattle.auto_core.specs.Automaton.{Automaton}
 use Rattle.lin_formula.specs.SetOf.{IsEmpty, Member, Nothing, SetOf, Table, as_set}
 use Rattle.rule_formula.specs.declared.opt.Opt.{Opt}
 use Rattle.rule_formula.specs.Options.{is_side}
-use Rattle.path_formula.specs.Paths.{bear_after, options_at, threats_at, turn_at}
+use Rattle.line_formula.specs.Paths.{bear_after, options_at, threats_at, turn_at}
 use Rattle.set_plan.specs.Outcome.{Ends}
 use Rattle.set_plan.specs.Program.{Ask, Empty, Give, Item, Within, bind, each}
 use Rattle.set_plan.specs.Sets.{DecidesOn}
@@ -20,7 +20,7 @@ use Rattle.line_plan.specs.Plan.{Found, Program, distances, is_known, kept, kept
 use Rattle.line_plan.specs.Plan.{Losing as Lost}
 use Rattle.line_plan.proofs.SetFacts.{distances-ascend, free_known}
 use Rattle.line_engine.specs.declared.errors.CrowdError.{CrowdError}
-use Rattle.line_engine.specs.declared.losing.Losing.{Losing}
+use Rattle.line_engine.specs.declared.losing.LoserProgress.{LoserProgress}
 use Rattle.line_engine.specs.Answers.{Answers, IsErrorOf, IsFilledOn, as_plan_error, escape_by, found_at, losing_at, made_at, rest_of}
 use Rattle.line_engine.proofs.LeadLemmas.{first_error, item_error, item_made, last_answers, leads_answers, leads_no, leads_yes, nothing_joined}
 
@@ -145,7 +145,7 @@ module _ (p : Position) (winner : Side) (then_kept : List Opt → Made → Progr
               (λ made. Give (record { set = made.0; at = made.1; known = so_far.known && inner.known })) to_item made is_made) h
 
   -- one more option of the loser
-  module _ (o : Opt) (at : ℕ) (lost : Losing) (budget : ℕ) where
+  module _ (o : Opt) (at : ℕ) (lost : LoserProgress) (budget : ℕ) where
     abbrev pub lost_with : Program Lost
     lost_with = lose_option p winner then_kept s reached o (losing_at at lost)
 
@@ -188,7 +188,7 @@ module _ (p : Position) (winner : Side) (then_kept : List Opt → Made → Progr
               leads_yes (Within next.0 (known_of (suc (length s)) (as_set kept_set))) (if_sure next (found_at last kept_set) true) (if_sure next (found_at last kept_set) false) known
               (LeadsTo-later (lost_kept next) is_kept to_lost)
 
-          pub lost_answers : (end : ℕ) (r : Result Losing CrowdError) → Answers (escape_by (length s) next.0 (as_set kept_set) (losing_at last lost)) budget (losing_at end) r
+          pub lost_answers : (end : ℕ) (r : Result LoserProgress CrowdError) → Answers (escape_by (length s) next.0 (as_set kept_set) (losing_at last lost)) budget (losing_at end) r
               → Answers lost_with budget (losing_at end) r
           lost_answers end r h = leads_answers (losing_at end) r to_escape h
 

@@ -6,7 +6,7 @@ use Rattle.track_word.specs.declared.tracks.Var.{Var}
 use Rattle.track_word.specs.Tracks.{Values, IsAscending, part_of, with_vars, word_values}
 use Rattle.track_word.specs.Word.{IsWord}
 use Rattle.auto_core.specs.Automaton.{Automaton, Accepts, IsAutomaton}
-use Rattle.auto_apart.specs.Apart.{AreApart}
+use Rattle.auto_disjoint.specs.Apart.{AreApart}
 use Rattle.lin_formula.proofs.Coincide.{coincide}
 use Rattle.lin_formula.proofs.FreeVars.{free_vars-free, one_of-with_vars}
 use Rattle.lin_formula.specs.Free.{IsOneOf}

@@ -24,16 +24,16 @@ use Rattle.rule_formula.specs.Trees.{clear, is_other, man_ray, ray_at, ray_or_no
 use Rattle.rule_formula.proofs.ChainLemmas.{last_or_before}
 use Rattle.rule_formula.proofs.FineLemmas.{AreVars, IsFine, IsLow}
 use Rattle.rule_formula.proofs.SizeTheorem.{IsFit}
-use Rattle.path_formula.specs.declared.gap.Gap.{Gap}
-use Rattle.path_formula.specs.declared.leg.Leg.{Leg}
-use Rattle.path_formula.specs.Atoms.{constant, gap_tree, held, sum_tree, terms}
-use Rattle.path_formula.specs.Paths.{first_part, leg_of, legs_of}
-use Rattle.path_formula.specs.Places.{home}
-use Rattle.path_formula.specs.Rules.{across, ahead, apart_by, bear_as, capture_parts, clear_parts, distance_as, line, measure, measure_by, off_line, on_way, on_way_as, opposite, screens, upward}
-use Rattle.path_formula.specs.Small.{IsSmallGap, IsSmallLeg, IsSmallRay}
-use Rattle.path_formula.proofs.AtomLemmas.{gap_atom, next_atom, one_atom}
-use Rattle.path_formula.proofs.PlaceLemmas.{AreBelow, terms-below}
-use Rattle.path_formula.proofs.SmallRays.{small_ray}
+use Rattle.line_formula.specs.declared.gap.Gap.{Gap}
+use Rattle.line_formula.specs.declared.leg.Leg.{Leg}
+use Rattle.line_formula.specs.Atoms.{constant, gap_tree, held, sum_tree, terms}
+use Rattle.line_formula.specs.Paths.{first_part, leg_of, legs_of}
+use Rattle.line_formula.specs.Places.{home}
+use Rattle.line_formula.specs.Rules.{across, ahead, apart_by, bear_as, capture_parts, clear_parts, distance_as, line, measure, measure_by, off_line, on_way, on_way_as, opposite, screens, upward}
+use Rattle.line_formula.specs.Small.{IsSmallGap, IsSmallLeg, IsSmallRay}
+use Rattle.line_formula.proofs.AtomLemmas.{gap_atom, next_atom, one_atom}
+use Rattle.line_formula.proofs.PlaceLemmas.{AreBelow, terms-below}
+use Rattle.line_formula.proofs.SmallRays.{small_ray}
 use Rattle.line_plan.proofs.PartFacts.{IsPart, first_free, part_and, part_not}
 use Rattle.line_plan.proofs.SetFacts.{free_first, free_narrowed}
 use Rattle.line_engine.specs.Answers.{IsPartOf, NoSet}

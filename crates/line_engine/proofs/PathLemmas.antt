@@ -15,10 +15,10 @@ use Rattle.rule_formula.specs.Meaning.{IsPrey}
 use Rattle.rule_formula.specs.Options.{captures_to, is_prey, is_side, man_options, option, options_of, options_to, ray_options, rays_to}
 use Rattle.rule_formula.specs.Placed.{is_live}
 use Rattle.rule_formula.specs.Fits.{target_of}
-use Rattle.path_formula.specs.declared.leg.Leg.{Leg}
-use Rattle.path_formula.specs.declared.leg.TheConstants.{MOST_LEGS}
-use Rattle.path_formula.specs.declared.scene.Force.{Force}
-use Rattle.path_formula.specs.Paths.{leg_of, mask_at, options_at, turn_at}
+use Rattle.line_formula.specs.declared.leg.Leg.{Leg}
+use Rattle.line_formula.specs.declared.leg.TheConstants.{MOST_LEGS}
+use Rattle.line_formula.specs.declared.scene.Force.{Force}
+use Rattle.line_formula.specs.Paths.{leg_of, mask_at, options_at, turn_at}
 use Rattle.line_engine.specs.Nodes.{IsAfterPath}
 use Rattle.rule_formula.proofs.BearLemmas.{IsNumber, stock_number}
 use Rattle.rule_formula.proofs.GameTheorem.{prey_live}

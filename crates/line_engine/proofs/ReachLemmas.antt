@@ -9,10 +9,10 @@ use Rattle.rule_formula.specs.declared.opt.Bearing.{Bearing}
 use Rattle.rule_formula.specs.declared.opt.Opt.{Opt}
 use Rattle.rule_formula.specs.Placed.{is_live}
 use Rattle.rule_formula.specs.Trees.{is_other}
-use Rattle.path_formula.specs.declared.leg.Leg.{Leg}
-use Rattle.path_formula.specs.Paths.{dangers_at, first_part, further_parts, leg_of, legs_at, mask_at, threats_at}
-use Rattle.path_formula.specs.Places.{home}
-use Rattle.path_formula.specs.Rules.{capture_parts, clear_parts, on_way}
+use Rattle.line_formula.specs.declared.leg.Leg.{Leg}
+use Rattle.line_formula.specs.Paths.{dangers_at, first_part, further_parts, leg_of, legs_at, mask_at, threats_at}
+use Rattle.line_formula.specs.Places.{home}
+use Rattle.line_formula.specs.Rules.{capture_parts, clear_parts, on_way}
 use Rattle.set_plan.specs.Outcome.{Ends, IsPlanError}
 use Rattle.set_plan.specs.Program.{Item, each}
 use Rattle.set_plan.specs.Unite.{Made, unite, with_item}
@@ -20,8 +20,8 @@ use Rattle.set_plan.specs.declared.stop.PlanError.{PlanError}
 use Rattle.set_plan.proofs.Composition.{Error-bind, LeadsTo, LeadsTo-error, LeadsTo-later, LeadsTo-self}
 use Rattle.set_plan.proofs.Folds.{each-map}
 use Rattle.line_plan.specs.Plan as plan
-use Rattle.line_engine.specs.declared.path.Node.{Node}
-use Rattle.line_engine.specs.declared.path.Step.{Step}
+use Rattle.line_engine.specs.declared.path.PathNode.{PathNode}
+use Rattle.line_engine.specs.declared.path.PathStep.{PathStep}
 use Rattle.line_engine.specs.declared.errors.CrowdError.{CrowdError}
 use Rattle.line_engine.specs.Answers.{Answers, as_plan_error}
 use Rattle.line_engine.specs.Nodes.{position_of, safe_after}
@@ -51,7 +51,7 @@ parts_are p q s path o legs leg mask legs_is leg_is mask_is place path_is =
     ∙ ap (λ t. capture_parts (home p.men) (legs_at p s) (leg_of p.men o) o.taken
     ++ (clear_parts (home p.men) (legs_at p s) (leg_of p.men o) (is_live (mask_at p s)) o.taken (length p.men) ++ safe_after p t)) path_is
 
-module _ (step : Step) (budget : ℕ) (begun : Made) where
+module _ (step : PathStep) (budget : ℕ) (begun : Made) where
   abbrev place_before : Position
   place_before = position_of step.before.crowd
 
@@ -127,7 +127,7 @@ module _ (start : ℕ → Square) (legs : List Leg) (leg : Leg) (live : ℕ → 
       (front_error (clear_parts start legs leg live t (n + 1)) rest (plan.narrow k) first budget (LeadsTo-self whole budget) e here)
 
 -- ray by ray, that no man bears along it
-module _ {R : Type 0} (node : Node) (budget : ℕ) (view : R → Made) (r : Result R CrowdError) where
+module _ {R : Type 0} (node : PathNode) (budget : ℕ) (view : R → Made) (r : Result R CrowdError) where
   pub safe_answers : (xs : List Bearing) (first : Made) → xs ≡ dangers_at (position_of node.crowd) node.path.now
       → Answers (each xs (λ b. plan.narrow (length node.path.now) (Not (bears_at node b))) first) budget view r
       → Answers (each (safe_after (position_of node.crowd) node.path.now) (plan.narrow (length node.path.now)) first) budget view r

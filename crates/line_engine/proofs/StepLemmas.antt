@@ -15,17 +15,17 @@ use Rattle.rule_formula.specs.Placed.{is_live}
 use Rattle.rule_formula.specs.Trees.{ray_at}
 use Rattle.rule_formula.proofs.BearLemmas.{IsNumber, stock_number}
 use Rattle.rule_formula.proofs.ListTheorem.{options_are}
-use Rattle.path_formula.specs.declared.gap.Gap.{Gap}
-use Rattle.path_formula.specs.declared.leg.Leg.{Leg}
-use Rattle.path_formula.specs.declared.scene.Force.{Force}
-use Rattle.path_formula.specs.Atoms.{gap_tree}
-use Rattle.path_formula.specs.Paths.{bear_after, dangers_at, leg_of, legs_at, legs_of, mask_at, options_at, threats_at, turn_at}
-use Rattle.path_formula.specs.Places.{home}
-use Rattle.path_formula.specs.Rules.{across, bear, on_way, upward}
-use Rattle.path_formula.specs.Small.{AreTwo, IsSmallLeg, IsSmallRay}
-use Rattle.path_formula.proofs.PathTheorem.{legs-length}
-use Rattle.line_engine.specs.declared.path.Node.{Node}
-use Rattle.line_engine.specs.declared.path.Step.{Step}
+use Rattle.line_formula.specs.declared.gap.Gap.{Gap}
+use Rattle.line_formula.specs.declared.leg.Leg.{Leg}
+use Rattle.line_formula.specs.declared.scene.Force.{Force}
+use Rattle.line_formula.specs.Atoms.{gap_tree}
+use Rattle.line_formula.specs.Paths.{bear_after, dangers_at, leg_of, legs_at, legs_of, mask_at, options_at, threats_at, turn_at}
+use Rattle.line_formula.specs.Places.{home}
+use Rattle.line_formula.specs.Rules.{across, bear, on_way, upward}
+use Rattle.line_formula.specs.Small.{AreTwo, IsSmallLeg, IsSmallRay}
+use Rattle.line_formula.proofs.PathTheorem.{legs-length}
+use Rattle.line_engine.specs.declared.path.PathNode.{PathNode}
+use Rattle.line_engine.specs.declared.path.PathStep.{PathStep}
 use Rattle.line_engine.specs.Answers.{IsPartOf}
 use Rattle.line_engine.specs.Nodes.{IsAfterPath, position_of}
 use Rattle.line_engine.proofs.PartLemmas.{AreLegs, bear_is, capture_is, legs_small, off_way_is, ray_small}
@@ -41,13 +41,13 @@ path_legs p path legs force h =
 pub path_count : (p : Position) (path : List Opt) (legs : List Leg) (force : Force) → IsAfterPath p path legs force → length legs ≡ length path
 path_count p path legs force h = ap (λ xs. length xs) h.legs_are ∙ legs-length p.men path
 
-pub node_legs : (node : Node) → AreLegs (length node.path.now) node.legs.now
+pub node_legs : (node : PathNode) → AreLegs (length node.path.now) node.legs.now
 node_legs node = path_legs (position_of node.crowd) node.path.now node.legs.now node.force node.is
 
-pub node_count : (node : Node) → length node.legs.now ≡ length node.path.now
+pub node_count : (node : PathNode) → length node.legs.now ≡ length node.path.now
 node_count node = path_count (position_of node.crowd) node.path.now node.legs.now node.force node.is
 
-pub node_few : (node : Node) → length node.path.now ≤ 6
+pub node_few : (node : PathNode) → length node.path.now ≤ 6
 node_few node = let few = node.is.few in omega (arith, few)
 
 -- the legs after one more move
@@ -58,26 +58,26 @@ legs_more men men_after path path_after legs legs_after option leg before after 
     after ∙ ap (λ ms. legs_of ms path_after) men_same ∙ ap (λ s. legs_of men s) path_is
     ∙ ap (λ (xs : List Leg). leg_of men option ∷ xs) (sym before) ∙ ap (λ (l : Leg). l ∷ legs) (sym leg_is)
 
-pub step_legs : (step : Step) → step.after.legs.now ≡ step.leg ∷ step.before.legs.now
+pub step_legs : (step : PathStep) → step.after.legs.now ≡ step.leg ∷ step.before.legs.now
 step_legs step =
     legs_more step.before.crowd.men.now step.after.crowd.men.now step.before.path.now step.after.path.now step.before.legs.now step.after.legs.now
     step.option step.leg step.before.is.legs_are step.after.is.legs_are step.men step.path step.leg_is
 
-pub step_place : (step : Step) → position_of step.after.crowd ≡ position_of step.before.crowd
+pub step_place : (step : PathStep) → position_of step.after.crowd ≡ position_of step.before.crowd
 step_place step = λ i. record { men = step.men i; turn = step.turn i }
 
-pub step_small : (step : Step) → IsSmallRay step.leg.ray
+pub step_small : (step : PathStep) → IsSmallRay step.leg.ray
 step_small step =
     subst (λ (l : Leg). IsSmallRay l.ray) (sym step.leg_is) (ray_small step.before.crowd.men.now step.option.man step.option.ray)
 
 -- the parts of the step, over the distances after it
-legs_after : (step : Step) → AreLegs (length step.after.path.now) (step.leg ∷ step.before.legs.now)
+legs_after : (step : PathStep) → AreLegs (length step.after.path.now) (step.leg ∷ step.before.legs.now)
 legs_after step = subst (AreLegs (length step.after.path.now)) (step_legs step) (node_legs step.after)
 
-count_after : (step : Step) → suc (length step.before.legs.now) ≡ length step.after.path.now
+count_after : (step : PathStep) → suc (length step.before.legs.now) ≡ length step.after.path.now
 count_after step = sym (ap (λ xs. length xs) (step_legs step)) ∙ node_count step.after
 
-pub step_off : (step : Step) (number : ℕ)
+pub step_off : (step : PathStep) (number : ℕ)
     → IsPartOf (length step.after.path.now) (length step.after.path.now) (Not (on_way (home step.before.crowd.men.now) step.before.legs.now step.leg number))
 step_off step number =
     let n : ℕ = suc (length step.before.legs.now) in
@@ -87,28 +87,28 @@ step_off step number =
     (off_way_is (home step.before.crowd.men.now) step.before.legs.now step.leg after before.small (step_small step) number)
 
 -- the code's formula of it
-pub hit_tree : (step : Step) (number : ℕ) (men : List Man) (legs : List Leg) (hit : Tree) → men ≡ step.before.crowd.men.now → legs ≡ step.before.legs.now
+pub hit_tree : (step : PathStep) (number : ℕ) (men : List Man) (legs : List Leg) (hit : Tree) → men ≡ step.before.crowd.men.now → legs ≡ step.before.legs.now
     → hit ≡ on_way (home men) legs step.leg number → hit ≡ on_way (home step.before.crowd.men.now) step.before.legs.now step.leg number
 hit_tree step number men legs hit men_is legs_is is =
     is ∙ ap (λ ms. on_way (home ms) legs step.leg number) men_is ∙ ap (λ ls. on_way (home step.before.crowd.men.now) ls step.leg number) legs_is
 
-pub step_captures : (step : Step) (a b : ℕ)
+pub step_captures : (step : PathStep) (a b : ℕ)
     → IsPartOf (length step.after.path.now) (length step.after.path.now) (gap_tree (home step.before.crowd.men.now) (step.leg ∷ step.before.legs.now) (across a b) Eq (pos 0))
     × IsPartOf (length step.after.path.now) (length step.after.path.now) (gap_tree (home step.before.crowd.men.now) (step.leg ∷ step.before.legs.now) (upward a b) Eq (pos 0))
 step_captures step a b = capture_is (home step.before.crowd.men.now) (step.leg ∷ step.before.legs.now) (legs_after step) a b
 
 -- the code's formula of one
-pub capture_tree : (step : Step) (gap : Gap) (men : List Man) (legs : List Leg) (t : Tree) → men ≡ step.after.crowd.men.now → legs ≡ step.after.legs.now
+pub capture_tree : (step : PathStep) (gap : Gap) (men : List Man) (legs : List Leg) (t : Tree) → men ≡ step.after.crowd.men.now → legs ≡ step.after.legs.now
     → t ≡ gap_tree (home men) legs gap Eq (pos 0) → t ≡ gap_tree (home step.before.crowd.men.now) (step.leg ∷ step.before.legs.now) gap Eq (pos 0)
 capture_tree step gap men legs t men_is legs_is is =
     is ∙ ap (λ ms. gap_tree (home ms) legs gap Eq (pos 0)) (men_is ∙ step.men)
     ∙ ap (λ ls. gap_tree (home step.before.crowd.men.now) ls gap Eq (pos 0)) (legs_is ∙ step_legs step)
 
 -- that a man bears on a king after the path, and that he does not
-abbrev pub bears_at : Node → Bearing → Tree
+abbrev pub bears_at : PathNode → Bearing → Tree
 bears_at node b = bear_after (position_of node.crowd) node.path.now b
 
-pub node_bears : (node : Node) (b : Bearing)
+pub node_bears : (node : PathNode) (b : Bearing)
     → IsPartOf (length node.path.now) (length node.path.now) (bears_at node b) × IsPartOf (length node.path.now) (length node.path.now) (Not (bears_at node b))
 node_bears node b =
     let men = node.crowd.men.now in
@@ -119,7 +119,7 @@ node_bears node b =
     bear_is (home men) (legs_at (position_of node.crowd) node.path.now) legs live (length men) (omega (arith, most)) (ray_at men b.man b.ray) (ray_small men b.man b.ray) b.man b.king
 
 -- the code's formula of it
-pub bears_tree : (node : Node) (b : Bearing) (scene_men : List Man) (scene_legs : List Leg) (t : Tree) → scene_men ≡ node.crowd.men.now → scene_legs ≡ node.legs.now
+pub bears_tree : (node : PathNode) (b : Bearing) (scene_men : List Man) (scene_legs : List Leg) (t : Tree) → scene_men ≡ node.crowd.men.now → scene_legs ≡ node.legs.now
     → t ≡ bear (home scene_men) scene_legs (is_live node.force.mask) (length scene_men) (ray_at scene_men b.man b.ray) b.man b.king
     → t ≡ bears_at node b
 bears_tree node b scene_men scene_legs t men legs is =
@@ -130,12 +130,12 @@ bears_tree node b scene_men scene_legs t men legs is =
     (ray_at node.crowd.men.now b.man b.ray) b.man b.king) node.is.mask
 
 -- the rays along which men may bear on either king
-pub dangers_are : (node : Node) → bearings_of node.crowd.men.now node.force.mask node.force.side ≡ dangers_at (position_of node.crowd) node.path.now
+pub dangers_are : (node : PathNode) → bearings_of node.crowd.men.now node.force.mask node.force.side ≡ dangers_at (position_of node.crowd) node.path.now
 dangers_are node =
     ap (λ m. bearings_of node.crowd.men.now m node.force.side) node.is.mask
     ∙ ap (λ t. bearings_of node.crowd.men.now (mask_at (position_of node.crowd) node.path.now) t) node.is.side
 
-pub threats_are : (node : Node) → bearings_of node.crowd.men.now node.force.mask (other node.force.side) ≡ threats_at (position_of node.crowd) node.path.now
+pub threats_are : (node : PathNode) → bearings_of node.crowd.men.now node.force.mask (other node.force.side) ≡ threats_at (position_of node.crowd) node.path.now
 threats_are node =
     ap (λ m. bearings_of node.crowd.men.now m (other node.force.side)) node.is.mask
     ∙ ap (λ t. bearings_of node.crowd.men.now (mask_at (position_of node.crowd) node.path.now) (other t)) node.is.side
@@ -156,14 +156,14 @@ option_two p s o listed some =
     let prey = prey_number p.men (mask_at p s) w.0.man.side o.taken some w.0.is.prey in
     record { first = prey.low; first_is = prey.high; second = man.low; second_is = man.high }
 
-pub step_two : (step : Step) → Contains (options_at (position_of step.before.crowd) step.before.path.now) step.option → step.option.taken ≢ 0
+pub step_two : (step : PathStep) → Contains (options_at (position_of step.before.crowd) step.before.path.now) step.option → step.option.taken ≢ 0
     → AreTwo step.after.crowd.men.now step.option.taken step.leg.man
 step_two step listed some =
     let two = option_two (position_of step.before.crowd) step.before.path.now step.option listed some in
     subst (λ men. AreTwo men step.option.taken step.leg.man) (sym step.men)
     (subst (λ (l : Leg). AreTwo step.before.crowd.men.now step.option.taken l.man) (sym step.leg_is) two)
 
-pub step_man : (step : Step) (number : ℕ) → Contains (options_at (position_of step.before.crowd) step.before.path.now) step.option → 1 ≤ number
+pub step_man : (step : PathStep) (number : ℕ) → Contains (options_at (position_of step.before.crowd) step.before.path.now) step.option → 1 ≤ number
     → number ≤ length step.before.crowd.men.now
     → AreTwo step.before.crowd.men.now step.leg.man number
 step_man step number listed low high =

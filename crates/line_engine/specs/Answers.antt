@@ -12,7 +12,7 @@ use Rattle.set_plan.specs.Sets.{IsItemOn, IsReachedOn}
 use Rattle.set_plan.specs.Program.{Ask, Empty, Give, ◌>>=◌}
 use Rattle.set_plan.specs.Unite.{Made, difference, make, positives, with_item}
 use Rattle.line_plan.specs.Plan.{Found, Losing as Lost, Program, distances, shortened, shortened_rest}
-use Rattle.line_engine.specs.declared.losing.Losing.{Losing}
+use Rattle.line_engine.specs.declared.losing.LoserProgress.{LoserProgress}
 use Rattle.line_engine.specs.declared.errors.CrowdError.{CrowdError}
 use Rattle.line_engine.specs.declared.errors.CrowdError.TheVariants.{Over, Memory}
 
@@ -44,7 +44,7 @@ abbrev pub found_at : ℕ → Option Automaton → Found
 found_at at set = record { set = as_set set; at = at; known = true }
 
 -- what was found for the loser's options so far
-abbrev pub losing_at : ℕ → Losing → Lost
+abbrev pub losing_at : ℕ → LoserProgress → Lost
 losing_at at lost = record { escape = as_set lost.escape; moves = as_set lost.moves; at = at; known = true }
 
 -- an automaton over these tracks that has a tuple
@@ -62,7 +62,7 @@ pub record IsFilledItem (tracks : List Var) (sets : List Automaton) (f : Tree) :
   pub some : NoneEmpty (map (tables sets) (positives f))
 
 -- both sets of what was found for the loser's options
-pub record IsFilledLosing (n : ℕ) (lost : Losing) : Type 0 where
+pub record IsFilledLosing (n : ℕ) (lost : LoserProgress) : Type 0 where
   pub escape : IsFilled n lost.escape
   pub moves : IsFilled n lost.moves
 

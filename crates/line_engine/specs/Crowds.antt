@@ -4,7 +4,7 @@ use Rattle.chess_game.specs.declared.position.TheConstants.{MOST_CROWD}
 use Rattle.game_rules.specs.declared.men.Man.{Man}
 use Rattle.game_rules.specs.declared.men.Place.{Place}
 use Rattle.game_rules.specs.declared.men.Place.TheVariants.{Gone, At}
-use Rattle.path_formula.specs.Small.{AreNear, IsNearSquare}
+use Rattle.line_formula.specs.Small.{AreNear, IsNearSquare}
 
 -- two to 32 men, who stand near enough
 pub record IsCrowd (men : List Man) : Type 0 where

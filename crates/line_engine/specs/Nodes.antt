@@ -1,13 +1,13 @@
 -- What stands after the options of a path.
 use Rattle.std.specs.Prelude.{◌≡◌, ◌≤◌, List, length}
 use Rattle.game_rules.specs.Game.{Position}
-use Rattle.path_formula.specs.declared.leg.Leg.{Leg}
-use Rattle.path_formula.specs.declared.leg.TheConstants.{MOST_LEGS}
-use Rattle.path_formula.specs.declared.scene.Force.{Force}
+use Rattle.line_formula.specs.declared.leg.Leg.{Leg}
+use Rattle.line_formula.specs.declared.leg.TheConstants.{MOST_LEGS}
+use Rattle.line_formula.specs.declared.scene.Force.{Force}
 use Rattle.lin_formula.specs.Tree.{Tree}
-use Rattle.path_formula.specs.Paths.{dangers_at, legs_at, mask_at, turn_at}
-use Rattle.path_formula.specs.Places.{home}
-use Rattle.path_formula.specs.Rules.{safe_parts}
+use Rattle.line_formula.specs.Paths.{dangers_at, legs_at, mask_at, turn_at}
+use Rattle.line_formula.specs.Places.{home}
+use Rattle.line_formula.specs.Rules.{safe_parts}
 use Rattle.rule_formula.specs.Placed.{is_live}
 use Rattle.rule_formula.specs.declared.opt.Opt.{Opt}
 use Rattle.line_engine.specs.declared.crowd.Crowd.{Crowd}

@@ -1,7 +1,7 @@
 //! Positions of two to 32 men.
 
 ghost use Rattle.std.specs.Prelude.{◌≡◌, ◌↔◌, ◌≤◌, IfSome, IsSome, IsTrue, length};
-ghost use Rattle.path_formula.specs.Small.{AreNear, IsNearSquare};
+ghost use Rattle.line_formula.specs.Small.{AreNear, IsNearSquare};
 ghost use Rattle.line_engine.specs.Crowds.{IsCrowd, IsNearPlace};
 
 use chess_game::MOST_CROWD;

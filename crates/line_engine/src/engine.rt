@@ -4,7 +4,7 @@ ghost use Rattle.std.specs.Prelude.{◌≡◌, ◌↔◌, ◌<◌, ◌≤◌, �
 ghost use Rattle.auto_core.specs.Automaton.{Automaton};
 ghost use Rattle.game_rules.specs.Game.{Sound, Value, other};
 ghost use Rattle.lin_formula.specs.SetOf.{Nothing, Table, as_set};
-ghost use Rattle.path_formula.specs.Paths.{options_at};
+ghost use Rattle.line_formula.specs.Paths.{options_at};
 ghost use Rattle.rule_formula.specs.Fits.{target_of};
 ghost use Rattle.rule_formula.specs.Placed.{is_live};
 ghost use Rattle.set_plan.specs.Outcome.{Ends};
@@ -14,17 +14,17 @@ ghost use Rattle.line_engine.specs.Nodes.{position_of};
 
 use crate::crowd::Crowd;
 use crate::errors::CrowdError;
-use crate::losing::Losing;
+use crate::losing::LoserProgress;
 use crate::node::{leg, mask_of, target, with_first};
 use crate::parts::{checked, reach};
-use crate::path::{Node, Step};
+use crate::path::{PathNode, PathStep};
 use crate::sets::{copied, difference, join, one_set, shortened, shortened_rest};
-use crate::work::Work;
+use crate::work::EngineState;
 use auto_core::Auto;
 use chess_game::MOST_CROWD;
 use formula_auto::SetTable;
 use limits::Budget;
-use path_formula::{Force, MOST_LEGS, options};
+use line_formula::{Force, MOST_LEGS, options};
 use rule_formula::Opt;
 use std::alloc::{AllocError, Global};
 
@@ -34,14 +34,19 @@ pub const MOST_CROWD_MOVES: u8 = 2;
 /// A path after which a side is to move, with what is reached there, and how many moves of both sides are left after that one.
 #[derive(Clone, Copy)]
 struct Ply<'a> {
-    node: Node<'a>,
+    node: PathNode<'a>,
     reached: &'a SetTable,
     left: u8,
 }
 
 /// Where the moves of the path are legal and the winner mates within what is left, of so many moves of both sides.
 #[cycle(kept)]
-fn kept(work: &mut Work, node: &Node, left: u8, reached: Auto) -> Result<Option<Auto>, CrowdError>
+fn kept(
+    work: &mut EngineState,
+    node: &PathNode,
+    left: u8,
+    reached: Auto,
+) -> Result<Option<Auto>, CrowdError>
     requires sound { Sound (position_of node.now.crowd) }
     requires few { length node.now.path.now + left ≤ MOST_LEGS }
     requires set { IsFilledOn (plan.distances (length node.now.path.now)) reached }
@@ -71,7 +76,7 @@ fn kept(work: &mut Work, node: &Node, left: u8, reached: Auto) -> Result<Option<
 
 /// Where one of the winner's options is legal and leads to what is kept.
 #[cycle(kept)]
-fn win(work: &mut Work, ply: Ply) -> Result<Option<Auto>, CrowdError>
+fn win(work: &mut EngineState, ply: Ply) -> Result<Option<Auto>, CrowdError>
     requires sound { Sound (position_of ply.node.crowd) }
     requires few { length ply.node.path.now + suc ply.left ≤ MOST_LEGS }
     requires set { IsOneSet (length ply.node.path.now) ply.reached.now }
@@ -97,7 +102,7 @@ fn win(work: &mut Work, ply: Ply) -> Result<Option<Auto>, CrowdError>
 /// The same with one more option.
 #[cycle(kept)]
 fn with_won(
-    work: &mut Work,
+    work: &mut EngineState,
     ply: Ply,
     option: Opt,
     so_far: Option<Auto>,
@@ -121,13 +126,13 @@ fn with_won(
     let leg = leg(before.crowd.men, option);
     let path = with_first(work.alloc, option, before.path)?;
     let legs = with_first(work.alloc, leg, before.legs)?;
-    let after = Node {
+    let after = PathNode {
         crowd: before.crowd,
         path: path.as_slice(),
         legs: legs.as_slice(),
         force: force_after(before.force, option),
     };
-    let step = Step {
+    let step = PathStep {
         before,
         after,
         option,
@@ -145,7 +150,7 @@ fn with_won(
 
 /// Where the loser is in check or can move, and does not escape.
 #[cycle(kept)]
-fn lose(work: &mut Work, ply: Ply) -> Result<Option<Auto>, CrowdError>
+fn lose(work: &mut EngineState, ply: Ply) -> Result<Option<Auto>, CrowdError>
     requires sound { Sound (position_of ply.node.crowd) }
     requires few { length ply.node.path.now + suc ply.left ≤ MOST_LEGS }
     requires set { IsOneSet (length ply.node.path.now) ply.reached.now }
@@ -161,7 +166,7 @@ fn lose(work: &mut Work, ply: Ply) -> Result<Option<Auto>, CrowdError>
 {
     let node = ply.node;
     let choices = options(work.alloc, node.crowd.men, node.force)?;
-    let mut lost = Losing {
+    let mut lost = LoserProgress {
         escape: None,
         moves: None,
     };
@@ -169,7 +174,7 @@ fn lose(work: &mut Work, ply: Ply) -> Result<Option<Auto>, CrowdError>
         lost = with_lost(work, ply, *option, lost)?;
     }
     let count = node.count();
-    let Losing { escape, moves } = lost;
+    let LoserProgress { escape, moves } = lost;
     let check = checked(work, &node, ply.reached)?;
     let all = join(work, count, check, moves)?;
     difference(work, count, all, escape)
@@ -177,7 +182,12 @@ fn lose(work: &mut Work, ply: Ply) -> Result<Option<Auto>, CrowdError>
 
 /// What is found with one more option of the loser.
 #[cycle(kept)]
-fn with_lost(work: &mut Work, ply: Ply, option: Opt, lost: Losing) -> Result<Losing, CrowdError>
+fn with_lost(
+    work: &mut EngineState,
+    ply: Ply,
+    option: Opt,
+    lost: LoserProgress,
+) -> Result<LoserProgress, CrowdError>
     requires sound { Sound (position_of ply.node.crowd) }
     requires few { length ply.node.path.now + suc ply.left ≤ MOST_LEGS }
     requires set { IsOneSet (length ply.node.path.now) ply.reached.now }
@@ -197,13 +207,13 @@ fn with_lost(work: &mut Work, ply: Ply, option: Opt, lost: Losing) -> Result<Los
     let leg = leg(before.crowd.men, option);
     let path = with_first(work.alloc, option, before.path)?;
     let legs = with_first(work.alloc, leg, before.legs)?;
-    let after = Node {
+    let after = PathNode {
         crowd: before.crowd,
         path: path.as_slice(),
         legs: legs.as_slice(),
         force: force_after(before.force, option),
     };
-    let step = Step {
+    let step = PathStep {
         before,
         after,
         option,
@@ -231,12 +241,12 @@ fn force_after(force: Force, option: Opt) -> Force
 
 /// What is found with an option by which this is reached, of which this is kept.
 fn escaped(
-    work: &mut Work,
+    work: &mut EngineState,
     count: u8,
     reached: Auto,
     kept: Option<Auto>,
-    lost: Losing,
-) -> Result<Losing, CrowdError>
+    lost: LoserProgress,
+) -> Result<LoserProgress, CrowdError>
     requires few { count ≤ 5 }
     requires reached { IsFilledOn (plan.distances (suc count)) reached }
     requires kept { IsFilled (suc count) kept }
@@ -256,11 +266,11 @@ fn escaped(
 
 /// The same where nothing is kept. He escapes wherever he can move: the set is made once and counts twice.
 fn always_escaped(
-    work: &mut Work,
+    work: &mut EngineState,
     count: u8,
     reached: Auto,
-    lost: Losing,
-) -> Result<Losing, CrowdError>
+    lost: LoserProgress,
+) -> Result<LoserProgress, CrowdError>
     requires few { count ≤ 5 }
     requires reached { IsFilledOn (plan.distances (suc count)) reached }
     requires lost { IsFilledLosing count lost }
@@ -276,17 +286,17 @@ fn always_escaped(
     let escape = join(work, count, lost.escape, first)?;
     work.at += 1;
     let moves = join(work, count, lost.moves, second)?;
-    Ok(Losing { escape, moves })
+    Ok(LoserProgress { escape, moves })
 }
 
 /// The same where this is kept.
 fn escaped_unless(
-    work: &mut Work,
+    work: &mut EngineState,
     count: u8,
     reached: Auto,
     kept: Auto,
-    lost: Losing,
-) -> Result<Losing, CrowdError>
+    lost: LoserProgress,
+) -> Result<LoserProgress, CrowdError>
     requires few { count ≤ 5 }
     requires reached { IsFilledOn (plan.distances (suc count)) reached }
     requires kept { IsFilledOn (plan.distances (suc count)) kept }
@@ -303,7 +313,7 @@ fn escaped_unless(
     let escape = join(work, count, lost.escape, rest)?;
     let item = shortened(work, count, reached)?;
     let moves = join(work, count, lost.moves, item)?;
-    Ok(Losing { escape, moves })
+    Ok(LoserProgress { escape, moves })
 }
 
 /// The automaton of the empty tuple: it accepts each word over no track.
@@ -346,8 +356,8 @@ pub fn decide_crowd(
         (λ mates. Ends (plan.plan (position_of crowd.now) crowd.now.winner moves) budget (Some mates)) }
     ensures over { IfErr result (IsErrorOf (plan.plan (position_of crowd.now) crowd.now.winner moves) budget) }
 {
-    let mut work = Work::new(alloc, budget);
-    let node = Node {
+    let mut work = EngineState::new(alloc, budget);
+    let node = PathNode {
         crowd: *crowd,
         path: &[],
         legs: &[],

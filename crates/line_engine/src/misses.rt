@@ -7,9 +7,9 @@ ghost use Rattle.lin_formula.specs.Tree as tree;
 ghost use Rattle.lin_formula.specs.TreeOf.{tree_of};
 ghost use Rattle.line_engine.specs.Misses.{FitsWith, IsAsked, IsMadeOf, IsMissed, IsPlain, IsProductOf, IsSized, lead};
 
-use crate::work::Work;
-use auto_apart::are_apart;
+use crate::work::EngineState;
 use auto_core::Auto;
+use auto_disjoint::are_disjoint;
 use formula_auto::{CompileError, SetTable};
 use lin_formula::Formula;
 use std::alloc::AllocError;
@@ -38,7 +38,7 @@ fn lead_of(f: &Formula) -> &Formula
     }
 }
 
-impl Work {
+impl EngineState {
     /// The automaton of a formula that names no set. None where a step of it exceeds the budget.
     fn plain(&mut self, f: &Formula) -> Result<Option<Auto>, AllocError>
         requires plain { IsPlain (tree_of f.now) }
@@ -47,7 +47,7 @@ impl Work {
     {
         let none = SetTable::new(self.alloc);
         let mut meets = self.memo.meets(self.alloc, &none);
-        match self.memo.compile_apart(self.alloc, f, &mut meets) {
+        match self.memo.compile_uncached(self.alloc, f, &mut meets) {
             Ok(a) => Ok(Some(a)),
             Err(CompileError::Over { .. }) => Ok(None),
             Err(CompileError::Memory) => Err(AllocError),
@@ -121,7 +121,7 @@ impl Work {
         let Some(first) = self.plain(lead_of(f))? else {
             return Ok(false);
         };
-        if !are_apart(self.alloc, set, &first)? {
+        if !are_disjoint(self.alloc, set, &first)? {
             return Ok(false);
         }
         self.fits_with(set.states(), f)

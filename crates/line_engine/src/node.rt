@@ -5,11 +5,11 @@ ghost use Rattle.game_rules.specs.Game.{square_of};
 ghost use Rattle.mask_sets.specs.Stock.{live_bit as bit_of, mask_of_men};
 ghost use Rattle.rule_formula.specs.Fits.{mask_without, target_of};
 ghost use Rattle.rule_formula.specs.Placed.{is_live};
-ghost use Rattle.path_formula.specs.Paths.{leg_of};
+ghost use Rattle.line_formula.specs.Paths.{leg_of};
 ghost use Rattle.line_plan.specs.Plan.{distances as distances_to, distances_from};
 
 use game_rules::{Man, Place};
-use path_formula::{Leg, ray_at};
+use line_formula::{Leg, ray_at};
 use rule_formula::Opt;
 use std::alloc::{AllocError, Global};
 use track_word::Var;

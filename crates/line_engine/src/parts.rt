@@ -4,10 +4,10 @@ ghost use Rattle.std.specs.Prelude.{◌≡◌, ◌≤◌, ◌<◌, ◌+◌, ◌*
 ghost use Rattle.game_rules.specs.Game.{Sound};
 ghost use Rattle.lin_formula.specs.SetOf.{Nothing, Table, as_set};
 ghost use Rattle.lin_formula.specs.Tree.{Not};
-ghost use Rattle.path_formula.specs.Paths.{bear_after, first_part, options_at, threats_at};
-ghost use Rattle.path_formula.specs.Places.{home};
-ghost use Rattle.path_formula.specs.Rules.{capture_parts, clear_parts, on_way as on_way_tree};
-ghost use Rattle.path_formula.specs.Small.{AreTwo};
+ghost use Rattle.line_formula.specs.Paths.{bear_after, first_part, options_at, threats_at};
+ghost use Rattle.line_formula.specs.Places.{home};
+ghost use Rattle.line_formula.specs.Rules.{capture_parts, clear_parts, on_way as on_way_tree};
+ghost use Rattle.line_formula.specs.Small.{AreTwo};
 ghost use Rattle.rule_formula.specs.Placed.{is_live};
 ghost use Rattle.rule_formula.specs.Trees.{is_other as other_than};
 ghost use Rattle.set_plan.specs.Program.{each};
@@ -17,17 +17,21 @@ ghost use Rattle.line_engine.specs.Answers.{Answers, IsFilled, IsOneSet, made_at
 ghost use Rattle.line_engine.specs.Nodes.{position_of, safe_after};
 
 use crate::errors::CrowdError;
-use crate::path::{Node, Step};
+use crate::path::{PathNode, PathStep};
 use crate::sets::{join, leave_out, narrow, narrowed};
-use crate::work::Work;
+use crate::work::EngineState;
 use auto_core::Auto;
 use formula_auto::SetTable;
-use path_formula::{Force, bear, bearings, captures, distance, is_other, on_way};
+use line_formula::{Force, bear, bearings, captures, distance, is_other, on_way};
 use rule_formula::Bearing;
 use track_word::Var;
 
 /// The distances at which the moves before are legal, with one for the further move: any that its ray has.
-fn begun(work: &mut Work, step: &Step, reached: &SetTable) -> Result<Option<Auto>, CrowdError>
+fn begun(
+    work: &mut EngineState,
+    step: &PathStep,
+    reached: &SetTable,
+) -> Result<Option<Auto>, CrowdError>
     requires set { IsOneSet (length step.now.before.path.now) reached.now }
     requires room { work.old.at + 1000 ≤ 2 ^ 127 }
     ensures answers { (a : _) → reached.now ≡ a ∷ []
@@ -44,7 +48,11 @@ fn begun(work: &mut Work, step: &Step, reached: &SetTable) -> Result<Option<Auto
 }
 
 /// Of a capture, those of them at which the mover comes to the square of the man that is taken.
-fn captured(work: &mut Work, step: &Step, so_far: Option<Auto>) -> Result<Option<Auto>, CrowdError>
+fn captured(
+    work: &mut EngineState,
+    step: &PathStep,
+    so_far: Option<Auto>,
+) -> Result<Option<Auto>, CrowdError>
     requires listed { Contains (options_at (position_of step.now.before.crowd) step.now.before.path.now) step.now.option }
     requires set { IsFilled (length step.now.after.path.now) so_far }
     requires room { work.old.at + 2000 ≤ 2 ^ 127 }
@@ -72,8 +80,8 @@ fn captured(work: &mut Work, step: &Step, so_far: Option<Auto>) -> Result<Option
 
 /// Those of them at which the man of this number is not on the way.
 fn off_way(
-    work: &mut Work,
-    step: &Step,
+    work: &mut EngineState,
+    step: &PathStep,
     so_far: Option<Auto>,
     number: u8,
 ) -> Result<Option<Auto>, CrowdError>
@@ -96,8 +104,8 @@ fn off_way(
 
 /// The same, if he is a live man other than the mover and the man that is taken.
 fn off_way_if_other(
-    work: &mut Work,
-    step: &Step,
+    work: &mut EngineState,
+    step: &PathStep,
     so_far: Option<Auto>,
     number: u8,
 ) -> Result<Option<Auto>, CrowdError>
@@ -124,7 +132,11 @@ fn off_way_if_other(
 }
 
 /// Those of them at which no other man is on the way.
-fn cleared(work: &mut Work, step: &Step, so_far: Option<Auto>) -> Result<Option<Auto>, CrowdError>
+fn cleared(
+    work: &mut EngineState,
+    step: &PathStep,
+    so_far: Option<Auto>,
+) -> Result<Option<Auto>, CrowdError>
     requires listed { Contains (options_at (position_of step.now.before.crowd) step.now.before.path.now) step.now.option }
     requires set { IsFilled (length step.now.after.path.now) so_far }
     requires room { work.old.at + 32000 ≤ 2 ^ 127 }
@@ -146,8 +158,8 @@ fn cleared(work: &mut Work, step: &Step, so_far: Option<Auto>) -> Result<Option<
 
 /// Those of them at which a man does not bear on a king.
 fn without_bearing(
-    work: &mut Work,
-    node: &Node,
+    work: &mut EngineState,
+    node: &PathNode,
     so_far: Option<Auto>,
     bearing: Bearing,
 ) -> Result<Option<Auto>, CrowdError>
@@ -170,8 +182,8 @@ fn without_bearing(
 
 /// Those of them at which none of some men bears on a king.
 fn without_bearings(
-    work: &mut Work,
-    node: &Node,
+    work: &mut EngineState,
+    node: &PathNode,
     so_far: Option<Auto>,
     bearings: &[Bearing],
 ) -> Result<Option<Auto>, CrowdError>
@@ -194,7 +206,11 @@ fn without_bearings(
 }
 
 /// Those of them after which no man bears on the king of the side that has moved.
-fn safe(work: &mut Work, after: &Node, so_far: Option<Auto>) -> Result<Option<Auto>, CrowdError>
+fn safe(
+    work: &mut EngineState,
+    after: &PathNode,
+    so_far: Option<Auto>,
+) -> Result<Option<Auto>, CrowdError>
     requires sound { Sound (position_of after.now.crowd) }
     requires set { IsFilled (length after.now.path.now) so_far }
     requires room { work.old.at + 512000 ≤ 2 ^ 127 }
@@ -216,8 +232,8 @@ fn safe(work: &mut Work, after: &Node, so_far: Option<Auto>) -> Result<Option<Au
 /// The distances at which the moves before and the further move are legal, one after the other. The table has the set of those at
 /// which the moves before are.
 pub(crate) fn reach(
-    work: &mut Work,
-    step: &Step,
+    work: &mut EngineState,
+    step: &PathStep,
     reached: &SetTable,
 ) -> Result<Option<Auto>, CrowdError>
     requires sound { Sound (position_of step.now.before.crowd) }
@@ -239,8 +255,8 @@ pub(crate) fn reach(
 
 /// What there is so far, with those of the table at which a man bears on a king.
 fn with_bearing(
-    work: &mut Work,
-    node: &Node,
+    work: &mut EngineState,
+    node: &PathNode,
     reached: &SetTable,
     so_far: Option<Auto>,
     bearing: Bearing,
@@ -265,8 +281,8 @@ fn with_bearing(
 
 /// Those of the table at which one of some men bears on a king.
 fn with_bearings(
-    work: &mut Work,
-    node: &Node,
+    work: &mut EngineState,
+    node: &PathNode,
     reached: &SetTable,
     bearings: &[Bearing],
 ) -> Result<Option<Auto>, CrowdError>
@@ -290,8 +306,8 @@ fn with_bearings(
 
 /// The distances at which the side that is to move is in check. The table has the set of those at which the moves are legal.
 pub(crate) fn checked(
-    work: &mut Work,
-    node: &Node,
+    work: &mut EngineState,
+    node: &PathNode,
     reached: &SetTable,
 ) -> Result<Option<Auto>, CrowdError>
     requires sound { Sound (position_of node.now.crowd) }

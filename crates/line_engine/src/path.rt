@@ -1,17 +1,17 @@
 //! Paths of options, with what stands after them.
 
 ghost use Rattle.line_engine.specs.Nodes.{IsAfterPath, position_of};
-ghost use Rattle.path_formula.specs.Paths.{leg_of};
+ghost use Rattle.line_formula.specs.Paths.{leg_of};
 ghost use Rattle.rule_formula.specs.Options.{is_side};
 ghost use Rattle.std.specs.Prelude.{◌≡◌, ◌∷◌, length};
 
 use crate::crowd::Crowd;
-use path_formula::{Force, Leg, Scene};
+use line_formula::{Force, Leg, Scene};
 use rule_formula::Opt;
 
 /// A path of options, the last of which stands first, with its legs, and the men who are live after it and the side to move.
 #[derive(Clone, Copy)]
-pub(crate) struct Node<'a> {
+pub(crate) struct PathNode<'a> {
     pub(crate) crowd: Crowd<'a>,
     pub(crate) path: &'a [Opt],
     pub(crate) legs: &'a [Leg],
@@ -21,9 +21,9 @@ pub(crate) struct Node<'a> {
 
 /// A further move of a path: what stands before and after it, and the option by which it goes.
 #[derive(Clone, Copy)]
-pub(crate) struct Step<'a> {
-    pub(crate) before: Node<'a>,
-    pub(crate) after: Node<'a>,
+pub(crate) struct PathStep<'a> {
+    pub(crate) before: PathNode<'a>,
+    pub(crate) after: PathNode<'a>,
     pub(crate) option: Opt,
     pub(crate) leg: Leg,
     ghost men: { after.crowd.men.now ≡ before.crowd.men.now },
@@ -32,7 +32,7 @@ pub(crate) struct Step<'a> {
     ghost leg_is: { leg ≡ leg_of before.crowd.men.now option },
 }
 
-impl<'a> Node<'a> {
+impl<'a> PathNode<'a> {
     /// How many moves the path has.
     pub(crate) fn count(&self) -> u8
         ensures { result ≡ length self.now.path.now }

@@ -12,11 +12,11 @@ ghost use Rattle.line_engine.specs.Answers.{Answers, IsFilled, IsFilledOn, IsOne
 
 use crate::errors::CrowdError;
 use crate::node::distances;
-use crate::work::Work;
+use crate::work::EngineState;
 use auto_core::Auto;
 use formula_auto::SetTable;
 use lin_formula::{Formula, SetId, among};
-use path_formula::not;
+use line_formula::not;
 use set_plan::step_count;
 use std::alloc::{AllocError, Global};
 use track_word::Var;
@@ -135,7 +135,7 @@ fn in_one_alone_with_more(alloc: Global, count: u8) -> Result<Formula, AllocErro
 
 /// What the set of the table has, and the part says too, which may speak of one distance more.
 pub(crate) fn narrowed(
-    work: &mut Work,
+    work: &mut EngineState,
     count: u8,
     reached: &SetTable,
     part: Formula,
@@ -157,7 +157,7 @@ pub(crate) fn narrowed(
 
 /// The same of what there is so far.
 pub(crate) fn narrow(
-    work: &mut Work,
+    work: &mut EngineState,
     count: u8,
     so_far: Option<Auto>,
     part: Formula,
@@ -181,7 +181,7 @@ pub(crate) fn narrow(
 
 /// What there is so far without what the formula says. Where that is seen to be nothing, it is left as it is.
 pub(crate) fn leave_out(
-    work: &mut Work,
+    work: &mut EngineState,
     count: u8,
     so_far: Option<Auto>,
     f: Formula,
@@ -209,7 +209,7 @@ pub(crate) fn leave_out(
 
 /// What there is so far with a further set.
 pub(crate) fn join(
-    work: &mut Work,
+    work: &mut EngineState,
     count: u8,
     so_far: Option<Auto>,
     next: Option<Auto>,
@@ -236,7 +236,11 @@ pub(crate) fn join(
 }
 
 /// The tuples of a set of one distance more than so many, without their last distance.
-pub(crate) fn shortened(work: &mut Work, count: u8, set: Auto) -> Result<Option<Auto>, CrowdError>
+pub(crate) fn shortened(
+    work: &mut EngineState,
+    count: u8,
+    set: Auto,
+) -> Result<Option<Auto>, CrowdError>
     requires few { count ≤ 5 }
     requires set { IsFilledOn (distances_to (suc count)) set }
     requires room { work.old.at + 1000 ≤ 2 ^ 127 }
@@ -253,7 +257,7 @@ pub(crate) fn shortened(work: &mut Work, count: u8, set: Auto) -> Result<Option<
 
 /// The same of those that another set has not.
 pub(crate) fn shortened_rest(
-    work: &mut Work,
+    work: &mut EngineState,
     count: u8,
     set: Auto,
     other: Auto,
@@ -275,7 +279,7 @@ pub(crate) fn shortened_rest(
 
 /// The tuples of the one set that the other has not.
 pub(crate) fn difference(
-    work: &mut Work,
+    work: &mut EngineState,
     count: u8,
     set: Option<Auto>,
     other: Option<Auto>,

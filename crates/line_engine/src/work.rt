@@ -20,19 +20,19 @@ use std::alloc::Global;
 
 /// Compiled formulas, within a budget, and the number of the next step.
 #[derive(Drop)]
-pub(crate) struct Work {
+pub(crate) struct EngineState {
     pub(crate) alloc: Global,
     pub(crate) memo: Memo,
     pub(crate) at: u128,
 }
 
-impl Work {
+impl EngineState {
     /// Before the first step.
-    pub(crate) fn new(alloc: Global, budget: Budget) -> Work
+    pub(crate) fn new(alloc: Global, budget: Budget) -> EngineState
         ensures budget { result.memo.budget ≡ budget }
         ensures at { result.at ≡ 1 }
     {
-        Work {
+        EngineState {
             alloc,
             memo: Memo::new(alloc, budget),
             at: 1,
@@ -56,7 +56,7 @@ impl Work {
         let count = step_count(f);
         let _ = self.memo.budget(); // for its invariant
         let mut meets = self.memo.meets(self.alloc, sets);
-        match self.memo.compile_apart(self.alloc, f, &mut meets) {
+        match self.memo.compile_uncached(self.alloc, f, &mut meets) {
             Ok(a) => {
                 self.at += u128::from(count);
                 Ok(unless_empty(a))

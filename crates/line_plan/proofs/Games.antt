@@ -13,8 +13,8 @@ use Rattle.rule_formula.specs.declared.opt.Opt.{Opt}
 use Rattle.rule_formula.specs.Options.{is_side}
 use Rattle.rule_formula.specs.Seats.{var}
 use Rattle.rule_formula.proofs.SweptLemmas.{value_other, value_same}
-use Rattle.path_formula.specs.Paths.{GoesBy, Plays, after, options_at, turn_at}
-use Rattle.path_formula.proofs.PathTheorem.{after_kept, legal_is_by_option, played, plays_kept}
+use Rattle.line_formula.specs.Paths.{GoesBy, Plays, after, options_at, turn_at}
+use Rattle.line_formula.proofs.PathTheorem.{after_kept, legal_is_by_option, played, plays_kept}
 
 -- the values with a distance for the next move
 abbrev pub next_value : List Opt → Values → ℤ → Values

@@ -11,8 +11,8 @@ use Rattle.rule_formula.specs.declared.opt.Bearing.{Bearing}
 use Rattle.rule_formula.specs.declared.opt.Opt.{Opt}
 use Rattle.rule_formula.specs.Options.{is_side}
 use Rattle.rule_formula.proofs.ListTheorem.{side_is}
-use Rattle.path_formula.specs.Paths.{Plays, after, bear_after, options_at, threats_at, turn_at}
-use Rattle.path_formula.proofs.PathTheorem.{at_home, bears_mean_check}
+use Rattle.line_formula.specs.Paths.{Plays, after, bear_after, options_at, threats_at, turn_at}
+use Rattle.line_formula.proofs.PathTheorem.{at_home, bears_mean_check}
 use Rattle.set_plan.specs.Program.{Program, Entry, Item, Takes, Give, Ask, Empty, Within, Has, Question, IsYes, each, bind}
 use Rattle.set_plan.specs.Unite.{Made, difference, join, make, with_item}
 use Rattle.set_plan.proofs.Composition.{Takes-split, none_some}

@@ -9,7 +9,7 @@ use Rattle.rule_formula.specs.declared.opt.Bearing.{Bearing}
 use Rattle.rule_formula.specs.declared.opt.Opt.{Opt}
 use Rattle.rule_formula.specs.Options.{is_side}
 use Rattle.rule_formula.specs.Seats.{var}
-use Rattle.path_formula.specs.Paths.{bear_after, first_part, further_parts, options_at, threats_at, turn_at}
+use Rattle.line_formula.specs.Paths.{bear_after, first_part, further_parts, options_at, threats_at, turn_at}
 use Rattle.set_plan.specs.Program.{Program, Item, Give, Ask, Empty, Has, Within, IsYes, bind, each}
 use Rattle.set_plan.specs.Same.{SameItem, SameSets}
 use Rattle.set_plan.specs.Unite.{Made, difference, join, make, two, unite, with_item}

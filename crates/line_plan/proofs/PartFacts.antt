@@ -15,14 +15,14 @@ use Rattle.rule_formula.specs.declared.opt.Opt.{Opt}
 use Rattle.rule_formula.specs.Placed.{is_live}
 use Rattle.rule_formula.specs.Seats.{var}
 use Rattle.rule_formula.specs.Trees.{clear, is_other, ray_at}
-use Rattle.path_formula.specs.declared.gap.Gap.{Gap}
-use Rattle.path_formula.specs.declared.leg.Leg.{Leg}
-use Rattle.path_formula.specs.Atoms.{constant, gap_tree, sum_tree, terms}
-use Rattle.path_formula.specs.Paths.{bear_after, dangers_at, first_part, further_parts, leg_of, legs_at, mask_at}
-use Rattle.path_formula.specs.Places.{home}
-use Rattle.path_formula.specs.Rules.{across, ahead, apart_by, bear_as, capture_parts, clear_parts, distance_as, line, measure, off_line, on_way, on_way_as, opposite, safe_parts, screens, upward}
-use Rattle.path_formula.proofs.PathTheorem.{legs-length}
-use Rattle.path_formula.proofs.PlaceLemmas.{AreBelow, terms-below}
+use Rattle.line_formula.specs.declared.gap.Gap.{Gap}
+use Rattle.line_formula.specs.declared.leg.Leg.{Leg}
+use Rattle.line_formula.specs.Atoms.{constant, gap_tree, sum_tree, terms}
+use Rattle.line_formula.specs.Paths.{bear_after, dangers_at, first_part, further_parts, leg_of, legs_at, mask_at}
+use Rattle.line_formula.specs.Places.{home}
+use Rattle.line_formula.specs.Rules.{across, ahead, apart_by, bear_as, capture_parts, clear_parts, distance_as, line, measure, off_line, on_way, on_way_as, opposite, safe_parts, screens, upward}
+use Rattle.line_formula.proofs.PathTheorem.{legs-length}
+use Rattle.line_formula.proofs.PlaceLemmas.{AreBelow, terms-below}
 
 both_none : (xs ys : List ℕ) → xs ≡ [] → ys ≡ [] → xs ++ ys ≡ []
 both_none xs ys h k = ap (λ zs. zs ++ ys) h ∙ k

@@ -5,8 +5,8 @@ use Rattle.lin_formula.specs.SetOf.{Nothing, members}
 use Rattle.lin_formula.specs.Holds.{Holds}
 use Rattle.lin_formula.specs.Tree.{Tree}
 use Rattle.rule_formula.proofs.ChainLemmas.{AllHold}
-use Rattle.path_formula.specs.Paths.{Plays, first_part, further_parts}
-use Rattle.path_formula.proofs.PathTheorem.{parts_mean_legal}
+use Rattle.line_formula.specs.Paths.{Plays, first_part, further_parts}
+use Rattle.line_formula.proofs.PathTheorem.{parts_mean_legal}
 use Rattle.set_plan.specs.Program.{Entry, Takes, each}
 use Rattle.set_plan.specs.Unite.{Made}
 use Rattle.set_plan.proofs.Composition.{Takes-split}

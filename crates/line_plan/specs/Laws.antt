@@ -5,10 +5,10 @@ use Rattle.game_rules.specs.declared.men.Side.{Side}
 use Rattle.track_word.specs.Tracks.{Values, values_at}
 use Rattle.lin_formula.specs.SetOf.{Member, SetOf}
 use Rattle.rule_formula.specs.declared.opt.Opt.{Opt}
-use Rattle.path_formula.specs.Paths.{Plays, after, options_at, turn_at}
+use Rattle.line_formula.specs.Paths.{Plays, after, options_at, turn_at}
 use Rattle.set_plan.specs.Outcome.{Ends, Stops}
 use Rattle.set_plan.specs.Program.{Entry, Takes}
-use Rattle.set_plan.specs.declared.stop.StepName.{StepName}
+use Rattle.set_plan.specs.declared.stop.PartStep.{PartStep}
 use Rattle.line_plan.specs.Plan.{Found, distances, kept, plan, plies, reach}
 
 -- the set has exactly the tuples of so many distances of which the fact holds
@@ -50,9 +50,9 @@ PlanDecides =
 -- within a budget the plan comes to one end, or stops at one step
 pub record EndsOnce (p : Position) (winner : Side) (moves budget : ℕ) : Type 0 where
   pub one_end : (a b : Option Bool) → Ends (plan p winner moves) budget a → Ends (plan p winner moves) budget b → a ≡ b
-  pub one_step : (x y : StepName (Unit {0})) → Stops (plan p winner moves) budget x → Stops (plan p winner moves) budget y
+  pub one_step : (x y : PartStep (Unit {0})) → Stops (plan p winner moves) budget x → Stops (plan p winner moves) budget y
       → x ≡ y
-  pub not_both : (a : Option Bool) (x : StepName (Unit {0})) → Ends (plan p winner moves) budget a
+  pub not_both : (a : Option Bool) (x : PartStep (Unit {0})) → Ends (plan p winner moves) budget a
       → Stops (plan p winner moves) budget x → ⊥
 
 abbrev pub PlanEndsOnce : Type 0

@@ -13,7 +13,7 @@ use Rattle.desk_text.specs.Text.{IsTextOf, problems, whole}
 use Rattle.desk_text.specs.declared.problem.Problem.{Problem}
 use Rattle.desk_verdict.specs.Verdict.{IsVerdict, mate_line, no_mate_line}
 use Rattle.desk_verdict.proofs.Rows.{once_verdict}
-use Rattle.desk_words.specs.declared.order.Order.TheVariants.{Crowd, Decide}
+use Rattle.desk_args.specs.declared.order.Order.TheVariants.{Crowd, Decide}
 use Rattle.mate_desk.specs.Laws.{CrowdAgrees, CrowdDecides, CrowdWrites, DecidesCrowd}
 use Rattle.mate_desk.proofs.Exact.{done_text, mate_exact, no_mate_exact, of_lines, of_words, one_of_two}
 use Rattle.mate_desk.proofs.Headline.{given_bytes, one_of, same_text, take_none, through, told_bytes}

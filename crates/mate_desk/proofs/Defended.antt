@@ -2,12 +2,12 @@
 use Rattle.std.proofs.Common.{ℕ, inl, inr, refl}
 use Rattle.desk_base.specs.Files.{Files}
 use Rattle.desk_base.specs.Lines.{Lines}
-use Rattle.defender.proofs.Matches.{first_unwon}
-use Rattle.defence_report.proofs.Saving.{report_saved}
+use Rattle.loser_session.proofs.Matches.{first_unwon}
+use Rattle.loser_player.proofs.Saving.{report_saved}
 use Rattle.desk_games.specs.Defend.{DefendReports, first_defence}
 use Rattle.desk_report.specs.Outcome.{Report}
 use Rattle.desk_text.specs.declared.problem.Problem.{Problem}
-use Rattle.desk_words.specs.declared.order.Order.TheVariants.{Defend}
+use Rattle.desk_args.specs.declared.order.Order.TheVariants.{Defend}
 use Rattle.mate_desk.specs.Laws.{Defends, DefendsGame}
 use Rattle.mate_desk.proofs.Exact.{of_text, of_words}
 

@@ -4,15 +4,15 @@ use Rattle.desk_base.specs.Files.{Files}
 use Rattle.desk_base.specs.Lines.{Lines, lines_of}
 use Rattle.game_rules.specs.Game.{Position, Sound, Value}
 use Rattle.chess_game.proofs.UnsoundnessLemmas.{unsound_refuted}
-use Rattle.chess_text.specs.declared.reader.Stage.TheVariants.{Header}
+use Rattle.chess_text.specs.declared.reader.ReaderState.TheVariants.{Header}
 use Rattle.lin_formula.specs.Tree.{Tree}
 use Rattle.arith_desk.specs.Reading.{IsFormulaLine}
 use Rattle.arith_desk.proofs.OneStop.{formula_is_not_refused, one_meaning}
-use Rattle.desk_arith.specs.Arith.{ArithReports, FormulaReports, LineReports, truth_line}
-use Rattle.desk_arith.proofs.Answered.{answers}
+use Rattle.desk_formula.specs.Arith.{ArithReports, FormulaReports, LineReports, truth_line}
+use Rattle.desk_formula.proofs.Answered.{answers}
 use Rattle.desk_solve.specs.Decide.{DecideReports, IsExact}
 use Rattle.mate_desk.specs.Laws.{AnswersExactly, DecidesExactly, ReportsAnswer}
-use Rattle.desk_words.specs.Order.{Ordered}
+use Rattle.desk_args.specs.Order.{Ordered}
 use Rattle.desk_report.specs.Outcome.{Report}
 use Rattle.desk_report.specs.declared.status.Status.TheVariants as is
 use Rattle.desk_report.specs.OfText.{OfLines, OfRead, OfSound}
@@ -20,11 +20,11 @@ use Rattle.mate_desk.specs.Command.{OfText}
 use Rattle.mate_desk.specs.Report.{Reports, ReportsOrder, ReportsWords}
 use Rattle.desk_text.specs.Text.{IsTextOf, Reading, Text, TextAt, problems, whole}
 use Rattle.desk_verdict.specs.Verdict.{IsVerdict, mate_line, no_mate_line}
-use Rattle.desk_words.specs.declared.order.Order.{Order}
-use Rattle.desk_words.specs.declared.order.Order.TheVariants.{Decide, Arith}
-use Rattle.desk_words.specs.declared.order.UsageWhy.{UsageWhy}
+use Rattle.desk_args.specs.declared.order.Order.{Order}
+use Rattle.desk_args.specs.declared.order.Order.TheVariants.{Decide, Arith}
+use Rattle.desk_args.specs.declared.order.UsageWhy.{UsageWhy}
 use Rattle.desk_text.specs.declared.problem.Problem.{Problem}
-use Rattle.desk_words.proofs.OneOrder.{once_words}
+use Rattle.desk_args.proofs.OneOrder.{once_words}
 use Rattle.desk_text.proofs.OneText.{once_text}
 
 -- what is reported of the text of a sound problem is what its order says

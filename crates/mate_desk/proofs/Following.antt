@@ -15,14 +15,14 @@ use Rattle.move_choice.specs.declared.choice.Choice.{Choice}
 use Rattle.chess_text.specs.declared.replies.Typed.{Typed}
 use Rattle.chess_text.specs.declared.replies.Typed.TheVariants as typed
 use Rattle.claim_plan.proofs.ClaimLemmas.{claimed_is_lost, won_is_value}
-use Rattle.game_report.specs.WinnerRules.{ByClaim, ByKept, HeldPick, Match, Strategy, moved, winner_rules}
-use Rattle.game_report.proofs.Played.{not_at_rest, reply_his}
-use Rattle.line_game.specs.LineReport.{AtLines, IsReport, LineReport}
-use Rattle.line_game.specs.Turns.{AtMove, AtRest, Comes, OfLine, OfTyped, Turn, moves_first, stopped}
-use Rattle.line_game.specs.declared.ending.Ending.{Ending}
-use Rattle.line_game.specs.declared.ending.Ending.TheVariants.{Quit, Wide}
-use Rattle.line_game.proofs.TurnLemmas.{IsDueIn, comes_lasts, line_lasts}
-use Rattle.line_game.proofs.Walks.{first, walk}
+use Rattle.winner_player.specs.WinnerRules.{ByClaim, ByKept, HeldPick, Match, Strategy, moved, winner_rules}
+use Rattle.winner_player.proofs.Played.{not_at_rest, reply_his}
+use Rattle.play_loop.specs.LineReport.{AtLines, IsReport, LineReport}
+use Rattle.play_loop.specs.Turns.{AtMove, AtRest, Comes, OfLine, OfTyped, Turn, moves_first, stopped}
+use Rattle.play_loop.specs.declared.ending.Ending.{Ending}
+use Rattle.play_loop.specs.declared.ending.Ending.TheVariants.{Quit, Wide}
+use Rattle.play_loop.proofs.TurnLemmas.{IsDueIn, comes_lasts, line_lasts}
+use Rattle.play_loop.proofs.Walks.{first, walk}
 use Rattle.move_choice.specs.Squares.{all_squares}
 use Rattle.mate_plan.specs.Claim.{Claim, IsClaim, IsClaimed}
 use Rattle.mate_plan.specs.PlanOf.{last_ply}
@@ -34,7 +34,7 @@ use Rattle.mate_desk.specs.Laws.{IsKeptGame, IsLostGame, PlayKeeps, PlaysGame}
 use Rattle.desk_report.specs.Outcome as desk
 use Rattle.desk_games.specs.Play.{PlayReports, first_match}
 use Rattle.desk_games.specs.Resume.{claimed_match}
-use Rattle.desk_words.specs.declared.order.Order.TheVariants.{Play}
+use Rattle.desk_args.specs.declared.order.Order.TheVariants.{Play}
 use Rattle.desk_text.specs.declared.problem.Problem.{Problem}
 use Rattle.mate_desk.proofs.Exact.{of_text, of_words}
 

@@ -14,8 +14,8 @@ use Rattle.desk_report.specs.Outcome.{Report, Seen}
 use Rattle.desk_text.specs.Text.{TextAt, whole}
 use Rattle.desk_text.specs.TextLaws.{text_problem}
 use Rattle.desk_verdict.specs.Verdict.{mate_line, no_mate_line}
-use Rattle.desk_words.specs.declared.order.Order.{Order}
-use Rattle.desk_words.specs.declared.order.Order.TheVariants as orders
+use Rattle.desk_args.specs.declared.order.Order.{Order}
+use Rattle.desk_args.specs.declared.order.Order.TheVariants as orders
 use Rattle.desk_text.specs.declared.problem.Problem.{Problem}
 use Rattle.desk_report.specs.declared.status.Status.TheVariants as is
 use Rattle.mate_desk.proofs.Exact.{decides_exactly, of_text, of_words}

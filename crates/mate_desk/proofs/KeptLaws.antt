@@ -11,13 +11,13 @@ use Rattle.desk_base.specs.Lines.{Lines, lines_of}
 use Rattle.game_rules.specs.Game.{Sound, Value}
 use Rattle.mate_plan.specs.Claim.{Claim}
 use Rattle.set_plan.specs.Outcome as plan
-use Rattle.file_writing.proofs.KeptFiles.{kept_file_is_claim}
+use Rattle.strategy_writer.proofs.KeptFiles.{kept_file_is_claim}
 use Rattle.strategy_file.proofs.OnceLemmas.{one_outcome}
 use Rattle.strategy_file.specs.Claims.{claim_with}
-use Rattle.file_writing.specs.KeptFile.{IsReadAsWon}
+use Rattle.strategy_writer.specs.KeptFile.{IsReadAsWon}
 use Rattle.strategy_file.specs.Layout.{Refusal}
 use Rattle.strategy_file.specs.StrategyFile.{Charts, File}
-use Rattle.file_writing.specs.Written.{most_bytes}
+use Rattle.strategy_writer.specs.Written.{most_bytes}
 use Rattle.strategy_file.specs.declared.version.Version.TheVariants.{Shared}
 use Rattle.winning_sets.specs.Solve.{IsSolveError}
 use Rattle.winning_sets.specs.declared.names.SolveError.TheVariants as solve_error
@@ -34,7 +34,7 @@ use Rattle.mate_desk.specs.Command.{OfName}
 use Rattle.desk_games.specs.Resume.{GameReports, ResumeReports}
 use Rattle.desk_text.specs.Text.{Text, whole, refused}
 use Rattle.desk_verdict.specs.Verdict.{mate_line}
-use Rattle.desk_words.specs.declared.order.Order.TheVariants.{Keep, Check, Resume, Migrate}
+use Rattle.desk_args.specs.declared.order.Order.TheVariants.{Keep, Check, Resume, Migrate}
 use Rattle.desk_text.specs.declared.problem.Problem.{Problem}
 use Rattle.desk_report.specs.declared.status.Status.TheVariants as is
 use Rattle.mate_desk.proofs.Exact.{of_words, one_line}

@@ -18,7 +18,7 @@ use Rattle.desk_files.specs.FileClaim.{MissesFetch, OnFiles}
 use Rattle.desk_files.specs.Keep.{HasFileToKeep, KeepReports}
 use Rattle.desk_files.specs.Keeping.{MissesKeep}
 use Rattle.desk_files.specs.Migrate.{MigrateReports, MissesMigrate}
-use Rattle.desk_words.specs.Order.{IsOfFiles, Ordered, name_in, usage_line}
+use Rattle.desk_args.specs.Order.{IsOfFiles, Ordered, name_in, usage_line}
 use Rattle.desk_report.specs.Outcome.{RunEndsAs, Leaves, KeepsFiles, NeverMisses, Report, Seen, Writes, WriteFailed, of_shelf, of_sink, of_streams, refusal_as, reported_on}
 use Rattle.desk_report.specs.ByLines.{EndsByLines}
 use Rattle.mate_desk.specs.Command.{IsBehindText, OfName, OfText}
@@ -28,9 +28,9 @@ use Rattle.mate_desk.specs.Run.{Given, IsLineDue, RunEnds, Takes}
 use Rattle.desk_text.specs.Text.{TextAt, whole, refused, is_end, refusal_line}
 use Rattle.desk_text.specs.TextRead.{IsMissing, IsShort, TextRead}
 use Rattle.desk_verdict.specs.Verdict.{HasNothingToPlay}
-use Rattle.desk_words.specs.declared.order.Order.{Order}
-use Rattle.desk_words.specs.declared.order.Order.TheVariants.{Keep, Check, Resume, Migrate}
-use Rattle.desk_words.specs.declared.order.UsageWhy.{UsageWhy}
+use Rattle.desk_args.specs.declared.order.Order.{Order}
+use Rattle.desk_args.specs.declared.order.Order.TheVariants.{Keep, Check, Resume, Migrate}
+use Rattle.desk_args.specs.declared.order.UsageWhy.{UsageWhy}
 use Rattle.desk_text.specs.declared.problem.Problem.{Problem}
 use Rattle.desk_report.specs.declared.status.Status.{Status}
 use Rattle.desk_report.specs.declared.status.Status.TheVariants as is

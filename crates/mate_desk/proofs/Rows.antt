@@ -6,7 +6,7 @@ use Rattle.desk_base.specs.Files.{Files}
 use Rattle.desk_base.specs.Lines.{Lines, lines_of}
 use Rattle.chess_game.specs.Unsoundness.{IsFirstUnsoundness}
 use Rattle.chess_game.specs.declared.unsoundness.Unsound.{Unsound}
-use Rattle.desk_arith.proofs.Once.{arith_row}
+use Rattle.desk_formula.proofs.Once.{arith_row}
 use Rattle.desk_crowd.proofs.Rows.{crowd_row}
 use Rattle.desk_describe.proofs.Rows.{describe_row}
 use Rattle.desk_files.proofs.Rows.{check_row, keep_row, migrate_row}
@@ -22,13 +22,13 @@ use Rattle.desk_solve.proofs.Rows.{decide_row, least_row}
 use Rattle.desk_text.specs.Text.{TextAt, is_end, problems, refusal_line, refused, whole}
 use Rattle.desk_text.specs.declared.problem.Problem.{Problem}
 use Rattle.desk_text.specs.declared.text.LineWhy.{LineWhy}
-use Rattle.desk_words.specs.Order.{as_order}
-use Rattle.desk_words.specs.declared.order.Order.{Order}
-use Rattle.desk_words.specs.declared.order.Order.TheVariants.{Decide, Least, First, Describe, Play, Defend, Keep, Crowd, Check, Resume, Migrate, Show, Drill, Arith}
-use Rattle.desk_words.specs.declared.order.TextOrder.{TextOrder}
-use Rattle.desk_words.specs.declared.order.TextOrder.TheVariants as text_orders
-use Rattle.desk_words.specs.declared.order.UsageWhy.{UsageWhy}
-use Rattle.desk_words.proofs.OneOrder.{once_words}
+use Rattle.desk_args.specs.Order.{as_order}
+use Rattle.desk_args.specs.declared.order.Order.{Order}
+use Rattle.desk_args.specs.declared.order.Order.TheVariants.{Decide, Least, First, Describe, Play, Defend, Keep, Crowd, Check, Resume, Migrate, Show, Drill, Arith}
+use Rattle.desk_args.specs.declared.order.TextOrder.{TextOrder}
+use Rattle.desk_args.specs.declared.order.TextOrder.TheVariants as text_orders
+use Rattle.desk_args.specs.declared.order.UsageWhy.{UsageWhy}
+use Rattle.desk_args.proofs.OneOrder.{once_words}
 use Rattle.mate_desk.specs.Command.{Command, IsBehindText, OfName, OfText, of_file, of_files, of_lines, of_text, of_text_to_keep, of_words}
 use Rattle.mate_desk.specs.Laws.{OneReport}
 use Rattle.mate_desk.specs.Report.{IsOfText, ReadsNoText, ReportsOrder, ReportsWords, command_of}

@@ -4,23 +4,23 @@ use Rattle.std.specs.Prelude.{IfOk}
 use Rattle.desk_base.specs.Files.{Files}
 use Rattle.desk_base.specs.Lines.{Lines, ended, lines_of}
 use Rattle.mate_desk.specs.Laws.{FaultsAreCounted, MemoryLast, NoShelfFault, UsageExactly}
-use Rattle.desk_words.specs.Order.{Ordered, usage_line}
+use Rattle.desk_args.specs.Order.{Ordered, usage_line}
 use Rattle.desk_report.specs.Outcome.{Report, Seen, refusal_as}
 use Rattle.mate_desk.specs.Command.{IsBehindText}
 use Rattle.mate_desk.specs.Report.{OrderMayLack, ReadsNoText, Reports, ReportsWords, TakesMemory, UsesNoShelf}
 use Rattle.mate_desk.specs.Run.{RunEnds}
 use Rattle.desk_text.specs.Text.{whole}
-use Rattle.desk_words.specs.declared.order.Order.{Order}
-use Rattle.desk_words.specs.declared.order.UsageWhy.{UsageWhy}
+use Rattle.desk_args.specs.declared.order.Order.{Order}
+use Rattle.desk_args.specs.declared.order.UsageWhy.{UsageWhy}
 use Rattle.desk_text.specs.declared.problem.Problem.{Problem}
 use Rattle.desk_report.specs.declared.status.Status.{Status}
 use Rattle.desk_report.specs.declared.status.Status.TheVariants as is
 use Rattle.std.proofs.Common.{append_assoc}
-use Rattle.chess_text.specs.declared.reader.Stage.TheVariants.{Header}
+use Rattle.chess_text.specs.declared.reader.ReaderState.TheVariants.{Header}
 use Rattle.desk_text.specs.Text.{TextAt, problems}
 use Rattle.desk_text.proofs.OneText.{once_text}
 use Rattle.game_rules.specs.Game.{Sound}
-use Rattle.desk_words.proofs.OneOrder.{once_words}
+use Rattle.desk_args.proofs.OneOrder.{once_words}
 use Rattle.mate_desk.proofs.Headline.{given_bytes}
 use Rattle.desk_text.proofs.MoreLines.{text_more}
 use Rattle.mate_desk.proofs.Rows.{in_order, order_status}

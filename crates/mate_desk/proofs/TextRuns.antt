@@ -10,7 +10,7 @@ use Rattle.game_rules.specs.Game.{Sound}
 use Rattle.chess_game.proofs.UnsoundnessLemmas.{number_cases}
 use Rattle.chess_text.specs.PositionText.{text_of_lines}
 use Rattle.desk_text.specs.Taken.{TakesLines}
-use Rattle.desk_words.specs.Order.{Ordered}
+use Rattle.desk_args.specs.Order.{Ordered}
 use Rattle.desk_report.specs.Outcome.{NeverMisses, Report, Seen, of_streams, reported_on}
 use Rattle.desk_report.specs.ByLines.{EndsByLines}
 use Rattle.mate_desk.specs.Command.{IsBehindText, OfText}
@@ -18,7 +18,7 @@ use Rattle.mate_desk.specs.Report.{MayLackMemory, MayMissShelf, OrderMayLack, Re
 use Rattle.mate_desk.specs.Run.{Given, IsLineDue, RunEnds}
 use Rattle.desk_text.specs.Text.{TextAt, whole}
 use Rattle.desk_text.specs.TextRead.{TextRead}
-use Rattle.desk_words.specs.declared.order.Order.{Order}
+use Rattle.desk_args.specs.declared.order.Order.{Order}
 use Rattle.desk_text.specs.declared.problem.Problem.{Problem}
 use Rattle.desk_report.specs.declared.status.Status.{Status}
 use Rattle.desk_report.specs.declared.status.Status.TheVariants as is

@@ -8,7 +8,7 @@ use Rattle.desk_base.specs.Moves.{AppendsFront}
 use Rattle.game_rules.specs.Game.{Position}
 use Rattle.game_rules.specs.declared.men.Side.{Side}
 use Rattle.chess_text.specs.PositionText.{position_text}
-use Rattle.chess_text.specs.declared.reader.Stage.TheVariants.{Header}
+use Rattle.chess_text.specs.declared.reader.ReaderState.TheVariants.{Header}
 use Rattle.desk_text.specs.Text.{Text, TextAt, problems, refused, whole}
 use Rattle.desk_text.specs.TextLaws.{text_problem}
 use Rattle.desk_text.specs.declared.problem.Problem.{Problem}
@@ -19,8 +19,8 @@ use Rattle.desk_report.specs.Outcome.{DoesReport, Report, Seen, WriteFailed, Wri
 use Rattle.desk_report.specs.declared.status.Status.{Status}
 use Rattle.desk_report.specs.declared.status.Status.TheVariants as is
 use Rattle.desk_solve.specs.Decide.{IsExact}
-use Rattle.desk_words.specs.declared.order.Order.{Order}
-use Rattle.desk_words.specs.declared.order.Order.TheVariants as orders
+use Rattle.desk_args.specs.declared.order.Order.{Order}
+use Rattle.desk_args.specs.declared.order.Order.TheVariants as orders
 use Rattle.desk_games.specs.Defend.{DefendReports}
 use Rattle.desk_games.specs.Play.{PlayReports}
 use Rattle.desk_report.specs.OfText.{OfRead, OfSound}

@@ -8,17 +8,17 @@ use Rattle.desk_base.specs.Lines.{Lines, full, lines_of}
 use Rattle.game_rules.specs.Game.{Position, Least, Lost, Sound, Value}
 use Rattle.game_rules.specs.declared.men.Side.{Side}
 use Rattle.chess_text.specs.PositionText.{IsWritable, position_text}
-use Rattle.game_report.specs.WinnerRules.{Match, winner_rules}
-use Rattle.line_game.specs.LineReport.{IsReport, LineReport}
+use Rattle.winner_player.specs.WinnerRules.{Match, winner_rules}
+use Rattle.play_loop.specs.LineReport.{IsReport, LineReport}
 use Rattle.lin_formula.specs.Tree.{Tree}
 use Rattle.formula_auto.specs.declared.errors.CompileError.TheVariants.{Over}
 use Rattle.arith_desk.specs.Reading.{IsFormulaLine}
 use Rattle.arith_desk.specs.Truth.{IsOver}
-use Rattle.desk_arith.specs.Answer.{Answers}
-use Rattle.desk_arith.specs.Arith.{step_line}
-use Rattle.defender.specs.Defending.{DefenceMatch}
-use Rattle.defence_report.specs.Laws.{IsSavedReport}
-use Rattle.defence_report.specs.LoserRules.{loser_rules}
+use Rattle.desk_formula.specs.Answer.{Answers}
+use Rattle.desk_formula.specs.Arith.{step_line}
+use Rattle.loser_session.specs.Defending.{DefenceMatch}
+use Rattle.loser_player.specs.Laws.{IsSavedReport}
+use Rattle.loser_player.specs.LoserRules.{loser_rules}
 use Rattle.mate_plan.specs.Claim.{Claim}
 use Rattle.winning_sets.specs.Reach.{Reach}
 use Rattle.winning_sets.specs.declared.names.StepName.{StepName}
@@ -32,7 +32,7 @@ use Rattle.winning_sets.specs.Solve.{IsSolveError}
 use Rattle.winning_sets.specs.declared.names.SolveError.TheVariants as solve_error
 use Rattle.desk_files.specs.FileClaim.{IsReadAs, OfChecked}
 use Rattle.desk_solve.specs.Least.{least_line}
-use Rattle.desk_words.specs.Order.{Ordered, name_in}
+use Rattle.desk_args.specs.Order.{Ordered, name_in}
 use Rattle.desk_report.specs.Outcome.{FirstOver, Report, Seen, WriteFailed, done_with}
 use Rattle.desk_verdict.specs.StepLines.{budget_line, over_budget}
 use Rattle.desk_games.specs.Defend.{first_defence}
@@ -44,9 +44,9 @@ use Rattle.desk_text.specs.Text.{IsTextOf, TextAt, refused, whole}
 use Rattle.desk_text.specs.TextLaws.{text_problem}
 use Rattle.desk_text.specs.declared.text.LineWhy.{LineWhy}
 use Rattle.desk_verdict.specs.Verdict.{ExceedsAt, mate_line, no_mate_line}
-use Rattle.desk_words.specs.declared.order.Order.{Order}
-use Rattle.desk_words.specs.declared.order.Order.TheVariants as orders
-use Rattle.desk_words.specs.declared.order.UsageWhy.{UsageWhy}
+use Rattle.desk_args.specs.declared.order.Order.{Order}
+use Rattle.desk_args.specs.declared.order.Order.TheVariants as orders
+use Rattle.desk_args.specs.declared.order.UsageWhy.{UsageWhy}
 use Rattle.desk_text.specs.declared.problem.Problem.{Problem}
 use Rattle.desk_report.specs.declared.status.Status.{Status}
 use Rattle.desk_report.specs.declared.status.Status.TheVariants as is

@@ -4,7 +4,7 @@ pub mod Laws
 pub mod Report
 pub mod Run
 pub mod Show
-pub use Rattle.desk_words.specs.Order
+pub use Rattle.desk_args.specs.Order
 pub use Rattle.desk_text.specs.Taken
 pub use Rattle.desk_text.specs.Text
 pub use Rattle.desk_text.specs.TextLaws

@@ -1,7 +1,7 @@
 -- What a run reports.
 use Rattle.std.specs.Prelude.{◌≡◌, ℕ, ◌<◌, List, false, Option, Result, Ok, Err}
 use Rattle.desk_base.specs.Files.{Files}
-use Rattle.desk_arith.specs.Arith.{ArithReports, IsBehindLine}
+use Rattle.desk_formula.specs.Arith.{ArithReports, IsBehindLine}
 use Rattle.desk_crowd.specs.Crowd.{CrowdSays, IsBehindCrowd}
 use Rattle.desk_describe.specs.Describe.{DescribeReports}
 use Rattle.desk_files.specs.Check.{CheckReports}
@@ -11,7 +11,7 @@ use Rattle.desk_solve.specs.First.{FirstReports, HasNoFirstMove}
 use Rattle.desk_files.specs.Keep.{HasFileToKeep, KeepReports}
 use Rattle.desk_solve.specs.Least.{LeastReports}
 use Rattle.desk_files.specs.Migrate.{MigrateReports, MissesMigrate}
-use Rattle.desk_words.specs.Order.{Ordered, usage_line}
+use Rattle.desk_args.specs.Order.{Ordered, usage_line}
 use Rattle.desk_report.specs.Outcome.{Report, refusal_as}
 use Rattle.desk_games.specs.Defend.{DefendReports}
 use Rattle.desk_games.specs.Play.{PlayReports}
@@ -19,9 +19,9 @@ use Rattle.desk_games.specs.Resume.{ResumeReports}
 use Rattle.mate_desk.specs.Command.{Command, of_file, of_files, of_lines, of_text, of_text_to_keep, of_words}
 use Rattle.mate_desk.specs.Show.{ShowReports}
 use Rattle.desk_verdict.specs.Verdict.{HasNothingToPlay}
-use Rattle.desk_words.specs.declared.order.Order.{Order}
-use Rattle.desk_words.specs.declared.order.Order.TheVariants as orders
-use Rattle.desk_words.specs.declared.order.UsageWhy.{UsageWhy}
+use Rattle.desk_args.specs.declared.order.Order.{Order}
+use Rattle.desk_args.specs.declared.order.Order.TheVariants as orders
+use Rattle.desk_args.specs.declared.order.UsageWhy.{UsageWhy}
 use Rattle.desk_text.specs.declared.problem.Problem.{Problem}
 use Rattle.desk_report.specs.declared.status.Status.TheVariants as is
 

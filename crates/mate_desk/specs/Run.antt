@@ -10,10 +10,10 @@ use Rattle.desk_base.specs.declared.source.Source.{Ghosts as SourceModel}
 use Rattle.desk_text.specs.Taken.{TakesLines}
 use Rattle.desk_report.specs.Outcome.{Report, Seen, RunEndsAs, reported_on}
 use Rattle.desk_report.specs.Ports.{ports_seen}
-use Rattle.desk_words.specs.Order.{IsOrderOf, Ordered}
-use Rattle.desk_words.specs.declared.order.Order.{Order}
-use Rattle.desk_words.specs.declared.order.TextOrder.{TextOrder}
-use Rattle.desk_words.specs.declared.order.UsageWhy.{UsageWhy}
+use Rattle.desk_args.specs.Order.{IsOrderOf, Ordered}
+use Rattle.desk_args.specs.declared.order.Order.{Order}
+use Rattle.desk_args.specs.declared.order.TextOrder.{TextOrder}
+use Rattle.desk_args.specs.declared.order.UsageWhy.{UsageWhy}
 use Rattle.mate_desk.specs.Report.{Reports, MayLackMemory, MayMissShelf}
 use Rattle.desk_report.specs.declared.status.Status.{Status}
 use Rattle.desk_report.specs.declared.status.Status.TheVariants as is

@@ -1,19 +1,20 @@
 //! The top call.
 
 ghost use Rattle.std.specs.Prelude.{◌≡◌};
-ghost use Rattle.desk_words.specs.Order.{IsWithinLimits, as_order, texts};
+ghost use Rattle.desk_args.specs.Order.{IsWithinLimits, as_order, texts};
 ghost use Rattle.mate_desk.specs.Report.{ReadsNoText, UsesNoShelf};
 ghost use Rattle.mate_desk.specs.Run.{OrderEndsOn, RunEndsOn, WhereNoOrderOr, WhereOrder};
 
 use crate::show::show;
 use chess_game::soundness;
-use desk_arith::arith::arith;
+use desk_args::{Asked, TextOrder, order_of};
 use desk_base::{LineReader, Shelf, Sink, Source};
 use desk_crowd::crowd::crowd;
 use desk_describe::describe::describe;
 use desk_files::check::check;
 use desk_files::keep::keep;
 use desk_files::migrate::migrate;
+use desk_formula::arith::arith;
 use desk_games::defend::defend;
 use desk_games::play::play;
 use desk_games::resume::resume;
@@ -23,7 +24,6 @@ use desk_solve::drill::drill;
 use desk_solve::first::first;
 use desk_solve::least::least;
 use desk_text::{FileTask, TextEnd, read_problem};
-use desk_words::{Asked, TextOrder, order_of};
 use std::alloc::Global;
 
 /// Does what the words say, with the position text at the front of the source and the replies behind it, with a crowd's text, with a file that was

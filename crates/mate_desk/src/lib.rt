@@ -9,5 +9,5 @@ pub mod laws;
 mod show;
 
 pub use desk::run;
+pub use desk_args::{Order, UsageWhy, order_of};
 pub use desk_report::Status;
-pub use desk_words::{Order, UsageWhy, order_of};

@@ -13,7 +13,7 @@ use Rattle.rule_formula.specs.Mean.{mask_tracks}
 use Rattle.set_plan.specs.Outcome.{Answers, Ends, IsPlanError}
 use Rattle.set_plan.specs.Program.{Empty, Give, bind}
 use Rattle.set_plan.specs.Sets.{Grows, IsSetOn, lent}
-use Rattle.set_plan.specs.Unite.{together}
+use Rattle.set_plan.specs.Unite.{union_of_two}
 use Rattle.set_plan.specs.declared.stop.PlanError.{PlanError}
 use Rattle.set_plan.specs.declared.stop.PlanError.TheVariants as plan_error
 use Rattle.set_plan.proofs.Composition.{Answers-later, Ends-ask_no, Ends-ask_yes, Ends-give, Error-bind, Error-later, Stops-ask_no, bind-assoc}
@@ -35,7 +35,7 @@ module _ (rules : Rules) (side : Side) (ply mask : ℕ) (reach : SetOf) (reach1 
   reply_part calm check = bind (difference rules ply mask kind.Quiet calm check) (λ quiet. union rules ply mask kind.Reply (pre_items rules side mask quiet reach1))
 
   abbrev pub last_part : SetOf → SetOf → Program SetOf
-  last_part check reply = together (rules.tracks mask) (name ply mask kind.Lost) check reply
+  last_part check reply = union_of_two (rules.tracks mask) (name ply mask kind.Lost) check reply
 
   abbrev pub after_calm : SetOf → Program SetOf
   after_calm calm = bind (check_part calm) (λ check. bind (reply_part calm check) (last_part check))
@@ -107,11 +107,11 @@ module _ (p : Position) (side : Side) (ply mask now budget : ℕ) (kept : now �
       subst Within kept (subst In is (subst Of (level-grows p.men old middle (masks_of p) next_reach grows are) h))
 
   pub last_here : (part : PartName) (check reply : SetOf) → part ≡ name ply mask kind.Lost
-      → {R : Type 0} (view : R → SetOf) (r : Result R (PlanError PartName)) → Answers (together (mask_tracks p part.mask) part check reply) now view r
-      → Answers (together (mask_tracks p mask) (name ply mask kind.Lost) check reply) budget view r
+      → {R : Type 0} (view : R → SetOf) (r : Result R (PlanError PartName)) → Answers (union_of_two (mask_tracks p part.mask) part check reply) now view r
+      → Answers (union_of_two (mask_tracks p mask) (name ply mask kind.Lost) check reply) budget view r
   last_here part check reply is view r h =
-      let Named : PartName → Type 0 = λ n. Answers (together (mask_tracks p n.mask) n check reply) now view r in
-      let Within : ℕ → Type 0 = λ b. Answers (together (mask_tracks p mask) (name ply mask kind.Lost) check reply) b view r in
+      let Named : PartName → Type 0 = λ n. Answers (union_of_two (mask_tracks p n.mask) n check reply) now view r in
+      let Within : ℕ → Type 0 = λ b. Answers (union_of_two (mask_tracks p mask) (name ply mask kind.Lost) check reply) b view r in
       subst Within kept (subst Named is h)
 
 -- the set of a mask, where nothing is reached and where something is

@@ -8,7 +8,7 @@ use Rattle.set_plan.specs.Same.{SameItem, Thinned}
 use Rattle.set_plan.specs.Unite.{Made, make, union, unite}
 use Rattle.set_plan.specs.declared.stop.PlanError.{PlanError}
 use Rattle.set_plan.specs.declared.stop.PlanError.TheVariants as plan_error
-use Rattle.set_plan.specs.declared.stop.StepName.{StepName}
+use Rattle.set_plan.specs.declared.stop.PartStep.{PartStep}
 use Rattle.set_plan.proofs.Composition.{Ends-bind, Ends-split, Stops-bind, Stops-bind_later, Stops-split}
 use Rattle.set_plan.proofs.Thinned.{Ends-make_same, Ends-thinned, Stops-make_same, Stops-thinned}
 
@@ -19,7 +19,7 @@ module _ {P : Type 0} (part : P) (budget : ℕ) where
         let (made, first, last) = Ends-split (unite tracks part (Nothing, 1) is) (λ made. Give made.0) h in
         Ends-bind (unite tracks part (Nothing, 1) js) (λ made. Give made.0) budget made s (Ends-thinned part budget tracks is js (Nothing, 1) made thin first) last
 
-    Stops-union : {name : StepName P} → Stops (union tracks part is) budget name → Stops (union tracks part js) budget name
+    Stops-union : {name : PartStep P} → Stops (union tracks part is) budget name → Stops (union tracks part js) budget name
     Stops-union {name} h =
         elim (Stops-split (unite tracks part (Nothing, 1) is) (λ made. Give made.0) h) [
           | inl here ↦ Stops-bind (unite tracks part (Nothing, 1) js) (λ made. Give made.0) budget (Stops-thinned part budget tracks is js (Nothing, 1) name thin here)

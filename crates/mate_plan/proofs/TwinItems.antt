@@ -11,7 +11,7 @@ use Rattle.lin_formula.specs.SetOf.{SetOf, Nothing, tables}
 use Rattle.lin_formula.specs.declared.formula.SetId.{SetId}
 use Rattle.track_word.specs.declared.tracks.Var.{Var}
 use Rattle.track_word.specs.declared.atoms.Rel.TheVariants.{Eq}
-use Rattle.rule_formula.specs.declared.opt.Pair.{Pair}
+use Rattle.rule_formula.specs.declared.opt.ManPair.{ManPair}
 use Rattle.rule_formula.specs.Fits.{IsGameMask}
 use Rattle.rule_formula.specs.Mean.{IsGame, mask_tracks}
 use Rattle.rule_formula.specs.Pairs.{IsPairOf, pairs_of}
@@ -40,17 +40,17 @@ map_twice : {X Y Z : Type 0} (f : Y → Z) (g : X → Y) (xs : List X) → map f
 map_twice f g [] = refl
 map_twice f g (x ∷ xs) = ap (λ ys. f (g x) ∷ ys) (map_twice f g xs)
 
-abbrev tree_at : ℕ → ℕ → Pair → Tree
+abbrev tree_at : ℕ → ℕ → ManPair → Tree
 tree_at mask source w = twins_tree 8 mask w.first w.second source
 
 -- the pairs of the list are pairs of live men
-pub pairs_all : (p : Position) (mask : ℕ) (xs : List Pair) → xs ≡ pairs_of p.men mask → All (IsPairOf p.men mask) xs
+pub pairs_all : (p : Position) (mask : ℕ) (xs : List ManPair) → xs ≡ pairs_of p.men mask → All (IsPairOf p.men mask) xs
 pairs_all p mask xs e =
-    let P : List Pair → Type 0 = λ ys. All (IsPairOf p.men mask) ys in
+    let P : List ManPair → Type 0 = λ ys. All (IsPairOf p.men mask) ys in
     subst P (sym e) (λ k d within. (pairs_are p.men mask (slice_index_or (pairs_of p.men mask) k d)).0 (All-contains_itself (pairs_of p.men mask) k d within))
 
 module _ (p : Position) (game : IsGame p) (sets : List Automaton) (mask : ℕ) (here : IsGameMask p mask) where
-  twin_on : {w : Pair} (source : SetId) → IsPairOf p.men mask w → IsNameOn (mask_tracks p mask) sets (Some source) → IsItemOn (mask_tracks p mask) sets (tree_at mask source.0 w)
+  twin_on : {w : ManPair} (source : SetId) → IsPairOf p.men mask w → IsNameOn (mask_tracks p mask) sets (Some source) → IsItemOn (mask_tracks p mask) sets (tree_at mask source.0 w)
   twin_on {w} source pair on =
       let few = game.few in
       let f = tree_at mask source.0 w in
@@ -71,12 +71,12 @@ module _ (p : Position) (game : IsGame p) (sets : List Automaton) (mask : ℕ) (
       All-map (IsItemOn (mask_tracks p mask) sets) (tree_at mask source.0) (pairs_of p.men mask)
       (λ k d within. twin_on source (pairs_all p mask (pairs_of p.men mask) refl k d within) on)
 
-  twin_same : (w : Pair) (s : SetOf) (source : SetId) → s ≡ tables sets source.0 → SameItem (item_of sets (tree_at mask source.0 w)) (twin_item s (tree_at mask 0 w))
+  twin_same : (w : ManPair) (s : SetOf) (source : SetId) → s ≡ tables sets source.0 → SameItem (item_of sets (tree_at mask source.0 w)) (twin_item s (tree_at mask 0 w))
   twin_same w s source e =
       let Is : SetOf → Type 0 = λ t. SameItem (item_of sets (tree_at mask source.0 w)) (twin_item t (tree_at mask 0 w)) in
       subst Is (sym e) (same_one sets (twins_tree 8 mask w.first w.second) (λ name k. refl) source.0)
 
-  twin_lacks : (w : Pair) (s : SetOf) → s ≡ Nothing → IsLacking (twin_item s (tree_at mask 0 w))
+  twin_lacks : (w : ManPair) (s : SetOf) → s ≡ Nothing → IsLacking (twin_item s (tree_at mask 0 w))
   twin_lacks w s e =
       let Is : SetOf → Type 0 = λ t. IsLacking (twin_item t (tree_at mask 0 w)) in
       subst Is (sym e) (lacks_one (tree_at mask 0 w) Nothing 0 refl nothing_empty)

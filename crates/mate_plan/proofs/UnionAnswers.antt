@@ -16,14 +16,14 @@ use Rattle.set_plan.specs.Same.{Thinned}
 use Rattle.set_plan.specs.Sets.{IsItemOn, IsSetOn, item_of}
 use Rattle.set_plan.specs.Unite.{union}
 use Rattle.set_plan.specs.declared.stop.PlanError.{PlanError}
-use Rattle.mate_plan.specs.declared.bench.Bench.{Bench}
+use Rattle.mate_plan.specs.declared.bench.PlanContext.{PlanContext}
 use Rattle.mate_plan.specs.declared.names.PartName.{PartName}
 use Rattle.mate_plan.proofs.PartAnswers.{Answers-union}
 
 pub game_of : {p : Position} → Sound p → length p.men ≤ 8 → IsGame p
 game_of sound few = record { few = few; kings = sound.kings }
 
-pub game_on : (bench : Bench) → IsGame bench.position.now
+pub game_on : (bench : PlanContext) → IsGame bench.position.now
 game_on bench = game_of bench.sound bench.few
 
 module _ (p : Position) (sets : List Automaton) (part name : PartName) (same : part ≡ name) where

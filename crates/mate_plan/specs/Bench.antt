@@ -11,20 +11,20 @@ use Rattle.set_plan.specs.declared.left.Left.{Left}
 use Rattle.mate_plan.specs.Levels.{AreNamesIn, Names, level_in}
 use Rattle.mate_plan.specs.Plan.{Level, Rules}
 use Rattle.mate_plan.specs.PlanOf.{rules_of}
-use Rattle.mate_plan.specs.declared.bench.Bench.{Bench}
-use Rattle.mate_plan.specs.declared.bench.Work.{Work}
+use Rattle.mate_plan.specs.declared.bench.PlanContext.{PlanContext}
+use Rattle.mate_plan.specs.declared.bench.PlanState.{PlanState}
 
 -- the work later on: each set is still there under its name, and the budget is the same
-pub record IsLater (old new : Work) : Type 0 where
+pub record IsLater (old new : PlanState) : Type 0 where
   pub grows : Grows old.sets new.sets
   pub budget : new.memo.budget ≡ old.memo.budget
 
 -- the formulas of the rules for the position of the bench
-abbrev pub rules_on : Bench → Rules
+abbrev pub rules_on : PlanContext → Rules
 rules_on bench = rules_of bench.position.now
 
 -- the variables of the mask's men
-abbrev pub tracks_on : Bench → ℕ → List Var
+abbrev pub tracks_on : PlanContext → ℕ → List Var
 tracks_on bench mask = mask_tracks bench.position.now mask
 
 -- the variables so far, and those of man k, if he is in the mask
@@ -32,11 +32,11 @@ abbrev pub with_man : ℕ → ℕ → List Var → List Var
 with_man mask k tracks = if is_live mask k then tracks ++ (own k).x ∷ (own k).y ∷ [] else tracks
 
 -- there is no set, or one over the variables of the mask's men
-abbrev pub IsSetFor : Bench → ℕ → Option Automaton → Type 0
+abbrev pub IsSetFor : PlanContext → ℕ → Option Automaton → Type 0
 IsSetFor bench mask set = IfSome set (IsSetOn (tracks_on bench mask))
 
 -- there is no name, or it is that of a set over the variables of the mask's men
-abbrev pub IsNameFor : Bench → ℕ → List Automaton → Option SetId → Type 0
+abbrev pub IsNameFor : PlanContext → ℕ → List Automaton → Option SetId → Type 0
 IsNameFor bench mask sets name = IsNameOn (tracks_on bench mask) sets name
 
 -- over whatever variables both a whole set and what is left of it are, the name is that of a set among the new ones
@@ -45,14 +45,14 @@ IsNameOfLeft old new whole left name =
     (tracks : List Var) → IsNameOn tracks old whole → IsLeftOn tracks left → IsNameOn tracks new name
 
 -- the level of these names
-abbrev pub level_on : Bench → List Automaton → Names → Level
+abbrev pub level_on : PlanContext → List Automaton → Names → Level
 level_on bench sets names = level_in bench.position.now sets names
 
 -- whatever sets there are, the names stand for the level over them
-abbrev pub StandFor : Bench → (List Automaton → Level) → Names → Type 0
+abbrev pub StandFor : PlanContext → (List Automaton → Level) → Names → Type 0
 StandFor bench level names = (sets : List Automaton) → level_on bench sets names ≡ level sets
 
 -- among whatever sets the one name is one for the mask, the names are names for all masks
-abbrev pub AreNamesIf : Bench → ℕ → Option SetId → Names → Type 0
+abbrev pub AreNamesIf : PlanContext → ℕ → Option SetId → Names → Type 0
 AreNamesIf bench mask name names =
     (sets : List Automaton) → IsNameFor bench mask sets name → AreNamesIn bench.position.now sets names

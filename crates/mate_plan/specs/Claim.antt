@@ -11,7 +11,7 @@ use Rattle.rule_formula.specs.Mean.{mask_tracks}
 use Rattle.mask_sets.specs.Tuple.{tuple_of}
 use Rattle.mate_plan.specs.Plan.{Level}
 use Rattle.mate_plan.specs.PlanOf.{last_ply}
-use Rattle.mate_plan.specs.Turns.{waits}
+use Rattle.mate_plan.specs.Turns.{plies_before_turn}
 
 -- a set that is claimed at a ply for the positions with these live men
 pub record ClaimedSet : Type 0 where
@@ -44,7 +44,7 @@ every_second ply (suc count) = ply ∷ every_second (ply + 2) count
 
 -- the plies of the loser, from his first turn on: one for each move of the winner, and one more where he moves first
 abbrev pub losers_plies : Side → Side → ℕ → List ℕ
-losers_plies winner first moves = every_second (waits (other winner) first) (moves + waits winner first)
+losers_plies winner first moves = every_second (plies_before_turn (other winner) first) (moves + plies_before_turn winner first)
 
 -- the loser is to move at the ply, which is an odd number of plies before the last one; the winner has so many moves
 -- left

@@ -22,49 +22,49 @@ use Rattle.mate_plan.specs.Levels.{Names}
 use Rattle.mate_plan.specs.Plan as plan
 use Rattle.mate_plan.specs.Plan.{Level, Program}
 use Rattle.mate_plan.specs.Questions as questions
-use Rattle.mate_plan.specs.declared.bench.Bench.{Bench}
-use Rattle.mate_plan.specs.declared.bench.Work.{Work}
-use Rattle.mate_plan.specs.declared.losing.Losing.{Losing}
+use Rattle.mate_plan.specs.declared.bench.PlanContext.{PlanContext}
+use Rattle.mate_plan.specs.declared.bench.PlanState.{PlanState}
+use Rattle.mate_plan.specs.declared.losing.LoserLevel.{LoserLevel}
 use Rattle.mate_plan.specs.declared.losing.Lost.{Lost}
 use Rattle.mate_plan.specs.declared.losing.Resting.{Resting}
 use Rattle.mate_plan.specs.declared.names.Part.{Part}
 use Rattle.mate_plan.specs.declared.names.Part.TheVariants as kind
 use Rattle.mate_plan.specs.declared.names.PartName.{PartName}
-use Rattle.mate_plan.specs.declared.reaching.Reaching.{Reaching}
+use Rattle.mate_plan.specs.declared.reaching.ReachedLevel.{ReachedLevel}
 use Rattle.mate_plan.specs.declared.stage.MovesInto.{MovesInto}
 use Rattle.mate_plan.specs.declared.stage.PartMoves.{PartMoves}
 use Rattle.mate_plan.specs.declared.stage.PartSet.{PartSet}
 use Rattle.mate_plan.specs.declared.stage.Stage.{Stage}
 use Rattle.mate_plan.specs.declared.stage.StageLevel.{StageLevel}
 use Rattle.mate_plan.specs.declared.stage.StageSet.{StageSet}
-use Rattle.mate_plan.specs.declared.winning.Winning.{Winning}
+use Rattle.mate_plan.specs.declared.winning.WinnerLevel.{WinnerLevel}
 
 -- a program that is known where there are a bench and the sets that names stand for
 abbrev pub Named : Type 0 → Type 0
-Named A = Bench → List Automaton → Program A
+Named A = PlanContext → List Automaton → Program A
 
 -- over the sets of the work and within its budget, the program is answered by what the result is seen as
-abbrev pub AnswersBy : {A R : Type 0} → Bench → Work → Named A → (R → A) → Result R (PlanError PartName) → Type 0
+abbrev pub AnswersBy : {A R : Type 0} → PlanContext → PlanState → Named A → (R → A) → Result R (PlanError PartName) → Type 0
 AnswersBy bench work program view result = Answers (program bench work.sets) work.memo.budget view result
 
 -- it is answered by a set
-abbrev pub AnswersSet : Bench → Work → Named SetOf → Result (Option Automaton) (PlanError PartName) → Type 0
+abbrev pub AnswersSet : PlanContext → PlanState → Named SetOf → Result (Option Automaton) (PlanError PartName) → Type 0
 AnswersSet bench work program result = AnswersBy bench work program as_set result
 
 -- over the old sets it is answered by the name of a set among the new ones
-abbrev pub AnswersName : Bench → Work → Work → Named SetOf → Result (Option SetId) (PlanError PartName) → Type 0
+abbrev pub AnswersName : PlanContext → PlanState → PlanState → Named SetOf → Result (Option SetId) (PlanError PartName) → Type 0
 AnswersName bench old new program result = AnswersBy bench old program (λ name. set_at new.sets name) result
 
 -- over the old sets it is answered by the names of a level among the new ones
-abbrev pub AnswersLevel : Bench → Work → Work → Named Level → Result Names (PlanError PartName) → Type 0
+abbrev pub AnswersLevel : PlanContext → PlanState → PlanState → Named Level → Result Names (PlanError PartName) → Type 0
 AnswersLevel bench old new program result = AnswersBy bench old program (level_on bench new.sets) result
 
 -- it is answered by yes or no
-abbrev pub AnswersWhether : Bench → Work → Named Bool → Result Bool (PlanError PartName) → Type 0
+abbrev pub AnswersWhether : PlanContext → PlanState → Named Bool → Result Bool (PlanError PartName) → Type 0
 AnswersWhether bench work program result = AnswersBy bench work program as_is result
 
 -- what is left of a set without another, in a part of its own, is answered within a budget
-abbrev pub AnswersLeft : Bench → List Automaton → PartSet → Option (Bor Automaton) → ℕ
+abbrev pub AnswersLeft : PlanContext → List Automaton → PartSet → Option (Bor Automaton) → ℕ
     → Result Left (PlanError PartName) → Type 0
 AnswersLeft bench sets whole other budget result =
     AnswersRemainder (tracks_on bench whole.part.mask) whole.part (set_at sets whole.name) (lent other) budget result
@@ -76,11 +76,11 @@ StaysSame program old new = program new ≡ program old
 -- one set without the other
 abbrev pub without : PartSet → Option Automaton → Named SetOf
 without whole other bench sets =
-    unite.remainder (tracks_on bench whole.part.mask) whole.part (set_at sets whole.name) (as_set other)
+    unite.difference_set (tracks_on bench whole.part.mask) whole.part (set_at sets whole.name) (as_set other)
 
 -- one set and the other together
-abbrev pub together_on : Bench → PartName → Option Automaton → Option Automaton → Program SetOf
-together_on bench part first second = unite.together (tracks_on bench part.mask) part (as_set first) (as_set second)
+abbrev pub together_on : PlanContext → PartName → Option Automaton → Option Automaton → Program SetOf
+together_on bench part first second = unite.union_of_two (tracks_on bench part.mask) part (as_set first) (as_set second)
 
 -- the union of the sets of the formulas
 abbrev pub union : PartName → List Formula → Named SetOf
@@ -115,20 +115,20 @@ narrow stage bearings moved bench sets =
 abbrev pub point_level : Named Level
 point_level bench sets = plan.point_level (rules_on bench) (mask_of bench.position.now)
 
-abbrev pub reach_set : Reaching → ℕ → Named SetOf
+abbrev pub reach_set : ReachedLevel → ℕ → Named SetOf
 reach_set from mask bench sets =
     plan.reach_set (rules_on bench) from.side from.ply (level_on bench sets from.level.now) mask
 
-abbrev pub reach_level : Reaching → Named Level
+abbrev pub reach_level : ReachedLevel → Named Level
 reach_level from bench sets =
     plan.reach_level (rules_on bench) from.side from.ply (level_on bench sets from.level.now)
 
-abbrev pub win_set : Winning → ℕ → Named SetOf
+abbrev pub win_set : WinnerLevel → ℕ → Named SetOf
 win_set from mask bench sets =
     plan.win_set (rules_on bench) from.side from.ply (level_on bench sets from.reach.now)
     (level_on bench sets from.next_kept.now) mask
 
-abbrev pub win_level : Winning → Named Level
+abbrev pub win_level : WinnerLevel → Named Level
 win_level from bench sets =
     plan.win_level (rules_on bench) from.side from.ply (level_on bench sets from.reach.now)
     (level_on bench sets from.next_kept.now)
@@ -158,7 +158,7 @@ lost_set_if from mask bench sets =
     plan.lost_set_if (rules_on bench) from.side from.ply (level_on bench sets from.reach.now)
     (level_on bench sets from.next_reach.now) (level_on bench sets from.rests.now) mask
 
-abbrev pub lost_level : Losing → Named Level
+abbrev pub lost_level : LoserLevel → Named Level
 lost_level from bench sets =
     plan.lost_level (rules_on bench) from.side from.ply (level_on bench sets from.reach.now)
     (level_on bench sets from.next_reach.now) (level_on bench sets from.next_kept.now)
@@ -194,9 +194,9 @@ have_replies moves bench sets =
     questions.have_replies (rules_on bench) moves.stage.side moves.stage.ply (level_on bench sets moves.from.now)
     (level_on bench sets moves.into.now) moves.stage.mask
 
-abbrev pub are_apart : StageLevel → Named Bool
-are_apart at bench sets =
-    questions.are_apart bench.position.now at.stage.ply at.stage.mask
+abbrev pub are_on_distinct_squares : StageLevel → Named Bool
+are_on_distinct_squares at bench sets =
+    questions.are_on_distinct_squares bench.position.now at.stage.ply at.stage.mask
     (level_on bench sets at.level.now at.stage.mask)
 
 abbrev pub are_safe : StageLevel → Named Bool

@@ -4,7 +4,7 @@ use Rattle.game_rules.specs.Game.{Position}
 use Rattle.game_rules.specs.declared.men.Side.{Side}
 use Rattle.set_plan.specs.Outcome.{Ends, Stops}
 use Rattle.set_plan.specs.Same.{SameSets}
-use Rattle.set_plan.specs.declared.stop.StepName.{StepName}
+use Rattle.set_plan.specs.declared.stop.PartStep.{PartStep}
 use Rattle.mate_plan.specs.Plan.{Level}
 use Rattle.mate_plan.specs.PlanOf.{plan_of}
 use Rattle.mate_plan.specs.declared.names.PartName.{PartName}
@@ -24,9 +24,9 @@ SameLists (l ∷ ls) (m ∷ ms) = SameLevels l m × SameLists ls ms
 pub record EndsOnce (winner : Side) (p : Position) (moves budget : ℕ) : Type 0 where
   pub one_end : (a b : List Level) → Ends (plan_of winner p moves) budget a → Ends (plan_of winner p moves) budget b
       → SameLists a b
-  pub one_step : (x y : StepName PartName) → Stops (plan_of winner p moves) budget x
+  pub one_step : (x y : PartStep PartName) → Stops (plan_of winner p moves) budget x
       → Stops (plan_of winner p moves) budget y → x ≡ y
-  pub not_both : (a : List Level) (x : StepName PartName) → Ends (plan_of winner p moves) budget a
+  pub not_both : (a : List Level) (x : PartStep PartName) → Ends (plan_of winner p moves) budget a
       → Stops (plan_of winner p moves) budget x → ⊥
 
 -- of each position and number of moves

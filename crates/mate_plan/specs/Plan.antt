@@ -10,7 +10,7 @@ use Rattle.rule_formula.specs.declared.opt.Opt.{Opt}
 use Rattle.set_plan.specs.Program as set_plan
 use Rattle.set_plan.specs.Program.{Item, Give, Ask, Empty, each, ◌>>=◌}
 use Rattle.set_plan.specs.Unite as set_plan_unite
-use Rattle.set_plan.specs.Unite.{Made, make, remainder, together, two}
+use Rattle.set_plan.specs.Unite.{Made, make, difference_set, union_of_two, two}
 use Rattle.rule_formula.specs.declared.opt.Bearing.{Bearing}
 use Rattle.mate_plan.specs.declared.names.Part.{Part}
 use Rattle.mate_plan.specs.declared.names.Part.TheVariants as kind
@@ -72,7 +72,7 @@ module _ (rules : Rules) where
 
   -- one set without another, as a part of its own
   abbrev pub difference : ℕ → ℕ → Part → SetOf → SetOf → Program SetOf
-  difference ply mask p s t = remainder (rules.tracks mask) (name ply mask p) s t
+  difference ply mask p s t = difference_set (rules.tracks mask) (name ply mask p) s t
 
   -- the choices whose target is a mask
   abbrev pub choices_into : Side → ℕ → ℕ → List Opt
@@ -147,7 +147,7 @@ module _ (rules : Rules) where
     check ← check_set side ply mask calm
     quiet ← difference ply mask kind.Quiet calm check
     reply ← pre_set side ply mask kind.Reply quiet reach1
-    together (rules.tracks mask) (name ply mask kind.Lost) check reply
+    union_of_two (rules.tracks mask) (name ply mask kind.Lost) check reply
 
   -- the first two parts of it: what is reached without a move into the rests
   abbrev pub calm_set : Side → ℕ → ℕ → SetOf → Level → Program SetOf

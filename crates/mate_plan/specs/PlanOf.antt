@@ -12,12 +12,12 @@ use Rattle.rule_formula.specs.Seats.{var}
 use Rattle.rule_formula.specs.Trees.{bear_of, image_of, point_of, pre_of, safe_of, tracks_of}
 use Rattle.set_plan.specs.Program.{Give}
 use Rattle.mate_plan.specs.Plan.{Level, Program, Rules, plan}
-use Rattle.mate_plan.specs.Turns.{waits}
+use Rattle.mate_plan.specs.Turns.{plies_before_turn}
 
 -- the last ply of so many moves of the winner, by the side that moves first: the winner is to move there, and has no
 -- move left
 abbrev pub last_ply : Side → Side → ℕ → ℕ
-last_ply winner first moves = 2 * moves + waits winner first
+last_ply winner first moves = 2 * moves + plies_before_turn winner first
 
 -- a formula, if there is one
 abbrev pub formula_or : Tree → Option Tree → Tree

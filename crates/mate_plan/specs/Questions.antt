@@ -11,8 +11,8 @@ use Rattle.mate_plan.specs.declared.names.Part.{Part}
 use Rattle.mate_plan.specs.declared.names.Part.TheVariants as kind
 
 -- whether no two live men of the mask stand on one square in the set
-abbrev pub are_apart : Position → ℕ → ℕ → SetOf → Program Bool
-are_apart p ply mask s = are_empty (name ply mask kind.Same) 1 (twin_items p mask s)
+abbrev pub are_on_distinct_squares : Position → ℕ → ℕ → SetOf → Program Bool
+are_on_distinct_squares p ply mask s = are_empty (name ply mask kind.Same) 1 (twin_items p mask s)
 
 module _ (rules : Rules) where
   -- whether no man of the side bears on the other king in the set

@@ -5,12 +5,12 @@ use Rattle.lin_formula.specs.Tree.{Tree}
 use Rattle.lin_formula.specs.SetOf.{SetOf}
 use Rattle.lin_formula.specs.declared.formula.SetId.{SetId}
 use Rattle.rule_formula.specs.Pairs.{pairs_of}
-use Rattle.rule_formula.specs.declared.opt.Pair.{Pair}
+use Rattle.rule_formula.specs.declared.opt.ManPair.{ManPair}
 use Rattle.rule_formula.specs.Trees.{twins_tree}
 use Rattle.set_plan.specs.Program.{Item}
 
 -- where the two men of one of the pairs stand on one square, in the set of this number
-abbrev pub twins_by : ℕ → ℕ → List Pair → List Tree
+abbrev pub twins_by : ℕ → ℕ → List ManPair → List Tree
 twins_by mask source pairs = map (λ w. twins_tree 8 mask w.first w.second source) pairs
 
 -- where two of the men stand on one square, in the set of this number

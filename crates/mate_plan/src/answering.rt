@@ -7,7 +7,7 @@ ghost use Rattle.mate_plan.specs.Bench.{IsLater, IsNameFor};
 ghost use Rattle.mate_plan.specs.Named.{AnswersName, AnswersWhether};
 ghost use Rattle.mate_plan.specs.Named as named;
 
-use crate::bench::{Bench, Work};
+use crate::bench::{PlanContext, PlanState};
 use crate::lending::{is_lacking, keep_without, lent};
 use crate::level::name_in;
 use crate::names::{Part, PartName};
@@ -16,13 +16,13 @@ use crate::tracks::mask_tracks;
 use crate::unions::{check_set, pre_set};
 use formula_auto::Memo;
 use lin_formula::SetId;
-use set_plan::{PlanError, Sets, is_within};
+use set_plan::{PlanError, SetStore, is_within};
 
 /// Whether the side has a move into the level from each position of the set. What is left without one is this part.
 fn have_moves(
-    bench: &Bench,
+    bench: &PlanContext,
     memo: &mut Memo,
-    sets: &Sets,
+    sets: &SetStore,
     moves: &PartMoves,
     missing: Part,
 ) -> Result<bool, PlanError<PartName>>
@@ -46,8 +46,8 @@ fn have_moves(
 
 /// The name of what is in the set where the side is not in check.
 fn quiet_name(
-    bench: &Bench,
-    work: &mut Work,
+    bench: &PlanContext,
+    work: &mut PlanState,
     set: StageSet,
 ) -> Result<Option<SetId>, PlanError<PartName>>
     requires mask { IsGameMask bench.now.position.now set.stage.mask }
@@ -66,8 +66,8 @@ fn quiet_name(
 
 /// Whether the side that is to move has an answer into the other level from each position of the stage's set.
 pub fn are_answered(
-    bench: &Bench,
-    work: &mut Work,
+    bench: &PlanContext,
+    work: &mut PlanState,
     moves: &MovesInto,
 ) -> Result<bool, PlanError<PartName>>
     requires from { AreNamesIn bench.now.position.now work.old.sets moves.now.from.now }
@@ -89,8 +89,8 @@ pub fn are_answered(
 /// Whether the side that is to move is in check, or has a reply into the other level, in each position of the stage's set. The set that
 /// is made on the way is kept for as long only as it is needed.
 pub fn have_replies(
-    bench: &Bench,
-    work: &mut Work,
+    bench: &PlanContext,
+    work: &mut PlanState,
     moves: &MovesInto,
 ) -> Result<bool, PlanError<PartName>>
     requires mask { IsGameMask bench.now.position.now moves.now.stage.mask }

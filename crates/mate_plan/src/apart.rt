@@ -8,18 +8,22 @@ ghost use Rattle.mate_plan.specs.Named.{AnswersWhether};
 ghost use Rattle.mate_plan.specs.Formulas.{HaveTrees};
 ghost use Rattle.mate_plan.specs.Named as named;
 
-use crate::bench::{Bench, Work};
+use crate::bench::{PlanContext, PlanState};
 use crate::formulas::bear_formulas;
 use crate::level::name_in;
 use crate::names::{Part, PartName};
 use crate::stage::{MaskSet, StageLevel};
 use lin_formula::{Formula, SetId};
-use rule_formula::{Pair, pairs, twins_formula};
+use rule_formula::{ManPair, pairs, twins_formula};
 use set_plan::{PlanError, are_empty};
 use std::alloc::AllocError;
 
 /// Where the two men of one of the pairs stand on one square, in the set of a mask.
-fn twins(bench: &Bench, source: MaskSet, pairs: &[Pair]) -> Result<Vec<Formula>, AllocError>
+fn twins(
+    bench: &PlanContext,
+    source: MaskSet,
+    pairs: &[ManPair],
+) -> Result<Vec<Formula>, AllocError>
     requires pairs { All (IsPairOf bench.now.position.now.men source.mask) pairs.now }
     ensures { IfOk result (HaveTrees (twins_by source.mask source.set.0 pairs.now)) }
 {
@@ -32,7 +36,11 @@ fn twins(bench: &Bench, source: MaskSet, pairs: &[Pair]) -> Result<Vec<Formula>,
 }
 
 /// Where two live men stand on one square in the set of a mask, pair by pair.
-fn twin_formulas(bench: &Bench, mask: u8, source: Option<SetId>) -> Result<Vec<Formula>, AllocError>
+fn twin_formulas(
+    bench: &PlanContext,
+    mask: u8,
+    source: Option<SetId>,
+) -> Result<Vec<Formula>, AllocError>
     ensures { IfOk result (HaveTrees (twin_trees bench.now.position.now mask source)) }
 {
     let Some(set) = source else {
@@ -43,14 +51,14 @@ fn twin_formulas(bench: &Bench, mask: u8, source: Option<SetId>) -> Result<Vec<F
 }
 
 /// Whether live men stand on distinct squares in each position of the stage's set.
-pub fn are_apart(
-    bench: &Bench,
-    work: &mut Work,
+pub fn are_on_distinct_squares(
+    bench: &PlanContext,
+    work: &mut PlanState,
     at: &StageLevel,
 ) -> Result<bool, PlanError<PartName>>
     requires mask { IsGameMask bench.now.position.now at.now.stage.mask }
     requires level { AreNamesIn bench.now.position.now work.old.sets at.now.level.now }
-    ensures answers { AnswersWhether bench.now work.old (named.are_apart at.now) result }
+    ensures answers { AnswersWhether bench.now work.old (named.are_on_distinct_squares at.now) result }
     ensures sets { work.new.sets ≡ work.old.sets }
     ensures budget { work.new.memo.budget ≡ work.old.memo.budget }
 {
@@ -68,8 +76,8 @@ pub fn are_apart(
 
 /// Whether no man of the side that is to move bears on the other king in a position of the stage's set.
 pub fn are_safe(
-    bench: &Bench,
-    work: &mut Work,
+    bench: &PlanContext,
+    work: &mut PlanState,
     at: &StageLevel,
 ) -> Result<bool, PlanError<PartName>>
     requires mask { IsGameMask bench.now.position.now at.now.stage.mask }

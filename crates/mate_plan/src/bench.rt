@@ -7,12 +7,12 @@ ghost use Rattle.game_laws.specs.Soundness.{Sound-prop};
 use chess_game::Position;
 use formula_auto::Memo;
 use limits::Budget;
-use set_plan::Sets;
+use set_plan::SetStore;
 use std::alloc::Global;
 
 /// A sound position, with its masks.
 #[derive(Clone, Copy)]
-pub struct Bench<'a> {
+pub struct PlanContext<'a> {
     pub alloc: Global,
     pub position: &'a Position,
     pub masks: &'a [u8],
@@ -23,21 +23,21 @@ pub struct Bench<'a> {
 
 /// What is kept from one set to the next: compiled formulas, within a budget, and the sets.
 #[derive(Drop)]
-pub struct Work {
+pub struct PlanState {
     pub memo: Memo,
     /// The sets that the names of levels stand for, and those that are made on the way.
-    pub sets: Sets,
+    pub sets: SetStore,
 }
 
-impl Work {
+impl PlanState {
     /// Without sets.
-    pub fn new(alloc: Global, budget: Budget) -> Work
+    pub fn new(alloc: Global, budget: Budget) -> PlanState
         ensures budget { result.memo.budget ≡ budget }
         ensures sets { result.sets ≡ [] }
     {
-        Work {
+        PlanState {
             memo: Memo::new(alloc, budget),
-            sets: Sets::new(alloc),
+            sets: SetStore::new(alloc),
         }
     }
 }

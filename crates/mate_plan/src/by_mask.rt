@@ -10,14 +10,14 @@ ghost use Rattle.mate_plan.specs.Bench.{IsLater, IsNameFor};
 ghost use Rattle.mate_plan.specs.Named.{AnswersLevel, AnswersName, StaysSame};
 ghost use Rattle.mate_plan.specs.Named as named;
 
-use crate::bench::{Bench, Work};
+use crate::bench::{PlanContext, PlanState};
 use crate::level::LevelNames;
 use crate::names::PartName;
 use lin_formula::SetId;
-use set_plan::{PlanError, Steps, each};
+use set_plan::{PlanError, ProgramFold, each};
 
 /// What makes the set of one mask of a level after another, from levels that are named.
-pub trait MaskSets {
+pub trait LevelBuilder {
     /// The program of a mask, over the sets of a table.
     ghost program: { Self → Position → List Automaton → ℕ → plan.Program SetOf };
 
@@ -27,8 +27,8 @@ pub trait MaskSets {
     /// The name of the set of a mask.
     fn name(
         &self,
-        bench: &Bench,
-        work: &mut Work,
+        bench: &PlanContext,
+        work: &mut PlanState,
         mask: u8,
     ) -> Result<Option<SetId>, PlanError<PartName>>
         requires mask { IsGameMask bench.now.position.now mask }
@@ -43,17 +43,17 @@ pub trait MaskSets {
 /// A level, mask by mask.
 #[derive(Drop)]
 struct ByMask<'a, M> {
-    bench: &'a Bench<'a>,
+    bench: &'a PlanContext<'a>,
     making: &'a M,
 }
 
-impl<M: MaskSets> Steps for ByMask<'_, M> {
+impl<M: LevelBuilder> ProgramFold for ByMask<'_, M> {
     ghost use Rattle.std.specs.Prelude.{◌≡◌};
     ghost use Rattle.set_plan.specs.Sets.{Grows};
     ghost use Rattle.mate_plan.specs.Levels.{AreNamesSoFar, level_in};
     ghost use Rattle.mate_plan.specs.Plan as plan;
 
-    type Work = Work;
+    type Work = PlanState;
 
     type Item = u8;
 
@@ -81,7 +81,7 @@ impl<M: MaskSets> Steps for ByMask<'_, M> {
 
     fn step(
         &self,
-        work: &mut Work,
+        work: &mut PlanState,
         mask: &u8,
         so_far: LevelNames,
     ) -> Result<LevelNames, PlanError<PartName>> {
@@ -93,9 +93,9 @@ impl<M: MaskSets> Steps for ByMask<'_, M> {
 }
 
 /// A level, mask by mask.
-pub fn level_by<M: MaskSets>(
-    bench: &Bench,
-    work: &mut Work,
+pub fn level_by<M: LevelBuilder>(
+    bench: &PlanContext,
+    work: &mut PlanState,
     making: &M,
 ) -> Result<LevelNames, PlanError<PartName>>
     requires fits { M.fits making.now bench.now.position.now work.old.sets }

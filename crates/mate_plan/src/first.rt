@@ -11,7 +11,7 @@ ghost use Rattle.mate_plan.specs.Bench.{IsLater, IsSetFor};
 ghost use Rattle.mate_plan.specs.Named.{AnswersWhether};
 ghost use Rattle.mate_plan.specs.Named as named;
 
-use crate::bench::{Bench, Work};
+use crate::bench::{PlanContext, PlanState};
 use crate::level::{LevelNames, name_in};
 use crate::names::{Part, PartName};
 use crate::stage::{PartMoves, Stage, StageSet};
@@ -20,10 +20,10 @@ use crate::unions::pre_set;
 use auto_core::Auto;
 use formula_auto::Memo;
 use mask_sets::coordinates;
-use set_plan::{PlanError, Sets};
+use set_plan::{PlanError, SetStore};
 
 /// Whether the set, if there is one, has the coordinates of the position.
-fn has_coordinates(bench: &Bench, set: &Option<Auto>) -> bool
+fn has_coordinates(bench: &PlanContext, set: &Option<Auto>) -> bool
     requires { IsSetFor bench.now (mask_of bench.now.position.now) set.now }
     ensures { IsTrue result ↔ Member (as_set set.now) (tuple_of bench.now.position.now) }
 {
@@ -36,9 +36,9 @@ fn has_coordinates(bench: &Bench, set: &Option<Auto>) -> bool
 /// Where the side that is to move has a move from the one level into the other, among the positions with the live men of the starting
 /// position.
 fn first_set(
-    bench: &Bench,
+    bench: &PlanContext,
     memo: &mut Memo,
-    sets: &Sets,
+    sets: &SetStore,
     start: &LevelNames,
     into: &LevelNames,
 ) -> Result<Option<Auto>, PlanError<PartName>>
@@ -64,8 +64,8 @@ fn first_set(
 
 /// Whether the side that is to move has a move from the position itself into the level. The sets that are made on the way are let go.
 pub fn has_first_move(
-    bench: &Bench,
-    work: &mut Work,
+    bench: &PlanContext,
+    work: &mut PlanState,
     into: &LevelNames,
 ) -> Result<bool, PlanError<PartName>>
     requires into { AreNamesIn bench.now.position.now work.old.sets into.now }

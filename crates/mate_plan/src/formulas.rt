@@ -4,7 +4,7 @@ ghost use Rattle.rule_formula.specs.Fits.{IsGameMask};
 ghost use Rattle.rule_formula.specs.Meaning.{IsBearer, IsOptionOf};
 ghost use Rattle.mate_plan.specs.Formulas.{AreAdded, HaveTrees, bear_trees, bears_by, image_to, image_trees, images_to, pre_to, pres_to, stage_images, stage_pres};
 
-use crate::bench::Bench;
+use crate::bench::PlanContext;
 use crate::level::{LevelNames, name_in};
 use crate::stage::{MaskSet, Stage, StageSet};
 use game_rules::Side;
@@ -16,7 +16,7 @@ use std::alloc::AllocError;
 
 /// Adds where the option leads from the set of a mask, if it leads into the other mask.
 fn push_image(
-    bench: &Bench,
+    bench: &PlanContext,
     formulas: &mut Vec<Formula>,
     from: MaskSet,
     to: u8,
@@ -34,7 +34,7 @@ fn push_image(
 
 /// Adds where the options lead from the set of a mask, as far as they lead into the other mask.
 fn push_images(
-    bench: &Bench,
+    bench: &PlanContext,
     formulas: &mut Vec<Formula>,
     from: MaskSet,
     to: u8,
@@ -51,7 +51,7 @@ fn push_images(
 
 /// Adds where the side's moves lead from the set of a mask into the mask of the stage, if there is a set.
 fn push_mask(
-    bench: &Bench,
+    bench: &PlanContext,
     formulas: &mut Vec<Formula>,
     stage: Stage,
     mask: u8,
@@ -70,7 +70,7 @@ fn push_mask(
 
 /// Where the side's moves lead from the sets of a level into the mask of the stage: mask by mask, and in each option by option.
 pub(crate) fn image_formulas(
-    bench: &Bench,
+    bench: &PlanContext,
     stage: Stage,
     level: &LevelNames,
 ) -> Result<Vec<Formula>, AllocError>
@@ -86,7 +86,7 @@ pub(crate) fn image_formulas(
 
 /// Adds where a move by the option leads from the one set into the other, if there is one.
 fn push_pre(
-    bench: &Bench,
+    bench: &PlanContext,
     formulas: &mut Vec<Formula>,
     from: MaskSet,
     option: Opt,
@@ -108,7 +108,7 @@ fn push_pre(
 
 /// Where a move by one of the options leads from the set of a mask into a set of a level.
 fn pre_options(
-    bench: &Bench,
+    bench: &PlanContext,
     from: MaskSet,
     targets: &LevelNames,
     options: &[Opt],
@@ -126,7 +126,7 @@ fn pre_options(
 
 /// Where some move of the side leads from the set of the stage into a set of a level, option by option.
 pub(crate) fn pre_formulas(
-    bench: &Bench,
+    bench: &PlanContext,
     source: StageSet,
     targets: &LevelNames,
 ) -> Result<Vec<Formula>, AllocError>
@@ -141,7 +141,11 @@ pub(crate) fn pre_formulas(
 }
 
 /// Where one of the men bears as it is said, in the set of a mask.
-fn bears(bench: &Bench, source: MaskSet, bearings: &[Bearing]) -> Result<Vec<Formula>, AllocError>
+fn bears(
+    bench: &PlanContext,
+    source: MaskSet,
+    bearings: &[Bearing],
+) -> Result<Vec<Formula>, AllocError>
     requires { All (λ b. IsBearer bench.now.position.now.men source.mask b.man b.ray b.king) bearings.now }
     ensures { IfOk result (HaveTrees (bears_by bench.now.position.now source bearings.now)) }
 {
@@ -156,7 +160,7 @@ fn bears(bench: &Bench, source: MaskSet, bearings: &[Bearing]) -> Result<Vec<For
 
 /// Where a man of the side bears on the other side's king in the set of a mask, bearing by bearing.
 pub(crate) fn bear_formulas(
-    bench: &Bench,
+    bench: &PlanContext,
     side: Side,
     mask: u8,
     source: Option<SetId>,

@@ -1,4 +1,4 @@
-//! Sets that are lent by name.
+//! SetStore that are lent by name.
 ghost use Rattle.std.specs.Prelude.{◌≡◌, IfOk, IfSome, List};
 ghost use Rattle.std.specs.Bool.{OnTrue, OnFalse};
 ghost use Rattle.track_word.specs.declared.tracks.Var.{Var};
@@ -9,18 +9,18 @@ ghost use Rattle.mate_plan.specs.Bench.{IsLater, IsNameFor, IsNameOfLeft, IsSetF
 ghost use Rattle.mate_plan.specs.Named.{AnswersLeft, AnswersName, together_on};
 ghost use Rattle.mate_plan.specs.Named as named;
 
-use crate::bench::{Bench, Work};
+use crate::bench::{PlanContext, PlanState};
 use crate::names::PartName;
 use crate::stage::PartSet;
 use crate::tracks::mask_tracks;
 use auto_core::Auto;
 use limits::Budget;
 use lin_formula::SetId;
-use set_plan::{Left, PlanError, Sets, is_empty_set, remainder, together};
+use set_plan::{Left, PlanError, SetStore, difference_set, is_empty_set, union_of_two};
 use std::alloc::AllocError;
 
 /// The set of a name, if there is one.
-pub(crate) fn lent(sets: &Sets, name: Option<SetId>) -> Option<&Auto>
+pub(crate) fn lent(sets: &SetStore, name: Option<SetId>) -> Option<&Auto>
     requires { (tracks : List Var) × IsNameOn tracks sets.now name }
     ensures set { lent_set result ≡ set_at sets.now name }
     ensures on { (tracks : List Var) → IsNameOn tracks sets.now name → IfSome result (λ a. IsSetOn tracks a.now) }
@@ -32,7 +32,7 @@ pub(crate) fn lent(sets: &Sets, name: Option<SetId>) -> Option<&Auto>
 }
 
 /// Whether the set of a name is empty.
-pub(crate) fn is_lacking(sets: &Sets, name: Option<SetId>) -> bool
+pub(crate) fn is_lacking(sets: &SetStore, name: Option<SetId>) -> bool
     requires { (tracks : List Var) × IsNameOn tracks sets.now name }
     ensures yes { OnTrue result (IsEmpty (set_at sets.now name)) }
     ensures none { OnFalse result (¬ IsEmpty (set_at sets.now name)) }
@@ -45,8 +45,8 @@ pub(crate) fn is_lacking(sets: &Sets, name: Option<SetId>) -> bool
 
 /// What is left of a set without another, over the men of the part's mask.
 pub(crate) fn left_without(
-    bench: &Bench,
-    sets: &Sets,
+    bench: &PlanContext,
+    sets: &SetStore,
     whole: PartSet,
     other: Option<&Auto>,
     budget: Budget,
@@ -58,12 +58,12 @@ pub(crate) fn left_without(
 {
     let PartSet { part, name } = whole;
     let tracks = mask_tracks(bench.alloc, bench.position, part.mask)?;
-    remainder(bench.alloc, &tracks, part, lent(sets, name), other, budget)
+    difference_set(bench.alloc, &tracks, part, lent(sets, name), other, budget)
 }
 
 /// The name of what is left: that of the whole set, or of a set that is now kept.
 pub(crate) fn keep_left(
-    sets: &mut Sets,
+    sets: &mut SetStore,
     whole: Option<SetId>,
     left: Left,
 ) -> Result<Option<SetId>, AllocError>
@@ -79,8 +79,8 @@ pub(crate) fn keep_left(
 
 /// The name of what is left of a set without another, over the men of the part's mask.
 pub(crate) fn keep_without(
-    bench: &Bench,
-    work: &mut Work,
+    bench: &PlanContext,
+    work: &mut PlanState,
     whole: PartSet,
     other: Option<Auto>,
 ) -> Result<Option<SetId>, PlanError<PartName>>
@@ -97,7 +97,7 @@ pub(crate) fn keep_without(
 
 /// Two sets together, over the men of the part's mask.
 pub(crate) fn joined(
-    bench: &Bench,
+    bench: &PlanContext,
     part: PartName,
     first: Option<Auto>,
     second: Option<Auto>,
@@ -109,5 +109,5 @@ pub(crate) fn joined(
     ensures set { IfOk result (IsSetFor bench.now part.mask) }
 {
     let tracks = mask_tracks(bench.alloc, bench.position, part.mask)?;
-    together(bench.alloc, &tracks, part, first, second, budget)
+    union_of_two(bench.alloc, &tracks, part, first, second, budget)
 }

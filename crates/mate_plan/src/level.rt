@@ -3,7 +3,7 @@ ghost use Rattle.std.specs.Prelude.{◌≡◌, [], ◌∷◌, ◌++◌, OnOk, On
 ghost use Rattle.rule_formula.specs.Fits.{masks_of};
 ghost use Rattle.mate_plan.specs.Formulas.{name_of};
 
-use crate::bench::Bench;
+use crate::bench::PlanContext;
 use lin_formula::SetId;
 use std::alloc::{AllocError, Global};
 use std::marker::Model;
@@ -51,7 +51,7 @@ impl LevelNames {
 }
 
 /// The name for a mask in a level.
-pub(crate) fn name_in(bench: &Bench, level: &LevelNames, mask: u8) -> Option<SetId>
+pub(crate) fn name_in(bench: &PlanContext, level: &LevelNames, mask: u8) -> Option<SetId>
     ensures { result ≡ name_of (masks_of bench.now.position.now) level.now mask }
 {
     let mut found = None;

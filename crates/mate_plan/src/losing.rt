@@ -7,8 +7,8 @@ ghost use Rattle.mate_plan.specs.Bench.{IsLater, IsNameFor, IsSetFor, tracks_on}
 ghost use Rattle.mate_plan.specs.Named.{AnswersLevel, AnswersName, AnswersSet};
 ghost use Rattle.mate_plan.specs.Named as named;
 
-use crate::bench::{Bench, Work};
-use crate::by_mask::{MaskSets, level_by};
+use crate::bench::{PlanContext, PlanState};
+use crate::by_mask::{LevelBuilder, level_by};
 use crate::lending::{is_lacking, joined, keep_left, keep_without, left_without, lent};
 use crate::level::{LevelNames, name_in};
 use crate::names::{Part, PartName};
@@ -29,8 +29,8 @@ struct Resting<'a> {
 
 /// The name of what is reached and not kept with the mask.
 fn rest_name(
-    bench: &Bench,
-    work: &mut Work,
+    bench: &PlanContext,
+    work: &mut PlanState,
     from: &Resting,
     mask: u8,
 ) -> Result<Option<SetId>, PlanError<PartName>>
@@ -52,7 +52,7 @@ fn rest_name(
     Ok(keep_left(&mut work.sets, name, left)?)
 }
 
-impl MaskSets for Resting<'_> {
+impl LevelBuilder for Resting<'_> {
     ghost use Rattle.mate_plan.specs.Levels.{AreNamesIn, level_in};
     ghost use Rattle.mate_plan.specs.Plan as plan;
     ghost use Rattle.mate_plan.specs.PlanOf.{rules_of};
@@ -64,8 +64,8 @@ impl MaskSets for Resting<'_> {
 
     fn name(
         &self,
-        bench: &Bench,
-        work: &mut Work,
+        bench: &PlanContext,
+        work: &mut PlanState,
         mask: u8,
     ) -> Result<Option<SetId>, PlanError<PartName>> {
         rest_name(bench, work, self, mask)
@@ -74,8 +74,8 @@ impl MaskSets for Resting<'_> {
 
 /// The name of what is reached without a move into the rests.
 fn calm_name(
-    bench: &Bench,
-    work: &mut Work,
+    bench: &PlanContext,
+    work: &mut PlanState,
     reach: StageSet,
     rests: &LevelNames,
 ) -> Result<Option<SetId>, PlanError<PartName>>
@@ -101,8 +101,8 @@ fn calm_name(
 
 /// What is calm and not in check, and has a move.
 fn reply_set(
-    bench: &Bench,
-    work: &mut Work,
+    bench: &PlanContext,
+    work: &mut PlanState,
     calm: StageSet,
     check: Option<&Auto>,
     next_reach: &LevelNames,
@@ -133,8 +133,8 @@ fn reply_set(
 
 /// What is kept with the mask, where some position is reached.
 fn lost_set(
-    bench: &Bench,
-    work: &mut Work,
+    bench: &PlanContext,
+    work: &mut PlanState,
     reach: StageSet,
     next_reach: &LevelNames,
     rests: &LevelNames,
@@ -169,8 +169,8 @@ struct Lost<'a> {
 /// The name of what is kept with the mask. The sets that are made on the way are kept for as long only as they are
 /// needed.
 fn lost_name(
-    bench: &Bench,
-    work: &mut Work,
+    bench: &PlanContext,
+    work: &mut PlanState,
     from: &Lost,
     mask: u8,
 ) -> Result<Option<SetId>, PlanError<PartName>>
@@ -198,7 +198,7 @@ fn lost_name(
     Ok(work.sets.keep(set)?)
 }
 
-impl MaskSets for Lost<'_> {
+impl LevelBuilder for Lost<'_> {
     ghost use Rattle.mate_plan.specs.Levels.{AreNamesIn, level_in};
     ghost use Rattle.mate_plan.specs.Plan as plan;
     ghost use Rattle.mate_plan.specs.PlanOf.{rules_of};
@@ -211,8 +211,8 @@ impl MaskSets for Lost<'_> {
 
     fn name(
         &self,
-        bench: &Bench,
-        work: &mut Work,
+        bench: &PlanContext,
+        work: &mut PlanState,
         mask: u8,
     ) -> Result<Option<SetId>, PlanError<PartName>> {
         lost_name(bench, work, self, mask)
@@ -222,7 +222,7 @@ impl MaskSets for Lost<'_> {
 /// What is kept at a ply at which the loser, the side, is to move, from what is reached at the ply and at the next one, and what is kept at
 /// the next one.
 #[derive(Clone, Copy)]
-pub struct Losing<'a> {
+pub struct LoserLevel<'a> {
     pub side: Side,
     pub ply: u8,
     pub reach: &'a LevelNames,
@@ -232,9 +232,9 @@ pub struct Losing<'a> {
 
 /// What is kept at a ply of the loser.
 pub fn lost_level(
-    bench: &Bench,
-    work: &mut Work,
-    from: &Losing,
+    bench: &PlanContext,
+    work: &mut PlanState,
+    from: &LoserLevel,
 ) -> Result<LevelNames, PlanError<PartName>>
     requires ply { from.now.ply < 255 }
     requires reach { AreNamesIn bench.now.position.now work.old.sets from.now.reach.now }

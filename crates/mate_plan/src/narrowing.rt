@@ -5,21 +5,21 @@ ghost use Rattle.mate_plan.specs.Bench.{IsLater, IsSetFor};
 ghost use Rattle.mate_plan.specs.Named.{AnswersSet};
 ghost use Rattle.mate_plan.specs.Named as named;
 
-use crate::bench::{Bench, Work};
+use crate::bench::{PlanContext, PlanState};
 use crate::names::{Part, PartName};
 use crate::stage::Stage;
 use auto_core::Auto;
 use rule_formula::{Bearing, safe_formula};
-use set_plan::{Made, PlanError, StepName, Steps, each, make_reached, reduced};
+use set_plan::{Made, PartStep, PlanError, ProgramFold, each, make_reached, reduced};
 
 /// The set of a stage made narrower by one bearing after the other. It need not be reduced on the way.
 #[derive(Drop)]
 struct Narrowing<'a> {
-    bench: &'a Bench<'a>,
+    bench: &'a PlanContext<'a>,
     stage: Stage,
 }
 
-impl Steps for Narrowing<'_> {
+impl ProgramFold for Narrowing<'_> {
     ghost use Rattle.std.specs.Prelude.{◌<◌, ◌+◌, ◌*◌, ◌^◌, All, IfSome, length};
     ghost use Rattle.rule_formula.specs.Mean.{mask_tracks as tracks_at};
     ghost use Rattle.rule_formula.specs.Meaning.{IsBearer};
@@ -28,7 +28,7 @@ impl Steps for Narrowing<'_> {
     ghost use Rattle.mate_plan.specs.Plan as plan;
     ghost use Rattle.mate_plan.specs.PlanOf.{rules_of};
 
-    type Work = Work;
+    type Work = PlanState;
 
     type Item = Bearing;
 
@@ -57,7 +57,7 @@ impl Steps for Narrowing<'_> {
     /// The set is kept for as long only as it is needed.
     fn step(
         &self,
-        work: &mut Work,
+        work: &mut PlanState,
         bearing: &Bearing,
         so_far: Made,
     ) -> Result<Made, PlanError<PartName>> {
@@ -65,7 +65,7 @@ impl Steps for Narrowing<'_> {
         let Some(source) = set else {
             return Ok(Made { set: None, at });
         };
-        let Bench {
+        let PlanContext {
             alloc,
             position,
             ..
@@ -73,7 +73,7 @@ impl Steps for Narrowing<'_> {
         let count = work.sets.count();
         let id = work.sets.put(source)?;
         let formula = safe_formula(alloc, position, self.stage.mask, *bearing, id)?;
-        let from = StepName {
+        let from = PartStep {
             part: self.stage.part(Part::Safe),
             at,
         };
@@ -85,8 +85,8 @@ impl Steps for Narrowing<'_> {
 
 /// The set made narrower by each of the bearings in turn. Only the last one is reduced.
 pub(crate) fn narrow(
-    bench: &Bench,
-    work: &mut Work,
+    bench: &PlanContext,
+    work: &mut PlanState,
     stage: Stage,
     bearings: &[Bearing],
     moved: Option<Auto>,

@@ -6,8 +6,8 @@ ghost use Rattle.mate_plan.specs.Bench.{IsLater, IsNameFor, IsSetFor};
 ghost use Rattle.mate_plan.specs.Named.{AnswersLevel, AnswersName, AnswersSet};
 ghost use Rattle.mate_plan.specs.Named as named;
 
-use crate::bench::{Bench, Work};
-use crate::by_mask::{MaskSets, level_by};
+use crate::bench::{PlanContext, PlanState};
+use crate::by_mask::{LevelBuilder, level_by};
 use crate::level::LevelNames;
 use crate::names::PartName;
 use crate::narrowing::narrow;
@@ -21,7 +21,7 @@ use set_plan::PlanError;
 
 /// What is reached at a ply, from what is reached at the ply before it, where the side moves.
 #[derive(Clone, Copy)]
-pub struct Reaching<'a> {
+pub struct ReachedLevel<'a> {
     pub side: Side,
     /// Step names have this ply.
     pub ply: u8,
@@ -30,9 +30,9 @@ pub struct Reaching<'a> {
 
 /// What is reached with the mask.
 fn reach_set(
-    bench: &Bench,
-    work: &mut Work,
-    from: &Reaching,
+    bench: &PlanContext,
+    work: &mut PlanState,
+    from: &ReachedLevel,
     mask: u8,
 ) -> Result<Option<Auto>, PlanError<PartName>>
     requires mask { IsGameMask bench.now.position.now mask }
@@ -41,7 +41,7 @@ fn reach_set(
     ensures set { IfOk result (IsSetFor bench.now mask) }
     ensures later { IsLater work.old work.new }
 {
-    let Reaching { side, ply, level } = *from;
+    let ReachedLevel { side, ply, level } = *from;
     let stage = Stage { side, ply, mask };
     let moved = image_set(bench, &mut work.memo, &work.sets, stage, level)?;
     let attacks = bearings(bench.alloc, bench.position, mask, side.other())?;
@@ -50,9 +50,9 @@ fn reach_set(
 
 /// The name of what is reached with the mask.
 fn reach_name(
-    bench: &Bench,
-    work: &mut Work,
-    from: &Reaching,
+    bench: &PlanContext,
+    work: &mut PlanState,
+    from: &ReachedLevel,
     mask: u8,
 ) -> Result<Option<SetId>, PlanError<PartName>>
     requires mask { IsGameMask bench.now.position.now mask }
@@ -65,7 +65,7 @@ fn reach_name(
     Ok(work.sets.keep(set)?)
 }
 
-impl MaskSets for Reaching<'_> {
+impl LevelBuilder for ReachedLevel<'_> {
     ghost use Rattle.mate_plan.specs.Levels.{AreNamesIn, level_in};
     ghost use Rattle.mate_plan.specs.Plan as plan;
     ghost use Rattle.mate_plan.specs.PlanOf.{rules_of};
@@ -76,8 +76,8 @@ impl MaskSets for Reaching<'_> {
 
     fn name(
         &self,
-        bench: &Bench,
-        work: &mut Work,
+        bench: &PlanContext,
+        work: &mut PlanState,
         mask: u8,
     ) -> Result<Option<SetId>, PlanError<PartName>> {
         reach_name(bench, work, self, mask)
@@ -86,9 +86,9 @@ impl MaskSets for Reaching<'_> {
 
 /// What is reached at a ply.
 pub fn reach_level(
-    bench: &Bench,
-    work: &mut Work,
-    from: &Reaching,
+    bench: &PlanContext,
+    work: &mut PlanState,
+    from: &ReachedLevel,
 ) -> Result<LevelNames, PlanError<PartName>>
     requires level { AreNamesIn bench.now.position.now work.old.sets from.now.level.now }
     ensures answers { AnswersLevel bench.now work.old work.new (named.reach_level from.now) result }

@@ -11,17 +11,17 @@ ghost use Rattle.mate_plan.specs.Bench.{AreNamesIf, IsLater, IsSetFor, StandFor,
 ghost use Rattle.mate_plan.specs.Named.{AnswersLevel};
 ghost use Rattle.mate_plan.specs.Named as named;
 
-use crate::bench::{Bench, Work};
+use crate::bench::{PlanContext, PlanState};
 use crate::level::LevelNames;
 use crate::names::{Part, PartName};
 use formula_auto::Memo;
 use lin_formula::SetId;
 use rule_formula::point_formula;
-use set_plan::{Made, PlanError, Sets, make};
+use set_plan::{Made, PlanError, SetStore, make};
 use std::alloc::AllocError;
 
 /// The level with the set of this name for a mask, and without a set for the others.
-fn level_at(bench: &Bench, mask: u8, name: Option<SetId>) -> Result<LevelNames, AllocError>
+fn level_at(bench: &PlanContext, mask: u8, name: Option<SetId>) -> Result<LevelNames, AllocError>
     ensures { IfOk result (λ names. names ≡ one_name bench.now.position.now mask name) }
 {
     let mut names = LevelNames::new(bench.alloc);
@@ -32,7 +32,11 @@ fn level_at(bench: &Bench, mask: u8, name: Option<SetId>) -> Result<LevelNames, 
 }
 
 /// The level with the set of this name for a mask, and without a set for the others.
-pub fn one_level(bench: &Bench, mask: u8, name: Option<SetId>) -> Result<LevelNames, AllocError>
+pub fn one_level(
+    bench: &PlanContext,
+    mask: u8,
+    name: Option<SetId>,
+) -> Result<LevelNames, AllocError>
     requires mask { IsGameMask bench.now.position.now mask }
     ensures level { IfOk result (StandFor bench.now (λ sets. plan.level_with plan.no_sets mask (set_at sets name))) }
     ensures names { IfOk result (AreNamesIf bench.now mask name) }
@@ -41,7 +45,7 @@ pub fn one_level(bench: &Bench, mask: u8, name: Option<SetId>) -> Result<LevelNa
 }
 
 /// The level without sets, in which no mask has a name.
-pub fn no_level(bench: &Bench) -> Result<LevelNames, AllocError>
+pub fn no_level(bench: &PlanContext) -> Result<LevelNames, AllocError>
     ensures level { IfOk result (StandFor bench.now (λ sets. plan.no_sets)) }
     ensures names { IfOk result (λ names. (sets : List Automaton) → AreNamesIn bench.now.position.now sets names) }
 {
@@ -50,9 +54,9 @@ pub fn no_level(bench: &Bench) -> Result<LevelNames, AllocError>
 
 /// The set of the position alone.
 fn point_set(
-    bench: &Bench,
+    bench: &PlanContext,
     memo: &mut Memo,
-    sets: &Sets,
+    sets: &SetStore,
     mask: u8,
 ) -> Result<Made, PlanError<PartName>>
     ensures answers { AnswersMade memo.old (plan.point_set (rules_on bench.now) mask) result }
@@ -69,7 +73,10 @@ fn point_set(
 }
 
 /// What is reached without a move: the position alone.
-pub fn point_level(bench: &Bench, work: &mut Work) -> Result<LevelNames, PlanError<PartName>>
+pub fn point_level(
+    bench: &PlanContext,
+    work: &mut PlanState,
+) -> Result<LevelNames, PlanError<PartName>>
     ensures answers { AnswersLevel bench.now work.old work.new named.point_level result }
     ensures names { IfOk result (AreNamesIn bench.now.position.now work.new.sets) }
     ensures later { IsLater work.old work.new }

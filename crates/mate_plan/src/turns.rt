@@ -1,11 +1,11 @@
 //! Whose turn it is.
 ghost use Rattle.std.specs.Prelude.{◌≡◌, ◌≤◌};
-ghost use Rattle.mate_plan.specs.Turns.{waits as plies};
+ghost use Rattle.mate_plan.specs.Turns.{plies_before_turn as plies};
 
 use game_rules::Side;
 
 /// How many plies the side waits for its turn, by the side that moves first.
-pub fn waits(side: Side, first: Side) -> u8
+pub fn plies_before_turn(side: Side, first: Side) -> u8
     ensures plies { result ≡ plies side first }
     ensures most { result ≤ 1 }
 {

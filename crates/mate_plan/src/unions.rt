@@ -9,7 +9,7 @@ ghost use Rattle.mate_plan.specs.Levels.{AreNamesIn};
 ghost use Rattle.mate_plan.specs.Bench.{IsNameFor, IsSetFor, tracks_on};
 ghost use Rattle.mate_plan.specs.Named as named;
 
-use crate::bench::Bench;
+use crate::bench::PlanContext;
 use crate::formulas::{bear_formulas, image_formulas, pre_formulas};
 use crate::level::LevelNames;
 use crate::names::{Part, PartName};
@@ -18,13 +18,13 @@ use crate::tracks::mask_tracks;
 use auto_core::Auto;
 use formula_auto::Memo;
 use lin_formula::Formula;
-use set_plan::{PlanError, Sets, StepName, unite};
+use set_plan::{PartStep, PlanError, SetStore, unite};
 
 /// The union of the sets of the formulas, which are over the men of the part's mask.
 fn united(
-    bench: &Bench,
+    bench: &PlanContext,
     memo: &mut Memo,
-    sets: &Sets,
+    sets: &SetStore,
     part: PartName,
     formulas: &[Formula],
 ) -> Result<Option<Auto>, PlanError<PartName>>
@@ -35,16 +35,16 @@ fn united(
     ensures budget { memo.new.budget ≡ memo.old.budget }
 {
     let tracks = mask_tracks(bench.alloc, bench.position, part.mask)?;
-    let from = StepName { part, at: 1 };
+    let from = PartStep { part, at: 1 };
     let made = unite(bench.alloc, memo, &tracks, from, formulas, sets.table())?;
     Ok(made.set)
 }
 
 /// Where the side's moves lead from the sets of a level into the mask.
 pub(crate) fn image_set(
-    bench: &Bench,
+    bench: &PlanContext,
     memo: &mut Memo,
-    sets: &Sets,
+    sets: &SetStore,
     stage: Stage,
     level: &LevelNames,
 ) -> Result<Option<Auto>, PlanError<PartName>>
@@ -59,9 +59,9 @@ pub(crate) fn image_set(
 
 /// Where some move of the side leads from the set of the stage into a set of the level.
 pub(crate) fn pre_set(
-    bench: &Bench,
+    bench: &PlanContext,
     memo: &mut Memo,
-    sets: &Sets,
+    sets: &SetStore,
     moves: &PartMoves,
 ) -> Result<Option<Auto>, PlanError<PartName>>
     requires source { IsNameFor bench.now moves.now.set.stage.mask sets.now moves.now.set.name }
@@ -82,9 +82,9 @@ pub(crate) fn pre_set(
 
 /// Where a man of the other side bears on the king of the side, in the set of the stage.
 pub(crate) fn check_set(
-    bench: &Bench,
+    bench: &PlanContext,
     memo: &mut Memo,
-    sets: &Sets,
+    sets: &SetStore,
     source: StageSet,
 ) -> Result<Option<Auto>, PlanError<PartName>>
     requires mask { IsGameMask bench.now.position.now source.stage.mask }

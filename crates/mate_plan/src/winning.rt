@@ -6,8 +6,8 @@ ghost use Rattle.mate_plan.specs.Bench.{IsLater, IsNameFor};
 ghost use Rattle.mate_plan.specs.Named.{AnswersLevel, AnswersName};
 ghost use Rattle.mate_plan.specs.Named as named;
 
-use crate::bench::{Bench, Work};
-use crate::by_mask::{MaskSets, level_by};
+use crate::bench::{PlanContext, PlanState};
+use crate::by_mask::{LevelBuilder, level_by};
 use crate::level::{LevelNames, name_in};
 use crate::names::{Part, PartName};
 use crate::stage::{PartMoves, Stage, StageSet};
@@ -18,7 +18,7 @@ use set_plan::PlanError;
 
 /// What is kept at a ply at which the winner, the side, is to move, from what is reached at the ply and what is kept at the next one.
 #[derive(Clone, Copy)]
-pub struct Winning<'a> {
+pub struct WinnerLevel<'a> {
     pub side: Side,
     pub ply: u8,
     pub reach: &'a LevelNames,
@@ -27,9 +27,9 @@ pub struct Winning<'a> {
 
 /// The name of what is kept with the mask.
 fn win_name(
-    bench: &Bench,
-    work: &mut Work,
-    from: &Winning,
+    bench: &PlanContext,
+    work: &mut PlanState,
+    from: &WinnerLevel,
     mask: u8,
 ) -> Result<Option<SetId>, PlanError<PartName>>
     requires mask { IsGameMask bench.now.position.now mask }
@@ -39,7 +39,7 @@ fn win_name(
     ensures name { IfOk result (IsNameFor bench.now mask work.new.sets) }
     ensures later { IsLater work.old work.new }
 {
-    let Winning {
+    let WinnerLevel {
         side,
         ply,
         reach,
@@ -56,7 +56,7 @@ fn win_name(
     Ok(work.sets.keep(set)?)
 }
 
-impl MaskSets for Winning<'_> {
+impl LevelBuilder for WinnerLevel<'_> {
     ghost use Rattle.mate_plan.specs.Levels.{AreNamesIn, level_in};
     ghost use Rattle.mate_plan.specs.Plan as plan;
     ghost use Rattle.mate_plan.specs.PlanOf.{rules_of};
@@ -68,8 +68,8 @@ impl MaskSets for Winning<'_> {
 
     fn name(
         &self,
-        bench: &Bench,
-        work: &mut Work,
+        bench: &PlanContext,
+        work: &mut PlanState,
         mask: u8,
     ) -> Result<Option<SetId>, PlanError<PartName>> {
         win_name(bench, work, self, mask)
@@ -78,9 +78,9 @@ impl MaskSets for Winning<'_> {
 
 /// What is kept at a ply of the winner.
 pub fn win_level(
-    bench: &Bench,
-    work: &mut Work,
-    from: &Winning,
+    bench: &PlanContext,
+    work: &mut PlanState,
+    from: &WinnerLevel,
 ) -> Result<LevelNames, PlanError<PartName>>
     requires reach { AreNamesIn bench.now.position.now work.old.sets from.now.reach.now }
     requires next_kept { AreNamesIn bench.now.position.now work.old.sets from.now.next_kept.now }

@@ -3,8 +3,8 @@ use Rattle.std.proofs.Common.{◌≡◌, ℕ, List, [], ◌++◌, Some, Result, 
 use Rattle.std.proofs.lemmas.List.{append-nil}
 use Rattle.std.specs.Prelude.{MatchResult}
 use Rattle.std.specs.declared.alloc.Global.{Global}
-use Rattle.desk_words.specs.Order.{texts, usage_line}
-use Rattle.desk_words.specs.declared.order.UsageWhy.TheVariants.{Unknown}
+use Rattle.desk_args.specs.Order.{texts, usage_line}
+use Rattle.desk_args.specs.declared.order.UsageWhy.TheVariants.{Unknown}
 use Rattle.desk_report.specs.Outcome.{Seen, WriteFailed, seen_of}
 use Rattle.desk_report.specs.declared.status.Status.{Status}
 use Rattle.mate_desk.specs.Faultless.{EndsExactly, Held, NoneFailed, Tells, held}

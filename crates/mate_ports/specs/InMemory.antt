@@ -1,8 +1,8 @@
 -- How the program ends over bytes in memory.
 use Rattle.std.specs.Prelude.{◌≡◌, List, ℕ, ◌++◌, [], MatchResult, Result, String, Vec}
 use Rattle.std.specs.declared.alloc.Global.{Global}
-use Rattle.desk_words.specs.Order.{texts, usage_line}
-use Rattle.desk_words.specs.declared.order.UsageWhy.TheVariants.{Unknown}
+use Rattle.desk_args.specs.Order.{texts, usage_line}
+use Rattle.desk_args.specs.declared.order.UsageWhy.TheVariants.{Unknown}
 use Rattle.desk_report.specs.declared.status.Status.{Status}
 use Rattle.desk_report.specs.declared.status.Status.TheVariants as is
 use Rattle.mate_desk.specs.Faultless.{EndsExactly, Held, held}

@@ -5,10 +5,10 @@ use Rattle.desk_base.specs.Lent.{Lent, all_new, all_old}
 use Rattle.desk_base.specs.declared.files.Shelf.{Ghosts as ShelfModel}
 use Rattle.desk_base.specs.declared.sink.Sink.{Ghosts as SinkModel}
 use Rattle.desk_base.specs.declared.source.Source.{Ghosts as SourceModel}
-use Rattle.desk_words.specs.Order.{texts, usage_line}
+use Rattle.desk_args.specs.Order.{texts, usage_line}
 use Rattle.desk_report.specs.Outcome.{Seen, Writes, WriteFailed}
 use Rattle.desk_report.specs.Ports.{ports_seen}
-use Rattle.desk_words.specs.declared.order.UsageWhy.TheVariants as usage
+use Rattle.desk_args.specs.declared.order.UsageWhy.TheVariants as usage
 use Rattle.desk_report.specs.declared.status.Status.{Status}
 use Rattle.desk_report.specs.declared.status.Status.TheVariants as is
 use Rattle.mate_desk.specs.Run.{RunEnds}

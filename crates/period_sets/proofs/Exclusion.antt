@@ -10,7 +10,7 @@ use Rattle.auto_numbers.specs.Numbers.{Has}
 use Rattle.period_sets.specs.declared.errors.PeriodError.{PeriodError}
 use Rattle.period_sets.specs.declared.errors.PeriodError.TheVariants.{Over, NoPeriod, Far, Many, Memory}
 use Rattle.period_sets.specs.declared.periodic.Periodic.{Periodic}
-use Rattle.period_sets.specs.declared.periodic.Start.{Start}
+use Rattle.period_sets.specs.declared.periodic.PeriodStart.{PeriodStart}
 use Rattle.period_sets.specs.Period.{Repeats, IsPeriod, IsLeastStart, IsPeriodic}
 use Rattle.period_sets.specs.Question.{differs, questions, named, StaysWithin, IsFirstPast}
 use Rattle.period_sets.specs.Description.{HasNoPeriod, IsTooFar, IsFound, HasTooMany, IsPeriodError}
@@ -68,16 +68,16 @@ module _ (a : Automaton) (budget : ℕ) where
   past-far : (step : ℕ) → IsFirstPast (Has a) a budget step → IsTooFar (Has a) a budget → ⊥
   past-far step past far = past-within step far.period past (up-to-period step far.period past far.is_least.is) far.within
 
-  past-found : (step : ℕ) (start : Start) → IsFirstPast (Has a) a budget step → IsFound (Has a) a budget start → ⊥
+  past-found : (step : ℕ) (start : PeriodStart) → IsFirstPast (Has a) a budget step → IsFound (Has a) a budget start → ⊥
   past-found step start past found = past-within step start.period past (up-to-period step start.period past found.period.is) found.within
 
   none-far : HasNoPeriod (Has a) a budget → IsTooFar (Has a) a budget → ⊥
   none-far none far = none.none far.period far.is_least.small far.is_least.is
 
-  none-found : (start : Start) → HasNoPeriod (Has a) a budget → IsFound (Has a) a budget start → ⊥
+  none-found : (start : PeriodStart) → HasNoPeriod (Has a) a budget → IsFound (Has a) a budget start → ⊥
   none-found start none found = none.none start.period found.period.small found.period.is
 
-  far-found : (start : Start) → IsTooFar (Has a) a budget → IsFound (Has a) a budget start → ⊥
+  far-found : (start : PeriodStart) → IsTooFar (Has a) a budget → IsFound (Has a) a budget start → ⊥
   far-found start far found =
       let same : start.period ≡ far.period = one-period (Has a) start.period far.period found.period far.is_least in
       let past = far.far start.from found.from.positive (subst (λ q. Repeats (Has a) q start.from) same found.from.repeats) in

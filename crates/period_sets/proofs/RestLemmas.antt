@@ -5,7 +5,7 @@ use Rattle.std.proofs.lemmas.Bool.{cases_lt, cases_eq}
 use Rattle.std.proofs.lemmas.Nat.{mod-mul-add, pow_pos}
 use Rattle.std.proofs.lemmas.Nat.Bits.{bit_at-suc, bit_at_lowest}
 use Rattle.std.proofs.Math.Nat.{mul-le-mul_left}
-use Rattle.period_sets.specs.declared.periodic.Start.{Start}
+use Rattle.period_sets.specs.declared.periodic.PeriodStart.{PeriodStart}
 use Rattle.period_sets.specs.Period.{Repeats, AreRests}
 use Rattle.period_sets.specs.Finding.{AreRestsFrom, Repeating}
 
@@ -51,7 +51,7 @@ rest-next q from rest small less =
 power-one : (n : ℕ) → 2 ^ suc n ≡ 2 * 2 ^ n
 power-one n = omega arith
 
-module _ (S : ℕ → Type 0) (start : Start) (repeating : Repeating S start) where
+module _ (S : ℕ → Type 0) (start : PeriodStart) (repeating : Repeating S start) where
   pub rests-end : (rest : ℕ) → rest ≡ start.period → AreRestsFrom S start rest 0
   rests-end rest is = record {
     small = pow_pos (start.period - rest);

@@ -14,7 +14,7 @@ use Rattle.auto_numbers.specs.Numbers.{Has, IsGreatestOf, IsFar, IsEndless}
 use Rattle.period_sets.specs.Period.{Repeats, IsPeriod, IsLeastPeriod, IsLeastStart}
 use Rattle.period_sets.specs.Question.{differs, questions, named, StaysWithin, IsFirstPast}
 use Rattle.period_sets.specs.Description.{IsPeriodError, IsTooFar, IsFound}
-use Rattle.period_sets.specs.declared.periodic.Start.{Start}
+use Rattle.period_sets.specs.declared.periodic.PeriodStart.{PeriodStart}
 use Rattle.period_sets.specs.declared.errors.PeriodError.{PeriodError}
 use Rattle.period_sets.specs.Finding.{IsDifference, IsRunsError, Repeating}
 use Rattle.period_sets.proofs.Differences.{eight-steps}
@@ -170,7 +170,7 @@ module _ (a : Automaton) (budget before : ℕ) (few : before < 60) (decided : (t
   }
 
 -- the whole description
-module _ (a : Automaton) (budget : ℕ) (start : Start) (found : IsFound (Has a) a budget start) where
+module _ (a : Automaton) (budget : ℕ) (start : PeriodStart) (found : IsFound (Has a) a budget start) where
   pub repeating-of : Repeating (Has a) start
   repeating-of = record {
     some = found.period.is.some;

@@ -6,7 +6,7 @@ use Rattle.auto_numbers.specs.declared.bits.TheConstants.{GREATEST_BITS}
 use Rattle.period_sets.specs.declared.errors.PeriodError.{PeriodError}
 use Rattle.period_sets.specs.declared.errors.PeriodError.TheVariants.{Over, NoPeriod, Far, Many, Memory}
 use Rattle.period_sets.specs.declared.periodic.TheConstants.{MOST_PERIOD, MOST_RUNS}
-use Rattle.period_sets.specs.declared.periodic.Start.{Start}
+use Rattle.period_sets.specs.declared.periodic.PeriodStart.{PeriodStart}
 use Rattle.period_sets.specs.Period.{Repeats, IsPeriod, IsLeastPeriod, IsLeastStart, HasMoreRuns}
 use Rattle.period_sets.specs.Question.{StaysWithin, IsFirstPast}
 
@@ -23,7 +23,7 @@ pub record IsTooFar (S : ℕ → Type 0) (a : Automaton) (budget : ℕ) : Type 0
   pub within : StaysWithin a budget period
 
 -- the least period, and the least number from which on the set repeats, not beyond 2^100
-pub record IsFound (S : ℕ → Type 0) (a : Automaton) (budget : ℕ) (start : Start) : Type 0 where
+pub record IsFound (S : ℕ → Type 0) (a : Automaton) (budget : ℕ) (start : PeriodStart) : Type 0 where
   pub period : IsLeastPeriod S start.period
   pub from : IsLeastStart S start.period start.from
   pub near : start.from ≤ 2 ^ GREATEST_BITS
@@ -31,7 +31,7 @@ pub record IsFound (S : ℕ → Type 0) (a : Automaton) (budget : ℕ) (start : 
 
 -- they are found, and there are more runs below than are listed
 pub record HasTooMany (S : ℕ → Type 0) (a : Automaton) (budget : ℕ) : Type 0 where
-  pub start : Start
+  pub start : PeriodStart
   pub found : IsFound S a budget start
   pub many : HasMoreRuns S 1 start.from MOST_RUNS
 

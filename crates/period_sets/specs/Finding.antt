@@ -6,7 +6,7 @@ use Rattle.period_sets.specs.declared.errors.PeriodError.{PeriodError}
 use Rattle.period_sets.specs.declared.errors.PeriodError.TheVariants.{Many, Memory}
 use Rattle.period_sets.specs.declared.periodic.TheConstants.{MOST_PERIOD}
 use Rattle.period_sets.specs.declared.periodic.Run.{Run}
-use Rattle.period_sets.specs.declared.periodic.Start.{Start}
+use Rattle.period_sets.specs.declared.periodic.PeriodStart.{PeriodStart}
 use Rattle.period_sets.specs.Period.{Repeats, AreFewRuns, HasMoreRuns}
 
 -- one of a positive number and the number greater by q is in the set, and the other is not
@@ -42,14 +42,14 @@ abbrev pub IsRunsError : (ℕ → Type 0) → ℕ → ℕ → ℕ → PeriodErro
 IsRunsError S from end room why = ((why ≡ Many) × HasMoreRuns S from end room) ⊎ (why ≡ Memory)
 
 -- the set repeats from there on, with a period that is tried
-pub record Repeating (S : ℕ → Type 0) (start : Start) : Type 0 where
+pub record Repeating (S : ℕ → Type 0) (start : PeriodStart) : Type 0 where
   pub some : 1 ≤ start.period
   pub small : start.period ≤ MOST_PERIOD
   pub near : start.from ≤ 2 ^ GREATEST_BITS
   pub repeats : Repeats S start.period start.from
 
 -- the bits of the rests from a rest on
-pub record AreRestsFrom (S : ℕ → Type 0) (start : Start) (rest rests : ℕ) : Type 0 where
+pub record AreRestsFrom (S : ℕ → Type 0) (start : PeriodStart) (rest rests : ℕ) : Type 0 where
   pub small : rests < 2 ^ (start.period - rest)
   pub tells : (t : ℕ) → start.from ≤ t → rest ≤ t % start.period
       → S t ↔ (bit_at rests (t % start.period - rest) ≡ 1)

@@ -10,7 +10,7 @@ ghost use Rattle.period_sets.specs.Description.{IsPeriodError};
 use crate::errors::PeriodError;
 use crate::period::first_period;
 use crate::periodic::Periodic;
-use crate::rests::rests_of;
+use crate::rests::residues_of;
 use crate::runs::runs_below;
 use auto_core::Auto;
 use auto_numbers::NumberSet;
@@ -34,6 +34,6 @@ pub fn describe_set(alloc: Global, a: &Auto, budget: Budget) -> Result<Periodic,
         runs,
         from: start.from,
         period: start.period,
-        rests: rests_of(&set, start),
+        rests: residues_of(&set, start),
     })
 }

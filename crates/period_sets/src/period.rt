@@ -13,7 +13,7 @@ ghost use Rattle.period_sets.specs.Finding.{IsDifference};
 
 use crate::errors::PeriodError;
 use crate::formulas::{STEPS, differs};
-use crate::periodic::{MOST_PERIOD, Start};
+use crate::periodic::{MOST_PERIOD, PeriodStart};
 use auto_core::Auto;
 use auto_numbers::laws::each_number_is_in_or_not;
 use auto_numbers::{Greatest, greatest_of};
@@ -25,7 +25,7 @@ use track_word::laws::{
 };
 
 /// The least period, and the least positive number from which on the set repeats.
-pub fn first_period(alloc: Global, a: &Auto, budget: Budget) -> Result<Start, PeriodError>
+pub fn first_period(alloc: Global, a: &Auto, budget: Budget) -> Result<PeriodStart, PeriodError>
     requires reduced { IsReduced a.now }
     requires tracks { a.now.tracks ≡ t_var ∷ [] }
     requires decides { DecidesIntegers a.now }
@@ -46,9 +46,9 @@ pub fn first_period(alloc: Global, a: &Auto, budget: Budget) -> Result<Start, Pe
             Err(CompileError::Memory) => return Err(PeriodError::Memory),
             Ok(Greatest::Endless) => {}
             Ok(Greatest::Far) => return Err(PeriodError::Far),
-            Ok(Greatest::Nothing) => return Ok(Start { from: 1, period }),
+            Ok(Greatest::Nothing) => return Ok(PeriodStart { from: 1, period }),
             Ok(Greatest::Number(last)) => {
-                return Ok(Start {
+                return Ok(PeriodStart {
                     from: last + 1,
                     period,
                 });

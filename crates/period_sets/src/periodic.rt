@@ -28,7 +28,7 @@ pub struct Periodic {
 
 /// From where on a set repeats, and its period.
 #[derive(Clone, Copy)]
-pub struct Start {
+pub struct PeriodStart {
     pub from: u128,
     pub period: u8,
 }

@@ -5,11 +5,11 @@ ghost use Rattle.auto_numbers.specs.declared.bits.TheConstants.{GREATEST_BITS, M
 ghost use Rattle.period_sets.specs.Period.{AreRests};
 ghost use Rattle.period_sets.specs.Finding.{AreRestsFrom, Repeating};
 
-use crate::periodic::{MOST_PERIOD, Start};
+use crate::periodic::{MOST_PERIOD, PeriodStart};
 use auto_numbers::NumberSet;
 
 /// Bit i says that numbers of rest i are in the set.
-pub fn rests_of(set: &NumberSet, start: Start) -> u64
+pub fn residues_of(set: &NumberSet, start: PeriodStart) -> u64
     requires { Repeating (Has set.now.auto.now) start }
     ensures { AreRests (Has set.now.auto.now) start.from start.period result }
 {
@@ -17,7 +17,7 @@ pub fn rests_of(set: &NumberSet, start: Start) -> u64
 }
 
 /// The bits of the rests from a rest on, its own bit first.
-fn rests_from(set: &NumberSet, start: Start, rest: u8) -> u64
+fn rests_from(set: &NumberSet, start: PeriodStart, rest: u8) -> u64
     requires start { Repeating (Has set.now.auto.now) start }
     requires rest { rest ≤ start.period }
     ensures { AreRestsFrom (Has set.now.auto.now) start rest result }
@@ -39,7 +39,7 @@ fn own_bit(set: &NumberSet, number: u128) -> u64
 }
 
 /// The first number of a rest.
-fn first_of_rest(start: Start, rest: u8) -> u128
+fn first_of_rest(start: PeriodStart, rest: u8) -> u128
     requires period { start.period ≤ MOST_PERIOD }
     requires rest { rest < start.period }
     requires from { start.from ≤ 2 ^ GREATEST_BITS }

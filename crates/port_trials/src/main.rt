@@ -10,7 +10,7 @@ use calls::{fetch_row, keep_row, read_row, refused_row, write_row};
 use desk_base::MemFiles;
 use runs::{memory_row, run_row};
 use std::process::ExitCode;
-use trial_rows::{Row, RowError, Rows, answer_script};
+use trial_rows::{Row, RowError, RowInterpreter, answer_script};
 
 /// Where the files are that rows name: those of the working folder, and those in memory, which stay from row to row.
 #[derive(Drop)]
@@ -19,7 +19,7 @@ struct Places<'a> {
     memory: MemFiles,
 }
 
-impl<'a> Rows for Places<'a> {
+impl<'a> RowInterpreter for Places<'a> {
     fn answer(&mut self, kind: &str, row: &mut Row) -> Result<(), RowError> {
         match kind {
             "keep" => keep_row(self.system, row),

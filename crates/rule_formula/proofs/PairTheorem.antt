@@ -8,7 +8,7 @@ use Rattle.game_rules.specs.declared.men.Man.{Man}
 use Rattle.game_rules.specs.Game.{Position}
 use Rattle.lin_formula.specs.Tree.{Tree, free_vars}
 use Rattle.lin_formula.specs.SetOf.{Member, members}
-use Rattle.rule_formula.specs.declared.opt.Pair.{Pair}
+use Rattle.rule_formula.specs.declared.opt.ManPair.{ManPair}
 use Rattle.rule_formula.specs.Fits.{IsGameMask}
 use Rattle.mask_sets.specs.Stock.{HasStock, mask_of}
 use Rattle.rule_formula.specs.Mean.{PairsMean}
@@ -34,13 +34,13 @@ later_tells : (mask a b : ℕ) → a < b → is_live mask b ≡ true → is_late
 later_tells mask a b less live = grind (arith, nat_tests)
 
 -- a pair of man a with a later live man among the first n
-record IsLaterTo (mask a n : ℕ) (w : Pair) : Type 0 where
+record IsLaterTo (mask a n : ℕ) (w : ManPair) : Type 0 where
   is : pair a w.second ≡ w
   less : a < w.second
   high : w.second ≤ n
   live : is_live mask w.second ≡ true
 
-later_are : (mask a n : ℕ) (w : Pair) → Contains (later_to mask a n) w ↔ IsLaterTo mask a n w
+later_are : (mask a n : ℕ) (w : ManPair) → Contains (later_to mask a n) w ↔ IsLaterTo mask a n w
 later_are mask a zero w = (λ h. absurd (nothing w h), λ h. absurd (omega (arith, h.less, h.high)))
 later_are mask a (suc n) w =
     let step = pushed_if (is_later mask a (suc n)) (later_to mask a n) (pair a (suc n)) w in
@@ -49,7 +49,7 @@ later_are mask a (suc n) w =
           elim (step.0 h) [
             | inl earlier ↦ let was = before.0 earlier in record { is = was.is; less = was.less; high = omega (arith, was.high); live = was.live }
             | inr e ↦
-                let at : suc n ≡ w.second = ap (λ (x : Pair). x.second) e.1 in
+                let at : suc n ≡ w.second = ap (λ (x : ManPair). x.second) e.1 in
                 let told = later_told mask a (suc n) e.0 in
                 record { is = subst (λ b. pair a b ≡ w) at e.1; less = subst (λ b. a < b) at told.0; high = omega (arith, at); live = subst (λ b. is_live mask b ≡ true) at told.1 }
           ],
@@ -61,7 +61,7 @@ later_are mask a (suc n) w =
     )
 
 -- two live men among so many, the first of whom is among the first n
-record IsPairTo (mask count n : ℕ) (w : Pair) : Type 0 where
+record IsPairTo (mask count n : ℕ) (w : ManPair) : Type 0 where
   order : w.first < w.second
   low : 1 ≤ w.first
   begun : w.first ≤ n
@@ -69,7 +69,7 @@ record IsPairTo (mask count n : ℕ) (w : Pair) : Type 0 where
   first_live : is_live mask w.first ≡ true
   second_live : is_live mask w.second ≡ true
 
-pairs_to_are : (mask count n : ℕ) (w : Pair) → Contains (pairs_to mask count n) w ↔ IsPairTo mask count n w
+pairs_to_are : (mask count n : ℕ) (w : ManPair) → Contains (pairs_to mask count n) w ↔ IsPairTo mask count n w
 pairs_to_are mask count zero w = (λ h. absurd (nothing w h), λ h. absurd (omega (arith, h.low, h.begun)))
 pairs_to_are mask count (suc n) w =
     let step = appended (pairs_to mask count n) (man_pairs mask count (suc n)) w in
@@ -89,7 +89,7 @@ pairs_to_are mask count (suc n) w =
             | inr last ↦
                 let (live, listed) = here.0 last in
                 let is = later.0 listed in
-                let at : suc n ≡ w.first = ap (λ (x : Pair). x.first) is.is in
+                let at : suc n ≡ w.first = ap (λ (x : ManPair). x.first) is.is in
                 let less = is.less in
                 record {
                   order = omega (arith, at, less);
@@ -110,7 +110,7 @@ pairs_to_are mask count (suc n) w =
           ],
     )
 
-pub pairs_are : (stock : List Man) (mask : ℕ) (w : Pair) → Contains (pairs_of stock mask) w ↔ IsPairOf stock mask w
+pub pairs_are : (stock : List Man) (mask : ℕ) (w : ManPair) → Contains (pairs_of stock mask) w ↔ IsPairOf stock mask w
 pairs_are stock mask w =
     let all = pairs_to_are mask (length stock) (length stock) w in (
       λ h. let is = all.0 h in record { order = is.order; low = is.low; high = is.high; first_live = is.first_live; second_live = is.second_live },
@@ -124,7 +124,7 @@ pairs_are stock mask w =
       }),
     )
 
-pushed_few : (b : Bool) (xs : List Pair) (x : Pair) (n : ℕ) → length xs ≤ n → length (if b then xs ++ x ∷ [] else xs) ≤ suc n
+pushed_few : (b : Bool) (xs : List ManPair) (x : ManPair) (n : ℕ) → length xs ≤ n → length (if b then xs ++ x ∷ [] else xs) ≤ suc n
 pushed_few true xs x n h = let e = length-append xs (x ∷ []) in omega (arith, e, h)
 pushed_few false xs x n h = omega (arith, h)
 
@@ -132,7 +132,7 @@ later_few : (mask a n : ℕ) → length (later_to mask a n) ≤ n
 later_few mask a zero = omega arith
 later_few mask a (suc n) = pushed_few (is_later mask a (suc n)) (later_to mask a n) (pair a (suc n)) n (later_few mask a n)
 
-some_few : (b : Bool) (xs : List Pair) (n : ℕ) → length xs ≤ n → length (if b then xs else []) ≤ n
+some_few : (b : Bool) (xs : List ManPair) (n : ℕ) → length xs ≤ n → length (if b then xs else []) ≤ n
 some_few true xs n h = h
 some_few false xs n h = omega arith
 
@@ -148,7 +148,7 @@ to_few mask count (suc n) few =
 pub pairs_few : (stock : List Man) (mask : ℕ) → length stock ≤ 8 → length (pairs_of stock mask) ≤ 64
 pairs_few stock mask few = let all = to_few mask (length stock) (length stock) few in omega (arith, all, few)
 
-module _ (p : Position) (few : length p.men ≤ 8) (m : ℕ) (w : Pair) (game : IsGameMask p m) (is : IsPairOf p.men m w) where
+module _ (p : Position) (few : length p.men ≤ 8) (m : ℕ) (w : ManPair) (game : IsGameMask p m) (is : IsPairOf p.men m w) where
   abbrev tree_at : ℕ → Tree
   tree_at s = twins_tree 8 m w.first w.second s
 

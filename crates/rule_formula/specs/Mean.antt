@@ -7,7 +7,7 @@ use Rattle.lin_formula.specs.Tree.{Tree, Among, Or, free_vars}
 use Rattle.lin_formula.specs.SetOf.{Member, SetOf, Where}
 use Rattle.rule_formula.specs.declared.opt.Bearing.{Bearing}
 use Rattle.rule_formula.specs.declared.opt.Opt.{Opt}
-use Rattle.rule_formula.specs.declared.opt.Pair.{Pair}
+use Rattle.rule_formula.specs.declared.opt.ManPair.{ManPair}
 use Rattle.rule_formula.specs.Bearings.{IsBearingOf, bearings_of}
 use Rattle.rule_formula.specs.Fits.{Fits, IsGameMask, masks_of, target_of}
 use Rattle.mask_sets.specs.Stock.{HasStock, mask_of}
@@ -59,7 +59,7 @@ pub record GameMeans (p : Position) : Type 0 where
       → IsGameMask p (target_of m o)
   pub bearings : (m : ℕ) (s : Side) (b : Bearing) → IsGameMask p m
       → Contains (bearings_of p.men m s) b ↔ IsBearingOf p.men m s b
-  pub pairs : (m : ℕ) (w : Pair) → Contains (pairs_of p.men m) w ↔ IsPairOf p.men m w
+  pub pairs : (m : ℕ) (w : ManPair) → Contains (pairs_of p.men m) w ↔ IsPairOf p.men m w
   pub checks : (side s : Side) (q : Position) → Fits p side q
       → InCheck q (other s) ↔ ((b : Bearing) × Contains (bearings_of p.men (mask_of q) s) b × BearsOnKing b q)
 
@@ -92,7 +92,7 @@ pub record BearingsMean (p : Position) (m : ℕ) (b : Bearing) : Type 0 where
       → Member (Where (safe_of p.men m b.man b.ray b.king a) e) tuple → Member (e a) tuple
 
 -- the formula of two men, at all positions of the stock with the mask, also where men stand on one square
-pub record PairsMean (p : Position) (m : ℕ) (w : Pair) : Type 0 where
+pub record PairsMean (p : Position) (m : ℕ) (w : ManPair) : Type 0 where
   pub tracks : (a : ℕ) → free_vars (twins_tree 8 m w.first w.second a) ≡ mask_tracks p m
   pub twins : (a : ℕ) (e : ℕ → SetOf) (q : Position) → HasStock p.men q → mask_of q ≡ m
       → Member (Where (twins_tree 8 m w.first w.second a) e) (tuple_of q)
@@ -113,7 +113,7 @@ pub record RulesMean (p : Position) : Type 0 where
       → OptionsMean p side m o
   pub bearings : (m : ℕ) (s : Side) (b : Bearing) → IsGameMask p m → Contains (bearings_of p.men m s) b
       → BearingsMean p m b
-  pub pairs : (m : ℕ) (w : Pair) → IsGameMask p m → Contains (pairs_of p.men m) w → PairsMean p m w
+  pub pairs : (m : ℕ) (w : ManPair) → IsGameMask p m → Contains (pairs_of p.men m) w → PairsMean p m w
 
 -- in each game the formulas mean what the rules say
 abbrev pub FormulasMeanTheRules : Type 0

@@ -6,7 +6,7 @@ ghost use Rattle.rule_formula.specs.Trees.{bear_tree, both_tree, ex_swept as swe
 
 use crate::atoms::{Extent, both, difference, not};
 use crate::chains::{among_seats, and_path, and_ray};
-use crate::opt::{Pair, StepSets};
+use crate::opt::{ManPair, StepSets};
 use crate::paths::{Journey, Path, Stretch};
 use crate::seats::{ELSEWHERE, Seats, new_seat, own, spare};
 use crate::stock::LiveMen;
@@ -222,7 +222,7 @@ pub(crate) fn safe(
 pub(crate) fn twins(
     alloc: Global,
     men: LiveMen,
-    pair: Pair,
+    pair: ManPair,
     source: SetId,
 ) -> Result<Formula, AllocError>
     requires low { 1 ≤ pair.first }

@@ -13,7 +13,7 @@ ghost use Rattle.rule_formula.specs.Seats.{own as own_seat, vars_to};
 ghost use Rattle.rule_formula.specs.Size.{IsModest, NamesBeforeAndAfter, NamesOnly};
 
 use crate::build::{bear, image, pre, safe, twins};
-use crate::opt::{Bearing, Opt, Pair, StepSets};
+use crate::opt::{Bearing, ManPair, Opt, StepSets};
 use crate::paths::Journey;
 use crate::stock::{LiveMen, live_men, man_of};
 use chess_game::{Position, ray};
@@ -206,7 +206,7 @@ pub fn twins_formula(
     twins(
         alloc,
         LiveMen { count: 8, mask },
-        Pair { first, second },
+        ManPair { first, second },
         source,
     )
 }

@@ -24,6 +24,6 @@ pub use bearing_list::bearings;
 pub use choices::{is_king, is_side, options, serves_captures, serves_moves};
 pub use formulas::{bear_formula, image_formula, pre_formula, safe_formula, twins_formula};
 pub use mask_list::masks;
-pub use opt::{Bearing, Opt, Pair, StepSets};
+pub use opt::{Bearing, ManPair, Opt, StepSets};
 pub use pair_list::pairs;
 pub use point::point_formula;

@@ -53,7 +53,7 @@ pub struct Bearing {
 
 /// Two men.
 #[derive(Clone, Copy, Default, PartialEq, Eq)]
-pub struct Pair {
+pub struct ManPair {
     /// The number of the one man, counted from 1.
     pub first: u8,
     /// The number of the other, who comes later.

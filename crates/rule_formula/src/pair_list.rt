@@ -1,16 +1,16 @@
 //! The pairs of live men.
 
 ghost use Rattle.std.specs.Prelude.{◌≡◌, ◌↔◌, ◌≤◌, ◌++◌, Contains, IfOk, OnOk};
-ghost use Rattle.rule_formula.specs.declared.opt.Pair.{Pair};
+ghost use Rattle.rule_formula.specs.declared.opt.ManPair.{ManPair};
 ghost use Rattle.rule_formula.specs.Pairs.{IsPairOf, is_later as later_in, later_to, man_pairs, pairs_of};
 
-use crate::opt::Pair;
+use crate::opt::ManPair;
 use crate::stock::is_live;
 use chess_game::Position;
 use std::alloc::{AllocError, Global};
 
 /// Pairs of men. Those of five men are ten, and those of eight men are 28.
-type Pairs = Vec<Pair>;
+type Pairs = Vec<ManPair>;
 
 /// Whether the second man is live, and comes after the first.
 fn is_later(mask: u8, first: u8, second: u8) -> bool
@@ -29,7 +29,7 @@ fn push_later(pairs: &mut Pairs, mask: u8, first: u8, count: u8) -> Result<(), A
     for n in 0..count {
         let second = n + 1;
         if is_later(mask, first, second) {
-            pairs.push(Pair { first, second })?;
+            pairs.push(ManPair { first, second })?;
         }
     }
     Ok(())
@@ -61,9 +61,9 @@ fn list(alloc: Global, stock: &Position, mask: u8) -> Result<Pairs, AllocError>
 }
 
 /// The pairs of men who are live in the mask: by the first man, then by the second, who comes later.
-pub fn pairs(alloc: Global, stock: &Position, mask: u8) -> Result<Vec<Pair>, AllocError>
+pub fn pairs(alloc: Global, stock: &Position, mask: u8) -> Result<Vec<ManPair>, AllocError>
     ensures list { IfOk result (λ all. all.items ≡ pairs_of stock.now.men mask) }
-    ensures exact { IfOk result (λ all. (w : Pair) → Contains all.items w ↔ IsPairOf stock.now.men mask w) }
+    ensures exact { IfOk result (λ all. (w : ManPair) → Contains all.items w ↔ IsPairOf stock.now.men mask w) }
 {
     list(alloc, stock, mask)
 }

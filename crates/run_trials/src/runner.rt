@@ -3,7 +3,7 @@
 use crate::case::Case;
 use crate::fault::ScriptWhy;
 use crate::range::{Range, range_of, spelled_at};
-use crate::script::Line;
+use crate::script::ScriptLine;
 use crate::spelling::push_piece;
 use crate::stock::{Stock, write_told};
 use mate_desk::run;
@@ -60,7 +60,7 @@ impl Runner {
     }
 
     /// Keeps a text, or does a run, with what stands under it.
-    pub fn perform_block(&mut self, block: &[Line]) -> Result<(), ScriptWhy> {
+    pub fn perform_block(&mut self, block: &[ScriptLine]) -> Result<(), ScriptWhy> {
         let Some((head, body)) = block.split_first() else {
             return Ok(());
         };
@@ -75,7 +75,7 @@ impl Runner {
     }
 
     /// Keeps the text of this name.
-    fn keep_text(&mut self, name: &str, body: &[Line]) -> Result<(), ScriptWhy> {
+    fn keep_text(&mut self, name: &str, body: &[ScriptLine]) -> Result<(), ScriptWhy> {
         if self.stock.has_text(name) {
             return Err(ScriptWhy::Taken);
         }
@@ -91,7 +91,7 @@ impl Runner {
     }
 
     /// Does the cases of a run, one after another: one for each number of its range, or only one.
-    fn perform_run(&mut self, block: &[Line]) -> Result<(), ScriptWhy> {
+    fn perform_run(&mut self, block: &[ScriptLine]) -> Result<(), ScriptWhy> {
         let range = self.range(block)?;
         for number in range.first..=range.last {
             self.perform_case(block, number)?;
@@ -100,7 +100,7 @@ impl Runner {
     }
 
     /// The range of a run. At most one of its lines has one.
-    fn range(&mut self, block: &[Line]) -> Result<Range, ScriptWhy> {
+    fn range(&mut self, block: &[ScriptLine]) -> Result<Range, ScriptWhy> {
         let mut found = None;
         for line in block {
             self.line = line.number;
@@ -115,7 +115,7 @@ impl Runner {
     }
 
     /// Does a run in one case, and writes what comes of it and what is to be told of files.
-    fn perform_case(&mut self, block: &[Line], number: u32) -> Result<(), ScriptWhy> {
+    fn perform_case(&mut self, block: &[ScriptLine], number: u32) -> Result<(), ScriptWhy> {
         let mut case = Case::new(self.alloc);
         for line in block {
             self.line = line.number;
@@ -153,7 +153,7 @@ impl Runner {
     }
 
     /// Writes what the lines of a run tell of files.
-    fn tell_all(&mut self, block: &[Line], number: u32) -> Result<(), ScriptWhy> {
+    fn tell_all(&mut self, block: &[ScriptLine], number: u32) -> Result<(), ScriptWhy> {
         for line in block {
             if line.text.starts_with("tell ") {
                 self.line = line.number;

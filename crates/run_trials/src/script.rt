@@ -8,7 +8,7 @@ const MOST_LINE: usize = 200;
 
 /// A line of a script, from its first word or its bar on.
 #[derive(Clone, Copy)]
-pub struct Line<'a> {
+pub struct ScriptLine<'a> {
     /// Its number, counted from 1.
     pub number: u64,
     pub text: &'a str,
@@ -25,7 +25,7 @@ fn is_head(text: &str) -> bool {
 }
 
 /// Refuses a line that is too long.
-fn check_length(runner: &mut Runner, line: Line) -> Result<(), ScriptWhy> {
+fn check_length(runner: &mut Runner, line: ScriptLine) -> Result<(), ScriptWhy> {
     if line.text.len() > MOST_LINE {
         runner.line = line.number;
         return Err(ScriptWhy::Long);
@@ -39,14 +39,14 @@ fn perform_blocks(runner: &mut Runner, script: &str) -> Result<(), ScriptWhy> {
     let mut number = 0u64;
     for text in script.lines() {
         number = number.saturating_add(1);
-        check_length(runner, Line { number, text })?;
+        check_length(runner, ScriptLine { number, text })?;
         let text = text.trim_start();
         if is_head(text) {
             runner.perform_block(block.as_slice())?;
             block.clear();
         }
         if !is_remark(text) {
-            block.push(Line { number, text })?;
+            block.push(ScriptLine { number, text })?;
         }
     }
     runner.perform_block(block.as_slice())

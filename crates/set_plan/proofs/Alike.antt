@@ -6,7 +6,7 @@ use Rattle.set_plan.specs.Program.{Item, Program, Give, Compute, Ask, Question, 
 use Rattle.set_plan.specs.Past.{Step, numbered, all_steps, PastStep, Past}
 use Rattle.set_plan.specs.Outcome.{Ends, Stops}
 use Rattle.set_plan.specs.Same.{SameSets, SameSteps, SameItem}
-use Rattle.set_plan.specs.declared.stop.StepName.{StepName}
+use Rattle.set_plan.specs.declared.stop.PartStep.{PartStep}
 use Rattle.set_plan.proofs.Composition.{none_some, Takes-none, PastStep-append, PastStep-over, PastStep-split, PastStep-cases}
 
 pub record SameQuestion (q r : Question) : Type 0 where
@@ -21,14 +21,14 @@ Alike R (Ask q if_yes if_no) (Ask r or_yes or_no) = SameQuestion q r × Alike R 
 Alike R _ _ = ⊥
 
 -- the first step past the budget is one
-pub PastStep-one : {P : Type 0} (xs : List (Step P)) (budget : ℕ) (a b : Option (StepName P)) → PastStep xs budget a → PastStep xs budget b → a ≡ b
+pub PastStep-one : {P : Type 0} (xs : List (Step P)) (budget : ℕ) (a b : Option (PartStep P)) → PastStep xs budget a → PastStep xs budget b → a ≡ b
 PastStep-one [] budget a b h k = h ∙ sym k
 PastStep-one (x ∷ xs) budget a b (inl (over, e)) (inl (again, f)) = e ∙ sym f
 PastStep-one (x ∷ xs) budget a b (inl (over, e)) (inr (within, rest)) = absurd (within over)
 PastStep-one (x ∷ xs) budget a b (inr (within, rest)) (inl (over, e)) = absurd (within over)
 PastStep-one (x ∷ xs) budget a b (inr (within, rest)) (inr (again, more)) = PastStep-one xs budget a b rest more
 
-pub numbered-same : {P : Type 0} (part : P) (at : ℕ) (fs gs : List Tree) (d e : ℕ → SetOf) (budget : ℕ) (answer : Option (StepName P))
+pub numbered-same : {P : Type 0} (part : P) (at : ℕ) (fs gs : List Tree) (d e : ℕ → SetOf) (budget : ℕ) (answer : Option (PartStep P))
     → SameSteps fs d gs e → PastStep (numbered part at d fs) budget answer → PastStep (numbered part at e gs) budget answer
 numbered-same part at [] [] d e budget answer same h = h
 numbered-same part at [] (g ∷ gs) d e budget answer same h = absurd same
@@ -37,7 +37,7 @@ numbered-same part at (f ∷ fs) (g ∷ gs) d e budget answer same (inl (over, i
 numbered-same part at (f ∷ fs) (g ∷ gs) d e budget answer same (inr (within, rest)) =
     inr (λ over. within ((same.0 budget).1 over), numbered-same part (at + 1) fs gs d e budget answer same.1 rest)
 
-pub entry-same : {P : Type 0} (d e : Entry P) (budget : ℕ) (answer : Option (StepName P)) → d.part ≡ e.part → d.at ≡ e.at → SameItem d.item e.item
+pub entry-same : {P : Type 0} (d e : Entry P) (budget : ℕ) (answer : Option (PartStep P)) → d.part ≡ e.part → d.at ≡ e.at → SameItem d.item e.item
     → PastStep (numbered d.part d.at d.item.sets (steps d.item.formula)) budget answer
     → PastStep (numbered e.part e.at e.item.sets (steps e.item.formula)) budget answer
 entry-same {P} d e budget answer part at same h =
@@ -98,7 +98,7 @@ Ends-alike R {m} n {budget} {a} same h =
     (b, record { entries = ys; takes = takes; past = past }, related)
 
 -- where the one program stops, the other stops
-stops_alike : {P A B : Type 0} (R : A → B → Type 0) (m : Program P A) (n : Program P B) (budget : ℕ) (xs : List (Entry P)) (name : StepName P)
+stops_alike : {P A B : Type 0} (R : A → B → Type 0) (m : Program P A) (n : Program P B) (budget : ℕ) (xs : List (Entry P)) (name : PartStep P)
     → Alike R m n → Takes m xs None → Past xs budget (Some name) → (ys : List (Entry P)) × Takes n ys None × Past ys budget (Some name)
 stops_alike {P} R (Give c) (Give b) budget xs name same (e, is) past = none_some (subst (λ (l : List (Entry P)). Past l budget (Some name)) e past)
 stops_alike {P} R (Compute d next) (Compute e more) budget xs name same (inl (f, is)) past = none_some (subst (λ (l : List (Entry P)). Past l budget (Some name)) f past)
@@ -131,7 +131,7 @@ stops_alike R (Compute d next) (Ask r or_yes or_no) budget xs name same t past =
 stops_alike R (Ask q if_yes if_no) (Give b) budget xs name same t past = absurd same
 stops_alike R (Ask q if_yes if_no) (Compute e more) budget xs name same t past = absurd same
 
-pub Stops-alike : {P A B : Type 0} (R : A → B → Type 0) {m : Program P A} (n : Program P B) {budget : ℕ} {name : StepName P} → Alike R m n → Stops m budget name → Stops n budget name
+pub Stops-alike : {P A B : Type 0} (R : A → B → Type 0) {m : Program P A} (n : Program P B) {budget : ℕ} {name : PartStep P} → Alike R m n → Stops m budget name → Stops n budget name
 Stops-alike R {m} n {budget} {name} same h =
     let (ys, takes, past) = stops_alike R m n budget h.entries name same h.takes h.past in
     record { entries = ys; takes = takes; past = past }

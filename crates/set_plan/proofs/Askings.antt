@@ -8,7 +8,7 @@ use Rattle.set_plan.specs.Same.{IsLacking, Thinned}
 use Rattle.set_plan.specs.Unite as plan
 use Rattle.set_plan.specs.declared.stop.PlanError.{PlanError}
 use Rattle.set_plan.specs.declared.stop.PlanError.TheVariants as plan_error
-use Rattle.set_plan.specs.declared.stop.StepName.{StepName}
+use Rattle.set_plan.specs.declared.stop.PartStep.{PartStep}
 use Rattle.set_plan.proofs.Composition.{Ends-ask_no, Ends-ask_yes, Ends-bind, Ends-give, Ends-split, Error-bind, LeadsTo, LeadsTo-error, LeadsTo-later, Stops-ask_no, Stops-ask_yes, Stops-bind, Stops-bind_later, Stops-split, none_some}
 use Rattle.set_plan.proofs.Thinned.{Ends-make_same, Stops-make_same}
 
@@ -54,7 +54,7 @@ module _ {P A : Type 0} (question : Question) (if_yes if_no : Program P A) (budg
       by (inr (inl (is, t))) = inl (is, record { entries = h.entries; takes = t; past = h.past })
       by (inr (inr (is, t))) = inr (is, record { entries = h.entries; takes = t; past = h.past })
 
-  pub Stops-asked : {name : StepName P} → Stops (Ask question if_yes if_no) budget name → (IsYes question × Stops if_yes budget name) ⊎ (IsNo question × Stops if_no budget name)
+  pub Stops-asked : {name : PartStep P} → Stops (Ask question if_yes if_no) budget name → (IsYes question × Stops if_yes budget name) ⊎ (IsNo question × Stops if_no budget name)
   Stops-asked {name} h = by h.takes
     where
       by : Takes (Ask question if_yes if_no) h.entries None → (IsYes question × Stops if_yes budget name) ⊎ (IsNo question × Stops if_no budget name)
@@ -88,7 +88,7 @@ module _ {P : Type 0} (part : P) (budget : ℕ) where
         | inr (is_no, given) ↦ Ends-ask_no (Empty (made.0 ∷ [])) (plan.are_empty part made.1 js) (Give false) budget b is_no given
       ])
 
-  pub Stops-thinned_empty : (is js : List Item) (at : ℕ) (name : StepName P) → Thinned is js → Stops (plan.are_empty part at is) budget name → Stops (plan.are_empty part at js) budget name
+  pub Stops-thinned_empty : (is js : List Item) (at : ℕ) (name : PartStep P) → Thinned is js → Stops (plan.are_empty part at is) budget name → Stops (plan.are_empty part at js) budget name
   Stops-thinned_empty is [] at name e h = subst (λ (l : List Item). Stops (plan.are_empty part at l) budget name) e h
   Stops-thinned_empty is (j ∷ js) at name (inl (lacks, rest)) h =
       Stops-bind_later (plan.make part at j) (after js) budget {name = name} (left_out at j lacks)

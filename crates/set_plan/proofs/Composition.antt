@@ -7,7 +7,7 @@ pub use Rattle.formula_auto.proofs.FirstOvers.{none_some}
 use Rattle.set_plan.specs.Program.{Program, Give, Compute, Ask, Question, IsYes, IsNo, bind, Takes, Entry, IsSetOf}
 use Rattle.set_plan.specs.Past.{Step, numbered, all_steps, PastStep}
 use Rattle.set_plan.specs.Outcome.{Ends, Stops, IsPlanError, Answers}
-use Rattle.set_plan.specs.declared.stop.StepName.{StepName}
+use Rattle.set_plan.specs.declared.stop.PartStep.{PartStep}
 use Rattle.set_plan.specs.declared.stop.PlanError.{PlanError}
 use Rattle.set_plan.specs.declared.stop.PlanError.TheVariants as plan_error
 
@@ -60,7 +60,7 @@ all_steps-append (x ∷ xs) ys =
     ap (λ l. numbered x.part x.at x.item.sets (steps x.item.formula) ++ l) (all_steps-append xs ys)
     ∙ sym (append_assoc (numbered x.part x.at x.item.sets (steps x.item.formula)) (all_steps xs) (all_steps ys))
 
-pub PastStep-append : {P : Type 0} (xs ys : List (Step P)) (budget : ℕ) (answer : Option (StepName P)) → PastStep xs budget None → PastStep ys budget answer → PastStep (xs ++ ys) budget answer
+pub PastStep-append : {P : Type 0} (xs ys : List (Step P)) (budget : ℕ) (answer : Option (PartStep P)) → PastStep xs budget None → PastStep ys budget answer → PastStep (xs ++ ys) budget answer
 PastStep-append [] ys budget answer h k = k
 PastStep-append (x ∷ xs) ys budget answer h k =
     elim h [
@@ -68,7 +68,7 @@ PastStep-append (x ∷ xs) ys budget answer h k =
       | inr (within, rest) ↦ inr (within, PastStep-append xs ys budget answer rest k)
     ]
 
-pub PastStep-over : {P : Type 0} (xs ys : List (Step P)) (budget : ℕ) (name : StepName P) → PastStep xs budget (Some name) → PastStep (xs ++ ys) budget (Some name)
+pub PastStep-over : {P : Type 0} (xs ys : List (Step P)) (budget : ℕ) (name : PartStep P) → PastStep xs budget (Some name) → PastStep (xs ++ ys) budget (Some name)
 PastStep-over [] ys budget name h = none_some h
 PastStep-over (x ∷ xs) ys budget name h =
     elim h [
@@ -94,7 +94,7 @@ module _ {P A B : Type 0} (m : Program P A) (f : A → Program P B) (budget : �
   }
 
   -- the first passes the budget
-  pub Stops-bind : {name : StepName P} → Stops m budget name → Stops (bind m f) budget name
+  pub Stops-bind : {name : PartStep P} → Stops m budget name → Stops (bind m f) budget name
   Stops-bind h = record {
     entries = h.entries;
     takes = Takes-bind_cut m f h.entries h.takes;
@@ -102,7 +102,7 @@ module _ {P A B : Type 0} (m : Program P A) (f : A → Program P B) (budget : �
   }
 
   -- the first comes to its end, and the second passes the budget
-  pub Stops-bind_later : {a : A} {name : StepName P} → Ends m budget a → Stops (f a) budget name → Stops (bind m f) budget name
+  pub Stops-bind_later : {a : A} {name : PartStep P} → Ends m budget a → Stops (f a) budget name → Stops (bind m f) budget name
   Stops-bind_later {a} {name} h k = record {
     entries = h.entries ++ k.entries;
     takes = Takes-bind m f h.entries k.entries a None h.takes k.takes;
@@ -120,10 +120,10 @@ module _ {P A : Type 0} (question : Question) (if_yes if_no : Program P A) (budg
   pub Ends-ask_no : (a : A) → IsNo question → Ends if_no budget a → Ends (Ask question if_yes if_no) budget a
   Ends-ask_no a is h = record { entries = h.entries; takes = inr (inr (is, h.takes)); past = h.past }
 
-  pub Stops-ask_yes : {name : StepName P} → IsYes question → Stops if_yes budget name → Stops (Ask question if_yes if_no) budget name
+  pub Stops-ask_yes : {name : PartStep P} → IsYes question → Stops if_yes budget name → Stops (Ask question if_yes if_no) budget name
   Stops-ask_yes is h = record { entries = h.entries; takes = inr (inl (is, h.takes)); past = h.past }
 
-  pub Stops-ask_no : {name : StepName P} → IsNo question → Stops if_no budget name → Stops (Ask question if_yes if_no) budget name
+  pub Stops-ask_no : {name : PartStep P} → IsNo question → Stops if_no budget name → Stops (Ask question if_yes if_no) budget name
   Stops-ask_no is h = record { entries = h.entries; takes = inr (inr (is, h.takes)); past = h.past }
 
 -- what is said of the steps of one formula is Past of its entry
@@ -195,7 +195,7 @@ Answers-later m f budget view a ends (Err e) h = Error-later f budget a ends e h
 -- what is left of a program leads to the end of the whole
 pub record LeadsTo {P A : Type 0} (left whole : Program P A) (budget : ℕ) : Type 0 where
   pub ends : (value : A) → Ends left budget value → Ends whole budget value
-  pub stops : (name : StepName P) → Stops left budget name → Stops whole budget name
+  pub stops : (name : PartStep P) → Stops left budget name → Stops whole budget name
 
 pub LeadsTo-self : {P A : Type 0} (m : Program P A) (budget : ℕ) → LeadsTo m m budget
 LeadsTo-self m budget = record { ends = λ v h. h; stops = λ n h. h }
@@ -295,7 +295,7 @@ Takes-cut (Ask question if_yes if_no) xs a h =
     ]
 
 -- a step past the budget is in the front, or none is in the front and it is in the end
-pub PastStep-cases : {P : Type 0} (xs ys : List (Step P)) (budget : ℕ) (name : StepName P) → PastStep (xs ++ ys) budget (Some name)
+pub PastStep-cases : {P : Type 0} (xs ys : List (Step P)) (budget : ℕ) (name : PartStep P) → PastStep (xs ++ ys) budget (Some name)
     → PastStep xs budget (Some name) ⊎ (PastStep xs budget None × PastStep ys budget (Some name))
 PastStep-cases [] ys budget name h = inr (refl, h)
 PastStep-cases (x ∷ xs) ys budget name (inl w) = inl (inl w)
@@ -306,7 +306,7 @@ PastStep-cases (x ∷ xs) ys budget name (inr (within, rest)) =
     ]
 
 -- two programs stop where the first stops, or where it comes to its end and the second stops
-pub Stops-split : {P A B : Type 0} (m : Program P A) (f : A → Program P B) {budget : ℕ} {name : StepName P} → Stops (bind m f) budget name
+pub Stops-split : {P A B : Type 0} (m : Program P A) (f : A → Program P B) {budget : ℕ} {name : PartStep P} → Stops (bind m f) budget name
     → Stops m budget name ⊎ ((a : A) × Ends m budget a × Stops (f a) budget name)
 Stops-split {P} m f {budget} {name} h =
     elim (Takes-split_cut m f h.entries h.takes) [

@@ -1,4 +1,4 @@
--- Sets that are kept.
+-- SetStore that are kept.
 use Rattle.std.proofs.Common.{◌≡◌, ℕ, zero, suc, List, [], ◌∷◌, ◌++◌, Some, slice_get, sym, subst}
 use Rattle.auto_core.specs.Automaton.{Automaton}
 use Rattle.set_plan.specs.Sets.{Grows}

@@ -105,7 +105,7 @@ module _ {P : Type 0} (tracks : List Var) (part : P) (budget : ℕ) where
 
   -- one set without another
   pub Ends-without : (s t c : SetOf) → (IsEmpty t → ⊥) → (IsEmpty s → ⊥) → IsSetOf (plan.difference tracks s t) c
-      → (Exceeds (And (Among 0 tracks) (Not (Among 1 tracks))) (members (plan.two s t)) budget → ⊥) → Ends (plan.remainder tracks part s t) budget c
+      → (Exceeds (And (Among 0 tracks) (Not (Among 1 tracks))) (members (plan.two s t)) budget → ⊥) → Ends (plan.difference_set tracks part s t) budget c
   Ends-without s t c some_t some_s is within =
       Ends-bind (plan.without tracks part s t) (λ made. Give made.0) budget (c, 2) c
       (Ends-ask_no (Empty (t ∷ [])) (Give (s, 1)) (plan.make part 1 (plan.difference tracks s t)) budget _ (some_t, tt)
@@ -114,21 +114,21 @@ module _ {P : Type 0} (tracks : List Var) (part : P) (budget : ℕ) where
 
   pub Stops-without : (s t : SetOf) → (IsEmpty t → ⊥) → (IsEmpty s → ⊥)
       → Exceeds (And (Among 0 tracks) (Not (Among 1 tracks))) (members (plan.two s t)) budget
-      → Stops (plan.remainder tracks part s t) budget (record { part = part; at = 1 })
+      → Stops (plan.difference_set tracks part s t) budget (record { part = part; at = 1 })
   Stops-without s t some_t some_s over =
       Stops-bind (plan.without tracks part s t) (λ made. Give made.0) budget
       (Stops-ask_no (Empty (t ∷ [])) (Give (s, 1)) (plan.make part 1 (plan.difference tracks s t)) budget (some_t, tt)
       (Stops-make part 1 (plan.difference tracks s t) budget 1 (some_s, tt) (inl (over, refl))))
 
   -- there is nothing to leave out
-  pub Ends-without_none : (s t : SetOf) → IsEmpty t → Ends (plan.remainder tracks part s t) budget s
+  pub Ends-without_none : (s t : SetOf) → IsEmpty t → Ends (plan.difference_set tracks part s t) budget s
   Ends-without_none s t empty =
       Ends-bind (plan.without tracks part s t) (λ made. Give made.0) budget (s, 1) s
       (Ends-ask_yes (Empty (t ∷ [])) (Give (s, 1)) (plan.make part 1 (plan.difference tracks s t)) budget (inl empty) (Ends-give budget _))
       (Ends-give budget s)
 
   -- there is nothing of which something could be left
-  pub Ends-without_all : (s t : SetOf) → (IsEmpty t → ⊥) → IsEmpty s → Ends (plan.remainder tracks part s t) budget Nothing
+  pub Ends-without_all : (s t : SetOf) → (IsEmpty t → ⊥) → IsEmpty s → Ends (plan.difference_set tracks part s t) budget Nothing
   Ends-without_all s t some empty =
       Ends-bind (plan.without tracks part s t) (λ made. Give made.0) budget (Nothing, 1) Nothing
       (Ends-ask_no (Empty (t ∷ [])) (Give (s, 1)) (plan.make part 1 (plan.difference tracks s t)) budget _ (some, tt)

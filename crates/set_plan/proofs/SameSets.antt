@@ -173,9 +173,9 @@ module _ (name : ℕ → ℕ) (e : ℕ → SetOf) where
   SameItem-relabel f =
       let named : map e (positives (relabel name f)) ≡ map (λ k. e (name k)) (positives f) = ap (map e) (positives-relabel name f) ∙ maps-named (positives f) in
       let Same : List SetOf → Type 0 = λ l. SameEmpty l (map (λ k. e (name k)) (positives f)) in
-      let Steps : List Tree → Type 0 = λ l. SameSteps l e (steps f) (λ k. e (name k)) in
+      let ProgramFold : List Tree → Type 0 = λ l. SameSteps l e (steps f) (λ k. e (name k)) in
       record {
-        steps = subst Steps (sym (steps-relabel name f)) (steps-named (steps f));
+        steps = subst ProgramFold (sym (steps-relabel name f)) (steps-named (steps f));
         members = λ tuple.
             let Over : List Var → Type 0 = λ vars. HoldsAt vars (Holds f (λ k. Member (e (name k)))) tuple in (
               λ h.

@@ -10,7 +10,7 @@ use Rattle.lin_formula.specs.Holds.{Holds, with_value}
 use Rattle.lin_formula.specs.SetOf.{SetOf, Nothing, Where, Member, members, SomeEmpty, HoldsAt}
 use Rattle.set_plan.specs.Program.{Item, Entry, IsSetOf, Give, each, Takes}
 use Rattle.set_plan.proofs.Composition.{Takes-split, none_some}
-use Rattle.set_plan.specs.Unite.{positives, Made, make, either, join, unite, with_item, two, difference, without, union, remainder, together}
+use Rattle.set_plan.specs.Unite.{positives, Made, make, either, join, unite, with_item, two, difference, without, union, difference_set, union_of_two}
 
 pub same_some : {A : Type 0} {a b : A} → Some a ≡ Some b → a ≡ b
 same_some e = cc
@@ -174,21 +174,21 @@ module _ {P : Type 0} (tracks : List Var) (part : P) (free : free_vars (Or (Amon
       (λ h. both.0 ((is.same tuple).0 h), λ h. (is.same tuple).1 (both.1 h))
 
   -- one set without another has the tuples of the one that the other has not
-  pub remainder-members : (s t : SetOf) (xs : List (Entry P)) (u : SetOf) → IsOver tracks s → Takes (remainder tracks part s t) xs (Some u)
+  pub difference_set-members : (s t : SetOf) (xs : List (Entry P)) (u : SetOf) → IsOver tracks s → Takes (difference_set tracks part s t) xs (Some u)
       → (tuple : List ℤ) → Member u tuple ↔ (Member s tuple × (Member t tuple → ⊥))
-  remainder-members s t xs u over_s takes tuple =
+  difference_set-members s t xs u over_s takes tuple =
       let (us, vs, made, order, first, rest) = Takes-split (without tracks part s t) (λ made. Give made.0) xs u takes in
       let is : u ≡ made.0 = Takes-give made.0 u vs rest in
       let whole = without-members s t us made over_s first tuple in
       rw is whole
 
-  pub remainder_over : (s t : SetOf) (xs : List (Entry P)) (u : SetOf) → IsOver tracks s → Takes (remainder tracks part s t) xs (Some u) → IsOver tracks u
-  remainder_over s t xs u over_s takes tuple h = over_s tuple ((remainder-members s t xs u over_s takes tuple).0 h).0
+  pub remainder_over : (s t : SetOf) (xs : List (Entry P)) (u : SetOf) → IsOver tracks s → Takes (difference_set tracks part s t) xs (Some u) → IsOver tracks u
+  remainder_over s t xs u over_s takes tuple h = over_s tuple ((difference_set-members s t xs u over_s takes tuple).0 h).0
 
   -- two sets together have the tuples of both
-  pub together-members : (s t : SetOf) (xs : List (Entry P)) (u : SetOf) → IsOver tracks s → IsOver tracks t
-      → Takes (together tracks part s t) xs (Some u) → (tuple : List ℤ) → Member u tuple ↔ (Member s tuple ⊎ Member t tuple)
-  together-members s t xs u over_s over_t takes tuple =
+  pub union_of_two-members : (s t : SetOf) (xs : List (Entry P)) (u : SetOf) → IsOver tracks s → IsOver tracks t
+      → Takes (union_of_two tracks part s t) xs (Some u) → (tuple : List ℤ) → Member u tuple ↔ (Member s tuple ⊎ Member t tuple)
+  union_of_two-members s t xs u over_s over_t takes tuple =
       let (us, vs, made, order, first, rest) = Takes-split (join tracks part s (t, 1)) (λ made. Give made.0) xs u takes in
       let is : u ≡ made.0 = Takes-give made.0 u vs rest in
       let whole = join-members s (t, 1) us made over_s over_t first tuple in

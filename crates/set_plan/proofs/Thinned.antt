@@ -7,7 +7,7 @@ use Rattle.set_plan.specs.Program.{Item, Program, Give, Empty, each, Takes, Entr
 use Rattle.set_plan.specs.Past.{numbered, all_steps, PastStep, Past}
 use Rattle.set_plan.specs.Outcome.{Ends, Stops}
 use Rattle.set_plan.specs.Unite.{Made, compute, make, join, unite, with_item, positives}
-use Rattle.set_plan.specs.declared.stop.StepName.{StepName}
+use Rattle.set_plan.specs.declared.stop.PartStep.{PartStep}
 use Rattle.set_plan.proofs.Composition.{none_some, Ends-ask_yes, Ends-ask_no, Ends-give, Ends-bind, Stops-bind, Stops-bind_later, Ends-split, Stops-split, PastStep-split, PastStep-append}
 use Rattle.set_plan.specs.Same.{IsLacking, SameItem, Thinned}
 use Rattle.set_plan.proofs.Alike.{IsSetOf-same, numbered-same, Stops-alike}
@@ -50,7 +50,7 @@ module _ {P : Type 0} (part : P) (budget : ℕ) where
   pub Ends-make_same : (at : ℕ) (i j : Item) (v : Made) → SameItem i j → Ends (make part at i) budget v → Ends (make part at j) budget v
   Ends-make_same at i j v same h = make-same at i j v h.entries same h.takes h.past
 
-  pub Stops-make_same : (at : ℕ) (i j : Item) (name : StepName P) → SameItem i j → Stops (make part at i) budget name → Stops (make part at j) budget name
+  pub Stops-make_same : (at : ℕ) (i j : Item) (name : PartStep P) → SameItem i j → Stops (make part at i) budget name → Stops (make part at j) budget name
   Stops-make_same at i j name same h = Stops-alike SameMade (make part at j) (make-alike part at i j same) h
 
   module _ (tracks : List Var) where
@@ -66,7 +66,7 @@ module _ {P : Type 0} (part : P) (budget : ℕ) where
         let (next, made, joined) = Ends-split (make part so_far.1 i) (join tracks part so_far.0) h in
         Ends-bind (make part so_far.1 j) (join tracks part so_far.0) budget next more (Ends-make_same so_far.1 i j next same made) joined
 
-    item_stops : (so_far : Made) {name : StepName P} {i j : Item} → SameItem i j → Stops (with_item tracks part i so_far) budget name → Stops (with_item tracks part j so_far) budget name
+    item_stops : (so_far : Made) {name : PartStep P} {i j : Item} → SameItem i j → Stops (with_item tracks part i so_far) budget name → Stops (with_item tracks part j so_far) budget name
     item_stops so_far {name} {i} {j} same h =
         elim (Stops-split (make part so_far.1 i) (join tracks part so_far.0) h) [
           | inl here ↦ Stops-bind (make part so_far.1 j) (join tracks part so_far.0) budget (Stops-make_same so_far.1 i j name same here)
@@ -86,7 +86,7 @@ module _ {P : Type 0} (part : P) (budget : ℕ) where
         let (more, one, last) = Ends-split (with_item tracks part i so_far) (left rest) all in
         Ends-bind (with_item tracks part j so_far) (left js) budget more v (item_same so_far same one) (Ends-thinned rest js more v thin last)
 
-    pub Stops-thinned : (is js : List Item) (so_far : Made) (name : StepName P)
+    pub Stops-thinned : (is js : List Item) (so_far : Made) (name : PartStep P)
         → Thinned is js → Stops (unite tracks part so_far is) budget name
         → Stops (unite tracks part so_far js) budget name
     Stops-thinned is [] so_far name e h = subst (λ (l : List Item). Stops (unite tracks part so_far l) budget name) e h

@@ -5,7 +5,7 @@ use Rattle.lin_formula.specs.SetOf.{SetOf, SomeEmpty, NoneEmpty}
 use Rattle.set_plan.specs.Program.{Program, Give, Compute, Ask, Question, Empty, Stable, Has, Within, IsYes, IsNo, Takes, Entry}
 use Rattle.set_plan.specs.Past.{numbered, all_steps, PastStep, Past}
 use Rattle.set_plan.specs.Outcome.{Ends, Stops}
-use Rattle.set_plan.specs.declared.stop.StepName.{StepName}
+use Rattle.set_plan.specs.declared.stop.PartStep.{PartStep}
 use Rattle.set_plan.proofs.Composition.{none_some, PastStep-split, PastStep-cases}
 use Rattle.set_plan.specs.Same.{SameItem}
 use Rattle.set_plan.proofs.Alike.{Alike, PastStep-one, entry-same, sets-same}
@@ -21,21 +21,21 @@ yes-no (Stable a) h k = k h
 yes-no (Has s tuple) h k = k h
 yes-no (Within s t) h k = k h
 
-past-none : {P A : Type 0} (xs : List (Entry P)) (budget : ℕ) (name : StepName P) → xs ≡ [] → Past xs budget (Some name) → A
+past-none : {P A : Type 0} (xs : List (Entry P)) (budget : ℕ) (name : PartStep P) → xs ≡ [] → Past xs budget (Some name) → A
 past-none {P} xs budget name e past = none_some (subst (λ (l : List (Entry P)). Past l budget (Some name)) e past)
 
-steps-of : {P : Type 0} (d : Entry P) (rest xs : List (Entry P)) (budget : ℕ) (answer : Option (StepName P)) → xs ≡ d ∷ rest → Past xs budget answer
+steps-of : {P : Type 0} (d : Entry P) (rest xs : List (Entry P)) (budget : ℕ) (answer : Option (PartStep P)) → xs ≡ d ∷ rest → Past xs budget answer
     → PastStep (numbered d.part d.at d.item.sets (steps d.item.formula) ++ all_steps rest) budget answer
 steps-of {P} d rest xs budget answer whole past = subst (λ (l : List (Entry P)). Past l budget answer) whole past
 
-none-name : {P A : Type 0} (d e : Entry P) (budget : ℕ) (name : StepName P) → d.part ≡ e.part → d.at ≡ e.at → SameItem d.item e.item
+none-name : {P A : Type 0} (d e : Entry P) (budget : ℕ) (name : PartStep P) → d.part ≡ e.part → d.at ≡ e.at → SameItem d.item e.item
     → PastStep (numbered d.part d.at d.item.sets (steps d.item.formula)) budget None
     → PastStep (numbered e.part e.at e.item.sets (steps e.item.formula)) budget (Some name) → A
 none-name d e budget name part at same h k =
     none_some (sym (PastStep-one (numbered e.part e.at e.item.sets (steps e.item.formula)) budget None (Some name) (entry-same d e budget None part at same h) k))
 
 -- where the one program comes to its end, the other does not stop
-end-stop : {P A B : Type 0} (R : A → B → Type 0) (m : Program P A) (n : Program P B) (budget : ℕ) (xs ys : List (Entry P)) (a : A) (name : StepName P)
+end-stop : {P A B : Type 0} (R : A → B → Type 0) (m : Program P A) (n : Program P B) (budget : ℕ) (xs ys : List (Entry P)) (a : A) (name : PartStep P)
     → Alike R m n → Takes m xs (Some a) → Past xs budget None → Takes n ys None → Past ys budget (Some name) → ⊥
 end-stop R (Give c) (Give b) budget xs ys a name same t past (e, is) over = past-none ys budget name e over
 end-stop R (Compute d next) (Compute e more) budget xs ys a name same (inl (f, is)) past u over = none_some is
@@ -64,7 +64,7 @@ end-stop R (Ask q if_yes if_no) (Give b) budget xs ys a name same t past u over 
 end-stop R (Ask q if_yes if_no) (Compute e more) budget xs ys a name same t past u over = absurd same
 
 -- both stop at the step of one name
-stop-stop : {P A B : Type 0} (R : A → B → Type 0) (m : Program P A) (n : Program P B) (budget : ℕ) (xs ys : List (Entry P)) (x y : StepName P)
+stop-stop : {P A B : Type 0} (R : A → B → Type 0) (m : Program P A) (n : Program P B) (budget : ℕ) (xs ys : List (Entry P)) (x y : PartStep P)
     → Alike R m n → Takes m xs None → Past xs budget (Some x) → Takes n ys None → Past ys budget (Some y) → x ≡ y
 stop-stop R (Give c) (Give b) budget xs ys x y same t past (e, is) over = past-none ys budget y e over
 stop-stop R (Compute d next) (Compute e more) budget xs ys x y same (inl (f, is)) past u over = past-none xs budget x f past
@@ -134,10 +134,10 @@ end-end R (Ask q if_yes if_no) (Give c) xs ys a b same t u = absurd same
 end-end R (Ask q if_yes if_no) (Compute e more) xs ys a b same t u = absurd same
 
 module _ {P A B : Type 0} (R : A → B → Type 0) (m : Program P A) (n : Program P B) (budget : ℕ) (same : Alike R m n) where
-  pub Ends-not_stops : (a : A) (name : StepName P) → Ends m budget a → Stops n budget name → ⊥
+  pub Ends-not_stops : (a : A) (name : PartStep P) → Ends m budget a → Stops n budget name → ⊥
   Ends-not_stops a name h k = end-stop R m n budget h.entries k.entries a name same h.takes h.past k.takes k.past
 
-  pub Stops-one : (x y : StepName P) → Stops m budget x → Stops n budget y → x ≡ y
+  pub Stops-one : (x y : PartStep P) → Stops m budget x → Stops n budget y → x ≡ y
   Stops-one x y h k = stop-stop R m n budget h.entries k.entries x y same h.takes h.past k.takes k.past
 
   pub Ends-one : (a : A) (b : B) → Ends m budget a → Ends n budget b → R a b

@@ -29,7 +29,7 @@ AnswersMade memo program result = Answers program memo.budget made_of result
 
 -- within the budget it is answered what the one set has and the other has not
 abbrev pub AnswersRemainder : {P : Type 0} → List Var → P → SetOf → SetOf → ℕ → Result Left (PlanError P) → Type 0
-AnswersRemainder tracks part s t budget result = Answers (unite.remainder tracks part s t) budget (left_of s) result
+AnswersRemainder tracks part s t budget result = Answers (unite.difference_set tracks part s t) budget (left_of s) result
 
 -- what there is so far joined with what is made next, in the part of the union
 abbrev pub join : {P : Type 0} → Uniting P → Option Automaton → Made → Program P unite.Made

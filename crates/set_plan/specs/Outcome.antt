@@ -2,7 +2,7 @@
 use Rattle.std.specs.Prelude.{ℕ, List, Some, None, Result, Ok, Err}
 use Rattle.set_plan.specs.Program.{Program, Entry, Takes}
 use Rattle.set_plan.specs.Past.{Past}
-use Rattle.set_plan.specs.declared.stop.StepName.{StepName}
+use Rattle.set_plan.specs.declared.stop.PartStep.{PartStep}
 use Rattle.set_plan.specs.declared.stop.PlanError.{PlanError}
 use Rattle.set_plan.specs.declared.stop.PlanError.TheVariants as plan_error
 
@@ -13,7 +13,7 @@ pub record Ends {P A : Type 0} (program : Program P A) (budget : ℕ) (value : A
   pub past : Past entries budget None
 
 -- the step of this name is the first of the program that passes the budget
-pub record Stops {P A : Type 0} (program : Program P A) (budget : ℕ) (name : StepName P) : Type 0 where
+pub record Stops {P A : Type 0} (program : Program P A) (budget : ℕ) (name : PartStep P) : Type 0 where
   pub entries : List (Entry P)
   pub takes : Takes program entries None
   pub past : Past entries budget (Some name)

@@ -4,11 +4,11 @@ use Rattle.lin_formula.specs.Tree.{Tree, steps}
 use Rattle.lin_formula.specs.SetOf.{SetOf, members}
 use Rattle.formula_auto.specs.Step.{Exceeds}
 use Rattle.set_plan.specs.Program.{Entry}
-use Rattle.set_plan.specs.declared.stop.StepName.{StepName}
+use Rattle.set_plan.specs.declared.stop.PartStep.{PartStep}
 
 -- a step with its name and with what its symbols stand for
 pub record Step (P : Type 0) : Type 0 where
-  pub name : StepName P
+  pub name : PartStep P
   pub formula : Tree
   pub sets : ℕ → SetOf
 
@@ -23,11 +23,11 @@ all_steps (entry ∷ entries) =
     numbered entry.part entry.at entry.item.sets (steps entry.item.formula) ++ all_steps entries
 
 -- the name of the first step whose spread exceeds the budget, or none
-abbrev pub PastStep : {P : Type 0} → List (Step P) → ℕ → Option (StepName P) → Type 0
+abbrev pub PastStep : {P : Type 0} → List (Step P) → ℕ → Option (PartStep P) → Type 0
 PastStep [] budget answer = answer ≡ None
 PastStep (step ∷ rest) budget answer =
     (Exceeds step.formula (members step.sets) budget × (answer ≡ Some step.name))
     ⊎ ((¬ Exceeds step.formula (members step.sets) budget) × PastStep rest budget answer)
 
-abbrev pub Past : {P : Type 0} → List (Entry P) → ℕ → Option (StepName P) → Type 0
+abbrev pub Past : {P : Type 0} → List (Entry P) → ℕ → Option (PartStep P) → Type 0
 Past entries budget answer = PastStep (all_steps entries) budget answer

@@ -1,4 +1,4 @@
--- Sets that a program has made.
+-- SetStore that a program has made.
 use Rattle.std.specs.Prelude.{◌≡◌, ◌<◌, ◌≤◌, ℕ, List, [], ◌∷◌, length, Option, Some, None, IfSome, slice_get}
 use Rattle.std.specs.Borrow.{Bor}
 use Rattle.limits.specs.declared.numbers.TheConstants.{MOST_STATES}

@@ -3,7 +3,7 @@ use Rattle.std.specs.Prelude.{ℕ, zero, suc, ◌+◌, List, [], ◌∷◌, ◌+
 use Rattle.track_word.specs.declared.tracks.Var.{Var}
 use Rattle.lin_formula.specs.Tree.{Tree, Lin, Value, Among, Not, And, Or, Ex, steps}
 use Rattle.lin_formula.specs.SetOf.{SetOf, Nothing}
-use Rattle.set_plan.specs.declared.stop.StepName.{StepName}
+use Rattle.set_plan.specs.declared.stop.PartStep.{PartStep}
 use Rattle.set_plan.specs.Program.{Item, Program, Give, Compute, Ask, Empty, Within, bind, each}
 
 -- two symbols
@@ -52,7 +52,7 @@ abbrev pub unite : {P : Type 0} → List Var → P → Made → List Item → Pr
 unite tracks part so_far items = each items (with_item tracks part) so_far
 
 -- the union of the items' sets, by steps from the one of this name on
-abbrev pub unite_from : {P : Type 0} → List Var → StepName P → List Item → Program P Made
+abbrev pub unite_from : {P : Type 0} → List Var → PartStep P → List Item → Program P Made
 unite_from tracks from items = unite tracks from.part (Nothing, from.at) items
 
 -- one set without the other, over these tracks
@@ -68,12 +68,12 @@ abbrev pub union : {P : Type 0} → List Var → P → List Item → Program P S
 union tracks part items = bind (unite tracks part (Nothing, 1) items) (λ made. Give made.0)
 
 -- one set without the other, as a part of its own
-abbrev pub remainder : {P : Type 0} → List Var → P → SetOf → SetOf → Program P SetOf
-remainder tracks part s t = bind (without tracks part s t) (λ made. Give made.0)
+abbrev pub difference_set : {P : Type 0} → List Var → P → SetOf → SetOf → Program P SetOf
+difference_set tracks part s t = bind (without tracks part s t) (λ made. Give made.0)
 
 -- one set and the other together, as a part of its own
-abbrev pub together : {P : Type 0} → List Var → P → SetOf → SetOf → Program P SetOf
-together tracks part s t = bind (join tracks part s (t, 1)) (λ made. Give made.0)
+abbrev pub union_of_two : {P : Type 0} → List Var → P → SetOf → SetOf → Program P SetOf
+union_of_two tracks part s t = bind (join tracks part s (t, 1)) (λ made. Give made.0)
 
 -- whether each of the items' sets is empty: they are made one after the other, up to the first that is not, and are one
 -- part
@@ -84,4 +84,4 @@ are_empty part at (item ∷ items) =
 
 -- whether one set has each tuple of the other, as a part of its own: it takes the steps of what is left of the other
 abbrev pub is_within : {P : Type 0} → List Var → P → SetOf → SetOf → Program P Bool
-is_within tracks part s t = bind (remainder tracks part s t) (λ rest. Ask (Within s t) (Give true) (Give false))
+is_within tracks part s t = bind (difference_set tracks part s t) (λ rest. Ask (Within s t) (Give true) (Give false))

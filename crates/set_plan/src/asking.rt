@@ -9,9 +9,9 @@ ghost use Rattle.set_plan.specs.Sets.{IsItemOn, IsSetOn, lent};
 ghost use Rattle.set_plan.specs.Unite as plan;
 
 use crate::empty::{is_empty_set, is_none_or_empty};
-use crate::left::{Left, remainder};
+use crate::left::{Left, difference_set};
 use crate::parts::make_on;
-use crate::stop::{PlanError, StepName};
+use crate::stop::{PartStep, PlanError};
 use auto_core::Auto;
 use formula_auto::{Memo, SetTable};
 use limits::Budget;
@@ -36,7 +36,7 @@ pub fn are_empty<P: Copy>(
     let mut meets = memo.meets(alloc, sets);
     let mut at = 1;
     for f in formulas {
-        let from = StepName { part, at };
+        let from = PartStep { part, at };
         let made = make_on(alloc, memo, &mut meets, from, f)?;
         if !is_none_or_empty(&made.set) {
             return Ok(false);
@@ -59,7 +59,7 @@ pub fn is_within<P: Copy>(
     requires other { IfSome other (λ a. IsSetOn tracks.now a.now) }
     ensures answers { Answers (plan.is_within tracks.now part (lent one.entry) (lent other.entry)) budget as_is result }
 {
-    let left = remainder(alloc, tracks, part, one, other, budget)?;
+    let left = difference_set(alloc, tracks, part, one, other, budget)?;
     let Some(a) = one else {
         return Ok(true);
     };

@@ -6,7 +6,7 @@ ghost use Rattle.set_plan.specs.Program.{Program};
 use crate::stop::PlanError;
 
 /// What is done for each item of a list in turn, by programs that go on from the value so far.
-pub trait Steps {
+pub trait ProgramFold {
     /// What is changed on the way, as the sets that are kept.
     type Work;
 
@@ -52,7 +52,7 @@ pub trait Steps {
 }
 
 /// The value after all items, one after the other.
-pub fn each<S: Steps>(
+pub fn each<S: ProgramFold>(
     steps: &S,
     work: &mut S::Work,
     items: &[S::Item],

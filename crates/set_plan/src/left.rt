@@ -5,7 +5,7 @@ ghost use Rattle.set_plan.specs.Sets.{IsSetOn, lent, IsLeftOn};
 
 use crate::empty::is_empty_set;
 use crate::pairs::except;
-use crate::stop::{PlanError, StepName};
+use crate::stop::{PartStep, PlanError};
 use auto_core::Auto;
 use auto_walk::Grown;
 use limits::Budget;
@@ -22,7 +22,7 @@ pub enum Left {
 }
 
 /// What the one set has and the other has not, in a part of its own. There is no step where one of the two is empty.
-pub fn remainder<P: Copy>(
+pub fn difference_set<P: Copy>(
     alloc: Global,
     tracks: &[Var],
     part: P,
@@ -49,7 +49,7 @@ pub fn remainder<P: Copy>(
     }
     match except(alloc, tracks, a, b, budget) {
         Ok(c) => Ok(Left::Part(Some(c))),
-        Err(Grown::Over) => Err(PlanError::Over(StepName { part, at: 1 })),
+        Err(Grown::Over) => Err(PlanError::Over(PartStep { part, at: 1 })),
         Err(Grown::Memory) => Err(PlanError::Memory),
     }
 }

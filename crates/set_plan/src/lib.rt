@@ -2,7 +2,7 @@
 //! entries it takes, `specs/Past` which step is the first past a budget, `specs/Unite` what the union of a list of formulas is, `specs/Making`
 //! what is made of formulas and left of a set, `specs/Fold` what is answered where one program after another goes on from the value so far.
 //! A function here answers a program: with its value where no step passes the budget, and else with the first step that does.
-//! `each` goes through a list by one program after another; what it goes through is an impl of `Steps`.
+//! `each` goes through a list by one program after another; what it goes through is an impl of `ProgramFold`.
 #![tactic(auto)]
 
 mod asking;
@@ -18,10 +18,10 @@ mod stop;
 
 pub use asking::{are_empty, is_within};
 pub use empty::{has_no_tuple, is_empty_set};
-pub use fold::{Steps, each};
-pub use left::{Left, remainder};
+pub use fold::{ProgramFold, each};
+pub use left::{Left, difference_set};
 pub use made::Made;
-pub use parts::{make, make_reached, reduced, together, unite};
-pub use sets::Sets;
+pub use parts::{make, make_reached, reduced, union_of_two, unite};
+pub use sets::SetStore;
 pub use steps::step_count;
-pub use stop::{PlanError, StepName};
+pub use stop::{PartStep, PlanError};

@@ -1,4 +1,4 @@
-//! Sets that are made.
+//! SetStore that are made.
 use auto_core::Auto;
 
 /// A set, and the number of the next step of its part.

@@ -16,13 +16,13 @@ use crate::empty::{is_none_or_empty, lacks_a_set};
 use crate::made::Made;
 use crate::pairs::{reduced_set, united, united_reached};
 use crate::steps::step_count;
-use crate::stop::{PlanError, StepName};
+use crate::stop::{PartStep, PlanError};
 use auto_core::Auto;
 use auto_walk::Grown;
 use formula_auto::{MeetTable, Memo, SetTable};
 use limits::Budget;
 use lin_formula::Formula;
-use near_image::compile_image_on;
+use shift_image::compile_image_on;
 use std::alloc::{AllocError, Global};
 use track_word::Var;
 
@@ -55,7 +55,7 @@ pub fn make<P: Copy>(
             at: at + count,
         }),
         Err(why) => {
-            let from = StepName { part, at };
+            let from = PartStep { part, at };
             Err(from.stopped(why))
         }
     }
@@ -66,7 +66,7 @@ pub fn make_on<P: Copy>(
     alloc: Global,
     memo: &mut Memo,
     meets: &mut MeetTable,
-    from: StepName<P>,
+    from: PartStep<P>,
     f: &Formula,
 ) -> Result<Made, PlanError<P>>
     requires item { IsItemOn (free_vars (tree_of f.now)) meets.old.sets (tree_of f.now) }
@@ -101,7 +101,7 @@ pub fn make_on<P: Copy>(
 pub fn make_reached<P: Copy>(
     alloc: Global,
     memo: &mut Memo,
-    from: StepName<P>,
+    from: PartStep<P>,
     f: &Formula,
     sets: &SetTable,
 ) -> Result<Made, PlanError<P>>
@@ -149,7 +149,7 @@ impl<P: Copy> Uniting<'_, P> {
                     set: Some(c),
                     at: at + 1,
                 }),
-                Err(Grown::Over) => Err(PlanError::Over(StepName {
+                Err(Grown::Over) => Err(PlanError::Over(PartStep {
                     part: self.part,
                     at,
                 })),
@@ -180,7 +180,7 @@ impl<P: Copy> Uniting<'_, P> {
         ensures meets_budget { meets.new.budget ≡ meets.old.budget }
     {
         let Made { set, at } = so_far;
-        let from = StepName {
+        let from = PartStep {
             part: self.part,
             at,
         };
@@ -234,7 +234,7 @@ pub fn unite<P: Copy>(
     alloc: Global,
     memo: &mut Memo,
     tracks: &[Var],
-    from: StepName<P>,
+    from: PartStep<P>,
     formulas: &[Formula],
     sets: &SetTable,
 ) -> Result<Made, PlanError<P>>
@@ -246,7 +246,7 @@ pub fn unite<P: Copy>(
     ensures budget { memo.new.budget ≡ memo.old.budget }
     ensures kept { KeepsEntries memo.old memo.new }
 {
-    let StepName { part, at } = from;
+    let PartStep { part, at } = from;
     let uniting = Uniting {
         alloc,
         tracks,
@@ -258,7 +258,7 @@ pub fn unite<P: Copy>(
 }
 
 /// Two sets over these tracks together, in a part of their own.
-pub fn together<P: Copy>(
+pub fn union_of_two<P: Copy>(
     alloc: Global,
     tracks: &[Var],
     part: P,
@@ -268,7 +268,7 @@ pub fn together<P: Copy>(
 ) -> Result<Option<Auto>, PlanError<P>>
     requires first { IfSome first (IsSetOn tracks.now) }
     requires second { IfSome second (IsSetOn tracks.now) }
-    ensures answers { Answers (plan.together tracks.now part (as_set first) (as_set second)) budget as_set result }
+    ensures answers { Answers (plan.union_of_two tracks.now part (as_set first) (as_set second)) budget as_set result }
     ensures set { IfOk result (λ set. IfSome set (IsSetOn tracks.now)) }
 {
     if is_none_or_empty(&second) {
@@ -280,7 +280,7 @@ pub fn together<P: Copy>(
     match (first, second) {
         (Some(a), Some(b)) => match united(alloc, tracks, a, b, budget) {
             Ok(c) => Ok(Some(c)),
-            Err(Grown::Over) => Err(PlanError::Over(StepName { part, at: 1 })),
+            Err(Grown::Over) => Err(PlanError::Over(PartStep { part, at: 1 })),
             Err(Grown::Memory) => Err(PlanError::Memory),
         },
         _ => unreachable!(),

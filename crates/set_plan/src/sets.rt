@@ -1,4 +1,4 @@
-//! Sets that are kept.
+//! SetStore that are kept.
 ghost use Rattle.std.specs.Prelude.{◌≡◌, ◌<◌, ◌≤◌, ◌++◌, ◌∷◌, length, IfOk, IfSome, OnErr, OnOk, [], slice_get, Some, None, Ok, take};
 ghost use Rattle.lin_formula.specs.SetOf.{as_set};
 ghost use Rattle.set_plan.specs.Sets.{Grows, kept_of, set_at};
@@ -9,15 +9,15 @@ use lin_formula::SetId;
 use std::alloc::{AllocError, Global};
 use std::marker::Model;
 
-/// Sets that are kept, under the names that formulas use.
+/// SetStore that are kept, under the names that formulas use.
 #[derive(Drop)]
-pub struct Sets {
+pub struct SetStore {
     table: SetTable,
     count: u32,
     ghost counted: { length table ≡ count },
 }
 
-impl Model for Sets {
+impl Model for SetStore {
     ghost use Rattle.std.specs.Prelude.{List};
     ghost use Rattle.auto_core.specs.Automaton.{Automaton};
 
@@ -26,12 +26,12 @@ impl Model for Sets {
     ghost view = { λ s. s.table };
 }
 
-impl Sets {
+impl SetStore {
     /// No sets.
-    pub fn new(alloc: Global) -> Sets
+    pub fn new(alloc: Global) -> SetStore
         ensures { result ≡ [] }
     {
-        Sets {
+        SetStore {
             table: SetTable::new(alloc),
             count: 0,
         }

@@ -8,7 +8,7 @@ use std::alloc::AllocError;
 
 /// A step of a part.
 #[derive(Clone, Copy, PartialEq, Eq)]
-pub struct StepName<P> {
+pub struct PartStep<P> {
     /// The part's name.
     pub part: P,
     /// The number of the step in its part, counted from 1.
@@ -19,7 +19,7 @@ pub struct StepName<P> {
 #[derive(Clone, Copy, PartialEq, Eq)]
 pub enum PlanError<P> {
     /// The first step whose spread exceeds the budget.
-    Over(StepName<P>),
+    Over(PartStep<P>),
     /// Memory ran out.
     Memory,
 }
@@ -32,16 +32,16 @@ impl<P> From<AllocError> for PlanError<P> {
     }
 }
 
-impl<P: Copy> StepName<P> {
+impl<P: Copy> PartStep<P> {
     /// Why a formula has no set that has its first step here.
     pub(crate) fn stopped(self, why: CompileError) -> PlanError<P>
         requires step { IsStepOf 1000 why }
         requires room { self.at < 2 ^ 31 }
         ensures { result ≡ stopped_at self why }
     {
-        let StepName { part, at } = self;
+        let PartStep { part, at } = self;
         match why {
-            CompileError::Over { step } => PlanError::Over(StepName {
+            CompileError::Over { step } => PlanError::Over(PartStep {
                 part,
                 at: at + step - 1,
             }),

@@ -11,7 +11,7 @@ use Rattle.rule_formula.proofs.MasksTheorem.{masks_are}
 use Rattle.set_plan.proofs.Takings.{contains_cases, contains_head, contains_none, contains_rest}
 use Rattle.mate_plan.specs.PlanOf.{last_ply}
 use Rattle.mate_plan.specs.Claim.{IsLosersPly, every_second, losers_plies}
-use Rattle.mate_plan.specs.Turns.{waits}
+use Rattle.mate_plan.specs.Turns.{plies_before_turn}
 use Rattle.mate_plan.proofs.TurnLemmas.{waits_sum}
 use Rattle.claim_plan.proofs.PlaceLemmas.{plies-have}
 use Rattle.strategy_file.specs.StrategyFile.{places_of}
@@ -32,8 +32,8 @@ every_second-of start (suc count) ply h =
 
 left_at : (winner s : Side) (moves ply : ℕ) → Contains (losers_plies winner s moves) ply → (left : ℕ) × (ply + (2 * left + 1) ≡ last_ply winner s moves)
 left_at winner s moves ply h =
-    let count = moves + waits winner s in
-    let there = every_second-of (waits (other winner) s) count ply h in
+    let count = moves + plies_before_turn winner s in
+    let there = every_second-of (plies_before_turn (other winner) s) count ply h in
     let below = there.1 in
     let is = there.2 in
     let one = waits_sum winner s in

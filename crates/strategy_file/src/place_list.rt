@@ -6,7 +6,7 @@ ghost use Rattle.strategy_file.specs.StrategyFile.{places_with};
 
 use chess_game::Side;
 use limits::MOST_MOVES;
-use mate_plan::waits;
+use mate_plan::plies_before_turn;
 use std::alloc::{AllocError, Global};
 
 /// Adds a ply with each of some masks.
@@ -30,8 +30,8 @@ pub fn places(
     requires { moves ≤ MOST_MOVES }
     ensures { IfOk result (λ places. places.items ≡ places_with (losers_plies winner turn moves) masks.now) }
 {
-    let first = waits(winner.other(), turn);
-    every_second(alloc, first, moves + waits(winner, turn), masks)
+    let first = plies_before_turn(winner.other(), turn);
+    every_second(alloc, first, moves + plies_before_turn(winner, turn), masks)
 }
 
 /// Every second ply, so many of them, each with each mask.

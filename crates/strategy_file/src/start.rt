@@ -11,7 +11,7 @@ use chess_game::{Position, Side};
 
 /// What stands before the sets: as many moves as there may be, and a sound position of as many men as the version has.
 #[derive(Clone, Copy)]
-pub(crate) struct Start {
+pub(crate) struct FileHead {
     pub(crate) version: Version,
     pub(crate) winner: Side,
     pub(crate) moves: u8,

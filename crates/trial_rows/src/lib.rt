@@ -14,4 +14,4 @@ pub use errors::RowError;
 pub use fields::{Fields, number, numbers};
 pub use named::Named;
 pub use row::Row;
-pub use script::{Rows, answer_script, answer_steps, is_told};
+pub use script::{RowInterpreter, answer_script, answer_steps, is_told};

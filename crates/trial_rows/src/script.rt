@@ -10,20 +10,24 @@ use std::io::Write;
 use std::process::ExitCode;
 
 /// What a program's rows ask, and what they have named.
-pub trait Rows {
+pub trait RowInterpreter {
     /// Writes what the call of a row of this kind answers, which is nothing where the row names something.
     fn answer(&mut self, kind: &str, row: &mut Row) -> Result<(), RowError>;
 }
 
 /// Writes what the call of a row answers, all of whose fields have to be read.
-fn answer_row<R: Rows>(rows: &mut R, row: &mut Row) -> Result<(), RowError> {
+fn answer_row<R: RowInterpreter>(rows: &mut R, row: &mut Row) -> Result<(), RowError> {
     let kind = row.word()?;
     rows.answer(kind, row)?;
     row.fields.end()
 }
 
 /// Writes what the steps that are left answer, which are parted by `/` and spelled as rows are, with a mark between any two answers.
-pub fn answer_steps<R: Rows>(rows: &mut R, row: &mut Row, mark: char) -> Result<(), RowError> {
+pub fn answer_steps<R: RowInterpreter>(
+    rows: &mut R,
+    row: &mut Row,
+    mark: char,
+) -> Result<(), RowError> {
     for (place, step) in row.rest().split('/').enumerate() {
         row.separate(place, mark);
         row.fields = Fields::new(step);
@@ -48,7 +52,7 @@ fn write_answer(row: &Row, out: &mut Answer) -> Result<(), RowError> {
 }
 
 /// Writes what a row answers, or `over` where a step that the row asks for is over its budget.
-fn write_row<R: Rows>(
+fn write_row<R: RowInterpreter>(
     alloc: Global,
     rows: &mut R,
     line: &str,
@@ -72,7 +76,12 @@ fn write_error(number: u64, error: RowError, out: &mut Answer) {
 }
 
 /// Writes the answers of all rows. Says whether each was read.
-fn write_rows<R: Rows>(alloc: Global, rows: &mut R, script: &str, out: &mut Answer) -> bool {
+fn write_rows<R: RowInterpreter>(
+    alloc: Global,
+    rows: &mut R,
+    script: &str,
+    out: &mut Answer,
+) -> bool {
     let mut all_read = true;
     let mut number = 0u64;
     for line in script.lines() {
@@ -97,7 +106,7 @@ pub fn is_told(rt: &HostRuntime, out: &Answer) -> bool {
 }
 
 /// Answers the script on the standard input. The status is 1 where a row can't be read, and 2 where the script can't, or the answers not be written.
-pub fn answer_script<R: Rows>(rt: &HostRuntime, rows: &mut R) -> ExitCode {
+pub fn answer_script<R: RowInterpreter>(rt: &HostRuntime, rows: &mut R) -> ExitCode {
     let Ok(script) = io::read_to_string(rt.alloc(), rt.reader()) else {
         return ExitCode::from(2);
     };

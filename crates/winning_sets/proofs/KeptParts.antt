@@ -12,7 +12,7 @@ use Rattle.winning_sets.specs.Reach.{Reach}
 use Rattle.winning_sets.specs.Kept.{Kept, moves_left}
 use Rattle.mate_plan.specs.PlanOf.{last_ply}
 use Rattle.mate_plan.specs.Plan.{is_even, turn_at}
-use Rattle.mate_plan.specs.Turns.{waits}
+use Rattle.mate_plan.specs.Turns.{plies_before_turn}
 use Rattle.mate_plan.proofs.TurnLemmas.{waits_none, waits_one, waits_sum, waits_turn}
 
 abbrev pub Positions : Type 1
@@ -198,7 +198,7 @@ turn_more s j (suc d) =
 
 -- at the last ply the winner is to move
 turn-last : (winner s : Side) (n : ℕ) → turn_at s (last_ply winner s n) ≡ winner
-turn-last winner s n = turn_more s (waits winner s) (2 * n) ∙ turn_two (turn_at s (waits winner s)) n ∙ waits_turn winner s
+turn-last winner s n = turn_more s (plies_before_turn winner s) (2 * n) ∙ turn_two (turn_at s (plies_before_turn winner s)) n ∙ waits_turn winner s
 
 -- so many plies before the last one the winner is to move where they are even
 turn_even : (winner s : Side) (n j k : ℕ) → j + 2 * k ≡ last_ply winner s n → turn_at s j ≡ winner

@@ -29,7 +29,7 @@ use Rattle.mate_plan.specs.declared.names.Part.{Part}
 use Rattle.mate_plan.specs.declared.names.Part.TheVariants as kind
 use Rattle.winning_sets.proofs.KeptParts.{Reach-image, StepsTo-moves, kept_end, kept_first, lost-step, reached_sound, two_steps, win-step}
 use Rattle.set_plan.proofs.Composition.{Takes-split, none_some}
-use Rattle.set_plan.proofs.Takings.{IsOver, remainder_over, Takes-give, any-map, make-members, remainder-members, same_some, together-members, union-members, union_over}
+use Rattle.set_plan.proofs.Takings.{IsOver, remainder_over, Takes-give, any-map, make-members, difference_set-members, same_some, union_of_two-members, union-members, union_over}
 use Rattle.winning_sets.proofs.KeptSets.{Entries, Stands, bear_have, for_masks-level, game_mask, lost-stands, pre_have, reach_set-stands, reach_set_fitting, reach_set_over, win-stands, in_masks}
 use Rattle.winning_sets.proofs.KeptWithin.{bear_within, pre_within}
 
@@ -201,9 +201,9 @@ module _ (p : Position) (sound : Sound p) (few : length p.men ≤ 8) (mean : Rul
       let calm_over = remainder_over (mask_tracks p m) (name ply m kind.Calm) (free m) reach escape a2 calm over t2 in
       let check_over = union_over (mask_tracks p m) (name ply m kind.Check) (free m) (bear_items rules (other side) m calm) a3 check (bear_have p mean (other side) calm game) t3 in
       let reply_over = union_over (mask_tracks p m) (name ply m kind.Reply) (free m) (pre_items rules side m quiet reach1) a5 reply (pre_have p mean side quiet reach1 game) t5 in
-      let joined = together-members (mask_tracks p m) (name ply m kind.Lost) (free m) check reply b5 s check_over reply_over r5 tuple in
-      let calms = remainder-members (mask_tracks p m) (name ply m kind.Calm) (free m) reach escape a2 calm over t2 tuple in
-      let quiets = remainder-members (mask_tracks p m) (name ply m kind.Quiet) (free m) calm check a4 quiet calm_over t4 tuple in
+      let joined = union_of_two-members (mask_tracks p m) (name ply m kind.Lost) (free m) check reply b5 s check_over reply_over r5 tuple in
+      let calms = difference_set-members (mask_tracks p m) (name ply m kind.Calm) (free m) reach escape a2 calm over t2 tuple in
+      let quiets = difference_set-members (mask_tracks p m) (name ply m kind.Quiet) (free m) calm check a4 quiet calm_over t4 tuple in
       elim (joined.0 h) [
         | inl c ↦ (calms.0 (union_bear (other side) ply calm check a3 game t3 tuple c)).0
         | inr r ↦ (calms.0 (quiets.0 (union_pre side ply kind.Reply quiet reach1 reply a5 game t5 tuple r)).0).0

@@ -25,7 +25,7 @@ use Rattle.mate_plan.specs.declared.names.Part.TheVariants as kind
 use Rattle.mate_plan.specs.declared.names.PartName.{PartName}
 use Rattle.winning_sets.proofs.KeptParts.{Positions, Image, Safe, Pre, Checked, Without, Rest, Escape, Calm, Check, Quiet, LostPart}
 use Rattle.set_plan.proofs.Composition.{Takes-split, none_some}
-use Rattle.set_plan.proofs.Takings.{HaveTracks, IsOver, Takes-give, any-flat_map, any-map, contains_cases, contains_filter, contains_head, contains_none, contains_rest, have-flat_map, have-map, make-members, remainder-members, remainder_over, together-members, union-members, union_over}
+use Rattle.set_plan.proofs.Takings.{HaveTracks, IsOver, Takes-give, any-flat_map, any-map, contains_cases, contains_filter, contains_head, contains_none, contains_rest, have-flat_map, have-map, make-members, difference_set-members, remainder_over, union_of_two-members, union-members, union_over}
 
 abbrev pub Entries : Type 0
 Entries = List (Entry PartName)
@@ -166,7 +166,7 @@ module _ (p : Position) (mean : RulesMean p) where
       → Member u (tuple_of q) ↔ Without S T q
   difference-stands ply k q s t u xs S T over in_s in_t takes =
       let m = mask_of q in
-      let both = remainder-members (mask_tracks p m) (name ply m k) (free m) s t xs u over takes (tuple_of q) in (
+      let both = difference_set-members (mask_tracks p m) (name ply m k) (free m) s t xs u over takes (tuple_of q) in (
         λ h. let (a, b) = both.0 h in record { is_in = in_s.0 a; not_in = λ c. b (in_t.1 c) },
         λ h. both.1 (in_s.1 h.is_in, λ b. h.not_in (in_t.0 b)),
       )
@@ -193,7 +193,7 @@ module _ (p : Position) (mean : RulesMean p) where
       let replies = pre-stands ply kind.Reply quiet reply reach1 a5 (Quiet AtPly AfterPly KeptAfter) AfterPly fits (λ h. sound h.is_in.is_in) quiets reaches1 t5 in
       let check_over = union_over (mask_tracks p m) (name ply m kind.Check) (free m) (bear_items rules (other side) m calm) a3 check (bear_have (other side) calm game) t3 in
       let reply_over = union_over (mask_tracks p m) (name ply m kind.Reply) (free m) (pre_items rules side m quiet reach1) a5 reply (pre_have side quiet reach1 game) t5 in
-      let joined = together-members (mask_tracks p m) (name ply m kind.Lost) (free m) check reply b5 s check_over reply_over r5 (tuple_of q) in (
+      let joined = union_of_two-members (mask_tracks p m) (name ply m kind.Lost) (free m) check reply b5 s check_over reply_over r5 (tuple_of q) in (
         λ h. elim (joined.0 h) [ inl c ↦ inl (checks.0 c) | inr r ↦ inr (replies.0 r) ],
         λ h. elim h [ inl c ↦ joined.1 (inl (checks.1 c)) | inr r ↦ joined.1 (inr (replies.1 r)) ],
       )

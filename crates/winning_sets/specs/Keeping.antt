@@ -7,13 +7,13 @@ use Rattle.mate_plan.specs.Levels.{Names}
 use Rattle.mate_plan.specs.Named.{AnswersBy, Named}
 use Rattle.mate_plan.specs.Plan as plan
 use Rattle.mate_plan.specs.Plan.{Level}
-use Rattle.mate_plan.specs.declared.bench.Bench.{Bench}
-use Rattle.mate_plan.specs.declared.bench.Work.{Work}
+use Rattle.mate_plan.specs.declared.bench.PlanContext.{PlanContext}
+use Rattle.mate_plan.specs.declared.bench.PlanState.{PlanState}
 use Rattle.mate_plan.specs.declared.names.PartName.{PartName}
 use Rattle.winning_sets.specs.declared.kept.Keeping.{Keeping}
 
 -- over the old sets the program is answered by the names of levels among the new ones
-abbrev pub AnswersLevels : Bench → Work → Work → Named (List Level) → Result (Vec Names Global) (PlanError PartName)
+abbrev pub AnswersLevels : PlanContext → PlanState → PlanState → Named (List Level) → Result (Vec Names Global) (PlanError PartName)
     → Type 0
 AnswersLevels bench old new program result =
     AnswersBy bench old program (λ kept. map (level_on bench new.sets) kept.items) result

@@ -8,7 +8,8 @@ ghost use Rattle.winning_sets.specs.Keeping.{AnswersLevels};
 
 use crate::turns::side_at;
 use mate_plan::{
-    Bench, LevelNames, Losing, PartName, Winning, Work, lost_level, no_level, win_level,
+    LevelNames, LoserLevel, PartName, PlanContext, PlanState, WinnerLevel, lost_level, no_level,
+    win_level,
 };
 use set_plan::PlanError;
 use std::alloc::AllocError;
@@ -35,8 +36,8 @@ struct Keeping<'a> {
 
 /// What is kept at a ply, so many plies before the last one, from what is reached at this ply and the next, and what is kept at the next.
 fn kept_at(
-    bench: &Bench,
-    work: &mut Work,
+    bench: &PlanContext,
+    work: &mut PlanState,
     from: &Keeping,
 ) -> Result<LevelNames, PlanError<PartName>>
     requires ply { from.now.ply ≤ 41 }
@@ -49,7 +50,7 @@ fn kept_at(
 {
     let side = side_at(bench.position.turn(), from.ply);
     if from.left % 2 == 0 {
-        let winning = Winning {
+        let winning = WinnerLevel {
             side,
             ply: from.ply,
             reach: from.reach,
@@ -57,7 +58,7 @@ fn kept_at(
         };
         win_level(bench, work, &winning)
     } else {
-        let losing = Losing {
+        let losing = LoserLevel {
             side,
             ply: from.ply,
             reach: from.reach,
@@ -70,8 +71,8 @@ fn kept_at(
 
 /// What is kept at each ply, from what is reached at each ply. Nothing is kept at the last one.
 pub(crate) fn kept_levels(
-    bench: &Bench,
-    work: &mut Work,
+    bench: &PlanContext,
+    work: &mut PlanState,
     reach: &[LevelNames],
 ) -> Result<Vec<LevelNames>, PlanError<PartName>>
     requires some { 1 ≤ length reach.now }

@@ -8,7 +8,7 @@ use auto_core::Auto;
 use chess_game::Position;
 use lin_formula::SetId;
 use mate_plan::{LevelNames, mask_tracks};
-use set_plan::Sets;
+use set_plan::SetStore;
 use std::alloc::{AllocError, Global};
 
 /// For each of the masks the set without a tuple.
@@ -25,7 +25,7 @@ pub(crate) fn empty_sets(alloc: Global, p: &Position, masks: &[u8]) -> Result<Ve
 }
 
 /// The set of a name, or the other one where there is no name.
-pub(crate) fn lent<'a>(sets: &'a Sets, other: &'a Auto, id: Option<SetId>) -> &'a Auto
+pub(crate) fn lent<'a>(sets: &'a SetStore, other: &'a Auto, id: Option<SetId>) -> &'a Auto
     requires { IfSome id (λ k. k.0 < length sets.now) }
     ensures { result.now ≡ set_or sets.now other.now id }
 {
@@ -38,7 +38,7 @@ pub(crate) fn lent<'a>(sets: &'a Sets, other: &'a Auto, id: Option<SetId>) -> &'
 /// Copies of the sets of the names, and of the others where there is no name.
 pub(crate) fn lent_sets(
     alloc: Global,
-    sets: &Sets,
+    sets: &SetStore,
     others: &[Auto],
     names: &[Option<SetId>],
 ) -> Result<PlySets, AllocError>
@@ -55,7 +55,7 @@ pub(crate) fn lent_sets(
 /// Copies of the sets of the names at each ply.
 pub(crate) fn copied(
     alloc: Global,
-    sets: &Sets,
+    sets: &SetStore,
     others: &[Auto],
     levels: &[LevelNames],
 ) -> Result<Vec<PlySets>, AllocError>

@@ -15,7 +15,9 @@ use auto_core::Auto;
 use chess_game::{Position, Side};
 use limits::{Budget, MOST_MOVES};
 use mask_sets::place_of_mask;
-use mate_plan::{Bench, LevelNames, PartName, Reaching, Work, point_level, reach_level};
+use mate_plan::{
+    LevelNames, PartName, PlanContext, PlanState, ReachedLevel, point_level, reach_level,
+};
 use rule_formula::masks;
 use set_plan::PlanError;
 use std::alloc::{AllocError, Global};
@@ -28,7 +30,7 @@ pub struct Solver {
     position: Position,
     winner: Side,
     /// Its sets are those of the levels, and after them what an unfinished answer has left.
-    work: Work,
+    work: PlanState,
     /// The number of sets of the levels.
     count: u32,
     masks: Vec<u8>,
@@ -69,7 +71,7 @@ impl Solver {
             alloc,
             position: *p,
             winner,
-            work: Work::new(alloc, budget),
+            work: PlanState::new(alloc, budget),
             count: 0,
             masks: Vec::new(alloc),
             empties: Vec::new(alloc),
@@ -205,7 +207,7 @@ impl Solver {
     {
         let all = masks(self.alloc, &self.position)?;
         let empties = empty_sets(self.alloc, &self.position, all.as_slice())?;
-        let bench = Bench {
+        let bench = PlanContext {
             alloc: self.alloc,
             position: &self.position,
             masks: all.as_slice(),
@@ -228,12 +230,12 @@ impl Solver {
     {
         let ply = self.levels.len() as u8;
         let side = side_at(self.position.turn(), ply - 1);
-        let bench = Bench {
+        let bench = PlanContext {
             alloc: self.alloc,
             position: &self.position,
             masks: self.masks.as_slice(),
         };
-        let from = Reaching {
+        let from = ReachedLevel {
             side,
             ply,
             level: &self.levels[ply as usize - 1],
@@ -255,7 +257,7 @@ impl Solver {
         ensures same { self.new ≡ self.old }
     {
         let levels = &self.levels.as_slice()[..last as usize + 1];
-        let bench = Bench {
+        let bench = PlanContext {
             alloc: self.alloc,
             position: &self.position,
             masks: self.masks.as_slice(),

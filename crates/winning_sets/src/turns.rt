@@ -5,7 +5,7 @@ ghost use Rattle.mate_plan.specs.PlanOf.{last_ply as last_of};
 
 use chess_game::Side;
 use limits::MOST_MOVES;
-use mate_plan::waits;
+use mate_plan::plies_before_turn;
 
 /// Whose turn it is after so many moves.
 pub(crate) fn side_at(first: Side, ply: u8) -> Side
@@ -20,5 +20,5 @@ pub(crate) fn last_ply(winner: Side, first: Side, moves: u8) -> u8
     ensures last { result ≡ last_of winner first moves }
     ensures few { result ≤ 41 }
 {
-    2 * moves + waits(winner, first)
+    2 * moves + plies_before_turn(winner, first)
 }

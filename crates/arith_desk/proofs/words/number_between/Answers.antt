@@ -1,6 +1,6 @@
 use Rattle.std.proofs.Common.{sym, ◌∙◌, arith}
 use Rattle.std.proofs.lemmas.Int.{ints}
-use Rattle.line_fields.proofs.Signed.{same_number}
+use Rattle.text_fields.proofs.Signed.{same_number}
 use Rattle.arith_desk.proofs.Signed.{between_fits}
 use Rattle.arith_desk.proofs.words.number_between.Goals as goal
 

@@ -12,7 +12,7 @@ returns-then-branch-clause-left g c =
 
 pub returns-clause-way : goal.returns-clause-way
 returns-clause-way g c =
-    IsTrailIn-keeps c.in_ok-give_own.ensures.kept
+    IsTrailIn-keeps c.in_ok-assign_new_class.ensures.kept
     (c.in_ok-turn_to.ensures.way (length (g.R.Rows.places c.args.rows.now c.args.merging.now.led.seen)) c.requires.new.within c.requires.next c.requires.way)
 
 pub returns-clause-left : goal.returns-clause-left

@@ -20,15 +20,15 @@ pub first_and_picked-requires : goal.first_and_picked-requires
 first_and_picked-requires c =
     rw c.diagrams-from.ensures.nodes.nodes.rows_size (order_within c.requires.canonical c.requires.order)
 
-pub lead_nodes-requires-clause-known : goal.lead_nodes-requires-clause-known
-lead_nodes-requires-clause-known c =
+pub mapped_nodes-requires-clause-known : goal.mapped_nodes-requires-clause-known
+mapped_nodes-requires-clause-known c =
     let nodes = c.in_ok-nodes.ensures in
     let p : ArePlaces c.args.canon.now c.args.order.now (length c.args.a.now.accept) c.in_ok-table.table.items = rw c.states-states.ensures.states at c.in_ok-table.ensures in
     rw (c.diagrams-from.ensures.shapes, c.as_slice.ensures.value, nodes.is)
     (all_known c.diagrams-from.ensures.nodes c.requires.canonical c.requires.order p.are_numbers p.are_class_numbers nodes.are_picked)
 
-pub lead_nodes-requires-clause-leaves : goal.lead_nodes-requires-clause-leaves
-lead_nodes-requires-clause-leaves c =
+pub mapped_nodes-requires-clause-leaves : goal.mapped_nodes-requires-clause-leaves
+mapped_nodes-requires-clause-leaves c =
     let nodes = c.in_ok-nodes.ensures in
     let p : ArePlaces c.args.canon.now c.args.order.now (length c.args.a.now.accept) c.in_ok-table.table.items = rw c.states-states.ensures.states at c.in_ok-table.ensures in
     rw (c.diagrams-from.ensures.shapes, c.as_slice.ensures.value, c.as_slice-2.ensures.value, nodes.is)
@@ -49,7 +49,7 @@ over_rows-requires-clause-rows c =
     let p : ArePlaces c.args.canon.now c.args.order.now (length c.args.a.now.accept) c.in_ok-table.table.items = rw c.states-states.ensures.states at c.in_ok-table.ensures in
     let led = rw (c.diagrams-from.ensures.shapes, c.as_slice.ensures.value, c.as_slice-2.ensures.value, nodes.is) at c.in_ok-rows.ensures.led in
     record {
-      are_rows = AreRows-made c.diagrams-from.ensures.nodes c.requires.canonical c.requires.order p.are_numbers p.are_class_numbers nodes.are_picked c.lead_nodes.new.to c.in_ok-rows.rows.items led;
+      are_rows = AreRows-made c.diagrams-from.ensures.nodes c.requires.canonical c.requires.order p.are_numbers p.are_class_numbers nodes.are_picked c.mapped_nodes.new.to c.in_ok-rows.rows.items led;
     }
 
 pub returns : goal.returns
@@ -60,4 +60,4 @@ returns c =
     let m = c.in_ok-m.ensures in
     subst (IsQuotientBy c.args.a.now c.args.canon.now c.args.order.now) (sym m.is)
     (IsQuotientBy-made c.diagrams-from.ensures.nodes c.requires.canonical c.requires.order
-    p.are_numbers p.are_class_numbers nodes.are_picked c.lead_nodes.new.to c.in_ok-rows.rows.items led m.flags m.are_flags)
+    p.are_numbers p.are_class_numbers nodes.are_picked c.mapped_nodes.new.to c.in_ok-rows.rows.items led m.flags m.are_flags)

@@ -7,7 +7,7 @@ use Rattle.auto_reduce.proofs.unmet.first_met.Goals as goal
 
 pub returns-clause-adds : goal.returns-clause-adds
 returns-clause-adds c =
-    let shapes = c.lead_nodes.new.to in
+    let shapes = c.mapped_nodes.new.to in
     let nodes = c.in_ok-led.led.items in
     let leaves = c.in_ok-leaves.leaves.items in
     let added = rw (c.new-order.ensures, c.as_slice.ensures.value) at c.in_ok-add_all.ensures.adds in

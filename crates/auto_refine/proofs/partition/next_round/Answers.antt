@@ -16,15 +16,15 @@ round-requires-clause-led c =
     let f = c.requires.refined in
     let classes = old.partition.classes.items in
     let led = old.led.items in
-    let next = c.lead_again.new.led in
-    let again = rw (c.as_slice.ensures.value, c.as_mut_slice.ensures.value) at c.in_ok-lead_again.ensures.led in
-    let rows = AreLedRows-again f.sound.partition.states f.size f.led c.lead_again.ensures.grows again in
+    let next = c.remap_rows.new.led in
+    let again = rw (c.as_slice.ensures.value, c.as_mut_slice.ensures.value) at c.in_ok-remap_rows.ensures.led in
+    let rows = AreLedRows-again f.sound.partition.states f.size f.led c.remap_rows.ensures.grows again in
     let len : length led ≡ old.led.len = search rules in
     let whole = take_whole old.led.len next (drop (length next) led) (again.size ∙ len) in
     record {
       sound = f.sound;
       listing = f.listing;
-      led = subst (AreLedRows a c.lead_again.new.diagrams classes) (sym whole) rows;
+      led = subst (AreLedRows a c.remap_rows.new.diagrams classes) (sym whole) rows;
     }
 
 pub round-requires-clause-settled : goal.round-requires-clause-settled
@@ -35,10 +35,10 @@ round-requires-clause-settled c =
     let classes = old.partition.classes.items in
     let representatives = old.listing.representatives.items in
     let led = old.led.items in
-    let next = c.lead_again.new.led in
+    let next = c.remap_rows.new.led in
     let stale = c.args.stale.now in
-    let again = rw (c.as_slice.ensures.value, c.as_mut_slice.ensures.value) at c.in_ok-lead_again.ensures.led in
-    let kept = AreSettled-follow a c.lead_again.new.diagrams classes old.partition.count representatives stale led next f.sound.partition.states
+    let again = rw (c.as_slice.ensures.value, c.as_mut_slice.ensures.value) at c.in_ok-remap_rows.ensures.led in
+    let kept = AreSettled-follow a c.remap_rows.new.diagrams classes old.partition.count representatives stale led next f.sound.partition.states
     f.sound.partition.within f.listing.members f.settled again in
     let len : length led ≡ old.led.len = search rules in
     let whole = take_whole old.led.len next (drop (length next) led) (again.size ∙ len) in

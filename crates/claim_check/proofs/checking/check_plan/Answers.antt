@@ -2,7 +2,7 @@ use Rattle.std.proofs.Common.{ℕ, ◌≤◌, List, None, refl, sym, ◌∙◌, 
 use Rattle.std.proofs.lemmas.List.Elements.{All-same}
 use Rattle.std.proofs.lemmas.Result.{err_from_is_err_and}
 use Rattle.set_plan.specs.Outcome.{Ends}
-use Rattle.mate_plan.specs.Turns.{waits}
+use Rattle.mate_plan.specs.Turns.{plies_before_turn}
 use Rattle.claim_plan.specs.CheckPlan.{and_then, check_first, check_plan, check_ply, check_sets, for_each}
 use Rattle.claim_check.specs.Ready.{claim_in}
 use Rattle.claim_check.proofs.FindLemmas.{found_in, left_after, left_finds, none_found, stopped_in}
@@ -48,7 +48,7 @@ returns-in_err-sets c =
     let d = claim_in c.args.claim.now in
     let budget = c.args.work.now.memo.budget in
     let sets = for_each plies (check_sets d) in
-    let first = check_first d (waits d.winner d.position.turn) in
+    let first = check_first d (plies_before_turn d.winner d.position.turn) in
     let replies = for_each plies (check_ply d) in
     let leads = plan_leads d budget plies are in
     let e = err_from_is_err_and c.from_residual-in_err-sets.result c.from_residual-in_err-sets.ensures.1 in
@@ -62,7 +62,7 @@ returns-then-is_some c =
     let d = claim_in c.args.claim.now in
     let budget = c.args.work.now.memo.budget in
     let sets = for_each plies (check_sets d) in
-    let first = check_first d (waits d.winner d.position.turn) in
+    let first = check_first d (plies_before_turn d.winner d.position.turn) in
     let replies = for_each plies (check_ply d) in
     let leads = plan_leads d budget plies are in
     found_in sets (and_then first replies) (check_plan d) budget budget refl leads c.in_ok-sets.sets (sym c.is_some.ensures ∙ c.if-is_some.true) c.in_ok-sets.ensures.finds
@@ -75,7 +75,7 @@ returns-in_err-first c =
     let d = claim_in c.args.claim.now in
     let budget = c.args.work.now.memo.budget in
     let sets = for_each plies (check_sets d) in
-    let first = check_first d (waits d.winner d.position.turn) in
+    let first = check_first d (plies_before_turn d.winner d.position.turn) in
     let replies = for_each plies (check_ply d) in
     let leads = plan_leads d budget plies are in
     let after_sets = left_after sets (and_then first replies) (check_plan d) budget budget refl leads c.in_ok-sets.sets (sym c.is_some.ensures ∙ c.if-is_some.false) c.in_ok-sets.ensures.finds in
@@ -90,7 +90,7 @@ returns-then-is_some-2 c =
     let d = claim_in c.args.claim.now in
     let budget = c.args.work.now.memo.budget in
     let sets = for_each plies (check_sets d) in
-    let first = check_first d (waits d.winner d.position.turn) in
+    let first = check_first d (plies_before_turn d.winner d.position.turn) in
     let replies = for_each plies (check_ply d) in
     let leads = plan_leads d budget plies are in
     let after_sets = left_after sets (and_then first replies) (check_plan d) budget budget refl leads c.in_ok-sets.sets (sym c.is_some.ensures ∙ c.if-is_some.false) c.in_ok-sets.ensures.finds in
@@ -105,7 +105,7 @@ returns c =
     let d = claim_in c.args.claim.now in
     let budget = c.args.work.now.memo.budget in
     let sets = for_each plies (check_sets d) in
-    let first = check_first d (waits d.winner d.position.turn) in
+    let first = check_first d (plies_before_turn d.winner d.position.turn) in
     let replies = for_each plies (check_ply d) in
     let leads = plan_leads d budget plies are in
     let after_sets = left_after sets (and_then first replies) (check_plan d) budget budget refl leads c.in_ok-sets.sets (sym c.is_some.ensures ∙ c.if-is_some.false) c.in_ok-sets.ensures.finds in

@@ -27,7 +27,7 @@ has_first_move-requires c =
 pub returns-clause-finds : goal.returns-clause-finds
 returns-clause-finds c =
     let d = claim_in c.args.claim.now in
-    let r = c.judged_by.result in
+    let r = c.failed_rule_by.result in
     let level = level_in d.position c.claimed_level.new.work.sets c.in_ok-level.level in
     let asked : Position → Program Bool = λ p. has_first_move (rules_of p) p.turn (mask_of p) (tuple_of p) (level_in p c.claimed_level.new.work.sets c.in_ok-level.level) in
     let At : Position → Type 0 = λ p. Finds (holds_by c.first_rule-rule.result (asked p)) c.claimed_level.new.work.memo.budget r in
@@ -37,4 +37,4 @@ returns-clause-finds c =
     subst Moves c.moves.ensures.moves
     (moving_finds d c.args.work.now.memo.budget c.moves.result r c.if-moves-eq0.false c.requires.turn level c.in_ok-level.ensures.level
     (subst By c.first_rule-rule.ensures (subst Within c.in_ok-level.ensures.later.budget
-    (subst At c.bench-bench.ensures.position (c.judged_by.ensures (asked c.bench-bench.result.position.now) c.claimed_level.new.work.memo.budget c.has_first_move.ensures.answers)))))
+    (subst At c.bench-bench.ensures.position (c.failed_rule_by.ensures (asked c.bench-bench.result.position.now) c.claimed_level.new.work.memo.budget c.has_first_move.ensures.answers)))))

@@ -15,6 +15,6 @@ pub returns : goal.returns
 returns c =
     let p = c.args.claim.now.position in
     let s = claimed_level (claim_in c.args.claim.now) 0 (mask_of p) in
-    rw (c.judged.ensures, c.first_rule.ensures)
+    rw (c.failed_rule.ensures, c.first_rule.ensures)
     (λ budget. holds_by-ends budget (rule_at 0 (mask_of p) rule.First) (Ask (Has s (tuple_of p)) (Give true) (Give false)) c.is_claimed.result
     (asked_ends budget (Has s (tuple_of p)) (Member s (tuple_of p)) c.is_claimed.result c.is_claimed.ensures (λ h. h) (λ h. h)))

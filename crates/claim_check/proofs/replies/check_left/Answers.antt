@@ -31,7 +31,7 @@ returns-clause-finds c =
     let r = c.args.replies.now in
     let budget = c.args.work.now.memo.budget in
     let sets = c.args.work.now.sets in
-    let result = c.judged_by.result in
+    let result = c.failed_rule_by.result in
     let asked : Side → Position → Program Bool = λ s q. are_answered (rules_of q) s (r.ply + 1) (level_in q sets r.reached) (level_in q sets r.later) c.args.mask in
     let Of : Side → Type 0 = λ s. Finds (holds_by c.rule_at.result (asked s c.bench-bench.result.position.now)) budget result in
     let At : Position → Type 0 = λ q. Finds (holds_by c.rule_at.result (asked w q)) budget result in
@@ -41,7 +41,7 @@ returns-clause-finds c =
     let later = claimed_level (claim_in c.args.claim.now) (r.ply + 2) in
     let Next : ℕ → Type 0 = λ k. Finds (check_left (rules_of p) w k reached later c.args.mask) budget result in
     let next : r.ply + 1 ≡ suc r.ply = omega arith in
-    let told = c.judged_by.ensures (asked c.winner.result c.bench-bench.result.position.now) budget c.are_answered.ensures.answers in
+    let told = c.failed_rule_by.ensures (asked c.winner.result c.bench-bench.result.position.now) budget c.are_answered.ensures.answers in
     subst Next next
     (subst Into c.requires.later_is
     (subst By c.rule_at.ensures

@@ -34,11 +34,11 @@ returns-clause-finds c =
     let r = c.args.replies.now in
     let budget = c.args.work.now.memo.budget in
     let sets = c.args.work.now.sets in
-    let result = c.judged_by.result in
+    let result = c.failed_rule_by.result in
     let asked : Side → Position → Program Bool = λ s q. have_replies (rules_of q) s r.ply (level_in q sets r.claimed) (level_in q sets r.reached) c.args.mask in
     let Of : Side → Type 0 = λ s. Finds (holds_by c.rule_at.result (asked s c.bench-bench.result.position.now)) budget result in
     let At : Position → Type 0 = λ q. Finds (holds_by c.rule_at.result (asked w q)) budget result in
     let By : RuleAt → Type 0 = λ f. Finds (holds_by f (asked w p)) budget result in
     let From : Level → Type 0 = λ l. Finds (holds_by (rule_at r.ply c.args.mask rule.Stale) (have_replies (rules_of p) w r.ply l (level_in p sets r.reached) c.args.mask)) budget result in
-    let told = c.judged_by.ensures (asked c.other.result c.bench-bench.result.position.now) budget c.have_replies.ensures.answers in
+    let told = c.failed_rule_by.ensures (asked c.other.result c.bench-bench.result.position.now) budget c.have_replies.ensures.answers in
     subst From c.requires.replies.claimed_is (subst By c.rule_at.ensures (subst At c.bench-bench.ensures.position (subst Of (c.other.ensures ∙ ap other c.winner.ensures) told)))

@@ -25,6 +25,6 @@ returns-clause-finds c =
     let stage = c.args.at.now.stage in
     let budget = c.args.work.now.memo.budget in
     let asked : Position → Program Bool = λ p. are_safe (rules_of p) stage.side stage.ply stage.mask (level_in p c.args.work.now.sets c.args.at.now.level.now stage.mask) in
-    let By : RuleAt → Type 0 = λ f. Finds (holds_by f (asked c.args.claim.now.position)) budget c.judged_by.result in
-    let At : Position → Type 0 = λ p. Finds (holds_by c.rule_at-rule.result (asked p)) budget c.judged_by.result in
-    subst By c.rule_at-rule.ensures (subst At c.bench-bench.ensures.position (c.judged_by.ensures (asked c.bench-bench.result.position.now) budget c.are_safe.ensures.answers))
+    let By : RuleAt → Type 0 = λ f. Finds (holds_by f (asked c.args.claim.now.position)) budget c.failed_rule_by.result in
+    let At : Position → Type 0 = λ p. Finds (holds_by c.rule_at-rule.result (asked p)) budget c.failed_rule_by.result in
+    subst By c.rule_at-rule.ensures (subst At c.bench-bench.ensures.position (c.failed_rule_by.ensures (asked c.bench-bench.result.position.now) budget c.are_safe.ensures.answers))

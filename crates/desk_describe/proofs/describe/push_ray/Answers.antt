@@ -1,7 +1,7 @@
 use Rattle.std.proofs.Common.{[], Err, inl, inr, refl, rules, sym, subst}
 use Rattle.std.proofs.lemmas.List.{append-nil}
 use Rattle.game_rules.specs.Game.{Position}
-use Rattle.game_session.proofs.FirstLemmas.{firsts_ray}
+use Rattle.winner_session.proofs.FirstLemmas.{firsts_ray}
 use Rattle.move_choice.specs.Aims.{HasRay, IsMover}
 use Rattle.desk_solve.proofs.Listing.{not_so}
 use Rattle.desk_describe.specs.Describe.{RayTells}

@@ -1,5 +1,5 @@
 use Rattle.std.proofs.Common.{rules}
-use Rattle.file_writing.specs.Written.{most_bytes}
+use Rattle.strategy_writer.specs.Written.{most_bytes}
 use Rattle.desk_files.proofs.Shelves.{found_file, long_file, no_file, some_files}
 use Rattle.desk_files.proofs.file_claim.fetch.Goals as goal
 

@@ -1,7 +1,7 @@
 use Rattle.std.proofs.Common.{◌≡◌, Err, ap, subst}
 use Rattle.std.proofs.lemmas.Result.{err_from_is_err_and}
-use Rattle.file_writing.proofs.KeptFiles.{file_is_kept}
-use Rattle.file_writing.specs.SolvedFile.{IsFileRefusal}
+use Rattle.strategy_writer.proofs.KeptFiles.{file_is_kept}
+use Rattle.strategy_writer.specs.SolvedFile.{IsFileRefusal}
 use Rattle.strategy_file.specs.declared.version.Version.TheVariants.{Shared}
 use Rattle.winning_sets.specs.Claimed.{IsValidBy}
 use Rattle.winning_sets.specs.Solve.{IsSolution}

@@ -1,8 +1,8 @@
 use Rattle.std.proofs.Common.{◌≡◌, Err, ap, subst}
 use Rattle.std.proofs.lemmas.Result.{err_from_is_err_and}
-use Rattle.file_writing.proofs.WrittenClaims.{written_is_same}
+use Rattle.strategy_writer.proofs.WrittenClaims.{written_is_same}
 use Rattle.strategy_file.specs.Claims.{claim_of}
-use Rattle.file_writing.specs.ReducedClaims.{IsWriteClaimRefusal}
+use Rattle.strategy_writer.specs.ReducedClaims.{IsWriteClaimRefusal}
 use Rattle.desk_files.specs.Keeping.{unkept, unwritten}
 use Rattle.desk_files.specs.Migrate.{IsMigrated, migrated_file}
 use Rattle.desk_files.specs.declared.no_file.NoFile.TheVariants.{Fault}

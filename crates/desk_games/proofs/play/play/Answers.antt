@@ -1,7 +1,7 @@
 use Rattle.std.proofs.Common.{◌≡◌, ℕ, List, inl, inr, refl, ap, ◌∙◌}
 use Rattle.std.specs.Prelude.{Err}
 use Rattle.desk_base.specs.Lines.{Lines}
-use Rattle.game_report.specs.WinnerRules.{winner_rules}
+use Rattle.winner_player.specs.WinnerRules.{winner_rules}
 use Rattle.desk_report.specs.Outcome.{NeverMisses, Report, done_with}
 use Rattle.desk_games.specs.Play.{LacksAtFirst, PlayReports, first_match}
 use Rattle.desk_verdict.specs.Verdict.{FitsBudget, HasNothingToPlay}

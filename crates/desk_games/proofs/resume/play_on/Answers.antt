@@ -1,6 +1,6 @@
 use Rattle.std.proofs.Common.{ℕ, List, [], refl, arith, ◌∙◌}
 use Rattle.desk_base.specs.Lines.{Lines}
-use Rattle.game_report.specs.WinnerRules.{winner_rules}
+use Rattle.winner_player.specs.WinnerRules.{winner_rules}
 use Rattle.winning_sets.specs.Claimed.{claim_of}
 use Rattle.desk_report.specs.Outcome.{NeverMisses, Report}
 use Rattle.desk_games.specs.Resume.{GameReports, LacksBefore, claimed_match}

@@ -1,7 +1,7 @@
 use Rattle.std.proofs.Common.{◌≡◌, ◌↔◌, ◌+◌, ℕ, suc, Bool, true, false, cond, IsTrue, ◌∙◌, ap, sym, subst, arith}
 use Rattle.std.specs.Int.{from_bool}
 use Rattle.std.proofs.lemmas.Result.{err_from_is_err_and}
-use Rattle.desk_words.specs.declared.order.TheConstants.{DEFAULT_STATES}
+use Rattle.desk_args.specs.declared.order.TheConstants.{DEFAULT_STATES}
 use Rattle.game_rules.specs.Game.{Value}
 use Rattle.desk_solve.specs.Drill.{DrillFinds, drilled, next_state, problem_of, state_after}
 use Rattle.desk_verdict.specs.Verdict.{ExceedsAt, FitsBudget}

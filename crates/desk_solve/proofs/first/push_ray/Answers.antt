@@ -2,7 +2,7 @@ use Rattle.std.proofs.Common.{◌++◌, inr, refl, subst, ap, ◌∙◌}
 use Rattle.game_rules.specs.Game.{Position}
 use Rattle.move_choice.specs.Aims.{HasRay}
 use Rattle.chess_game.specs.declared.way.Frame.{Frame}
-use Rattle.game_session.specs.Firsts.{IsFirstLine}
+use Rattle.winner_session.specs.Firsts.{IsFirstLine}
 use Rattle.desk_solve.specs.First.{line_of}
 use Rattle.desk_solve.proofs.Listing.{no_line, no_ray, not_so}
 use Rattle.desk_solve.proofs.first.push_ray.Goals as goal

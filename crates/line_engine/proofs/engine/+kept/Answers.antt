@@ -5,7 +5,7 @@ use Rattle.lin_formula.specs.SetOf.{Table}
 use Rattle.rule_formula.specs.declared.opt.Opt.{Opt}
 use Rattle.rule_formula.specs.Options.{is_side}
 use Rattle.rule_formula.specs.Placed.{is_live}
-use Rattle.path_formula.specs.Paths.{mask_at, turn_at}
+use Rattle.line_formula.specs.Paths.{mask_at, turn_at}
 use Rattle.set_plan.specs.Outcome.{Ends, IsPlanError}
 use Rattle.set_plan.specs.Program.{each}
 use Rattle.set_plan.specs.Unite.{Made}

@@ -1,6 +1,6 @@
 use Rattle.std.proofs.Common.{suc, length}
 use Rattle.lin_formula.specs.TreeOf.{tree_of}
-use Rattle.path_formula.specs.Places.{home}
+use Rattle.line_formula.specs.Places.{home}
 use Rattle.line_engine.specs.Nodes.{position_of}
 use Rattle.line_engine.proofs.PartLemmas.{first_is, first_tree}
 use Rattle.line_engine.proofs.StepLemmas.{node_few}

@@ -4,9 +4,9 @@ use Rattle.lin_formula.specs.SetOf.{as_set}
 use Rattle.lin_formula.specs.Tree.{Tree}
 use Rattle.lin_formula.specs.TreeOf.{tree_of}
 use Rattle.track_word.specs.declared.atoms.Rel.TheVariants.{Eq}
-use Rattle.path_formula.specs.Atoms.{gap_tree}
-use Rattle.path_formula.specs.Places.{home}
-use Rattle.path_formula.specs.Rules.{across, capture_parts, upward}
+use Rattle.line_formula.specs.Atoms.{gap_tree}
+use Rattle.line_formula.specs.Places.{home}
+use Rattle.line_formula.specs.Rules.{across, capture_parts, upward}
 use Rattle.set_plan.specs.Outcome.{Ends}
 use Rattle.set_plan.specs.Program.{each}
 use Rattle.set_plan.specs.Unite.{Made}

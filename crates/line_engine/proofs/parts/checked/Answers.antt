@@ -3,7 +3,7 @@ use Rattle.std.specs.List.{All}
 use Rattle.lin_formula.specs.SetOf.{Nothing, Table}
 use Rattle.rule_formula.specs.Bearings.{bearings_of}
 use Rattle.rule_formula.specs.declared.opt.Bearing.{Bearing}
-use Rattle.path_formula.specs.Small.{AreTwo}
+use Rattle.line_formula.specs.Small.{AreTwo}
 use Rattle.line_engine.specs.Answers.{made_at}
 use Rattle.line_engine.specs.Nodes.{position_of}
 use Rattle.line_engine.proofs.BearingLemmas.{bearing_men, bearings_few}

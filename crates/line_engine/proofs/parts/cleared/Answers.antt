@@ -2,8 +2,8 @@ use Rattle.std.proofs.Common.{◌≡◌, ◌+◌, length, ◌∙◌, subst, arit
 use Rattle.std.proofs.lemmas.Result.{err_from_is_err_and}
 use Rattle.lin_formula.specs.SetOf.{as_set}
 use Rattle.rule_formula.specs.Placed.{is_live}
-use Rattle.path_formula.specs.Places.{home}
-use Rattle.path_formula.specs.Rules.{clear_parts}
+use Rattle.line_formula.specs.Places.{home}
+use Rattle.line_formula.specs.Rules.{clear_parts}
 use Rattle.set_plan.specs.Outcome.{Ends}
 use Rattle.set_plan.specs.Program.{each}
 use Rattle.line_plan.specs.Plan.{narrow}

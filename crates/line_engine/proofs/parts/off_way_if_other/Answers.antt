@@ -2,8 +2,8 @@ use Rattle.std.proofs.Common.{◌∷◌, [], Bool, List, length, Ok, sym, ◌∙
 use Rattle.std.specs.Prelude.{if◌then◌else◌}
 use Rattle.lin_formula.specs.SetOf.{as_set}
 use Rattle.lin_formula.specs.Tree.{Not, Tree}
-use Rattle.path_formula.specs.Places.{home}
-use Rattle.path_formula.specs.Rules.{on_way}
+use Rattle.line_formula.specs.Places.{home}
+use Rattle.line_formula.specs.Rules.{on_way}
 use Rattle.rule_formula.specs.Placed.{is_live}
 use Rattle.rule_formula.specs.Trees.{is_other}
 use Rattle.set_plan.specs.Program.{each}

@@ -2,7 +2,7 @@ use Rattle.std.proofs.Common.{◌+◌, ◌*◌, List, length, sym, ap, ◌∙◌
 use Rattle.std.specs.List.{All}
 use Rattle.lin_formula.specs.SetOf.{as_set}
 use Rattle.rule_formula.specs.declared.opt.Bearing.{Bearing}
-use Rattle.path_formula.specs.Small.{AreTwo}
+use Rattle.line_formula.specs.Small.{AreTwo}
 use Rattle.line_engine.specs.Answers.{made_at}
 use Rattle.line_engine.specs.Nodes.{position_of, safe_after}
 use Rattle.line_engine.proofs.BearingLemmas.{bearing_men, bearings_few}

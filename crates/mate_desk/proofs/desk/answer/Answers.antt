@@ -8,9 +8,9 @@ use Rattle.desk_solve.specs.Decide.{DecideReports}
 use Rattle.desk_solve.specs.First.{FirstReports, HasNoFirstMove}
 use Rattle.desk_solve.specs.Least.{LeastReports}
 use Rattle.desk_verdict.specs.Verdict.{HasNothingToPlay}
-use Rattle.desk_words.specs.Order.{IsOrderOf, Ordered, as_order}
-use Rattle.desk_words.specs.declared.order.Order.TheVariants.{Decide, Least, First, Describe, Play, Defend, Show}
-use Rattle.desk_words.specs.declared.order.TextOrder.{TextOrder}
+use Rattle.desk_args.specs.Order.{IsOrderOf, Ordered, as_order}
+use Rattle.desk_args.specs.declared.order.Order.TheVariants.{Decide, Least, First, Describe, Play, Defend, Show}
+use Rattle.desk_args.specs.declared.order.TextOrder.{TextOrder}
 use Rattle.mate_desk.specs.Show.{ShowReports}
 use Rattle.mate_desk.proofs.Reporting.{fault_ends, keep_ends, refused_ends, text_ends, unsound_ends}
 use Rattle.mate_desk.proofs.Rows.{text_order}

@@ -1,10 +1,10 @@
 use Rattle.std.proofs.Common.{◌<◌, map, string_bytes, refl, subst}
-use Rattle.desk_arith.specs.Arith.{ArithReports, IsBehindLine}
+use Rattle.desk_formula.specs.Arith.{ArithReports, IsBehindLine}
 use Rattle.desk_crowd.specs.Crowd.{CrowdSays, IsBehindCrowd}
 use Rattle.desk_solve.specs.Drill.{DrillReports}
-use Rattle.desk_words.specs.Order.{IsAsked, as_order}
-use Rattle.desk_words.specs.declared.order.Asked.{Asked}
-use Rattle.desk_words.specs.declared.order.Order.TheVariants.{Crowd, Check, Resume, Migrate, Drill, Arith}
+use Rattle.desk_args.specs.Order.{IsAsked, as_order}
+use Rattle.desk_args.specs.declared.order.Asked.{Asked}
+use Rattle.desk_args.specs.declared.order.Order.TheVariants.{Crowd, Check, Resume, Migrate, Drill, Arith}
 use Rattle.mate_desk.proofs.Reporting.{check_ends, lines_ends, lines_not_usage, migrate_ends, resume_ends, usage_ends, words_ends}
 use Rattle.mate_desk.proofs.Rows.{text_order}
 use Rattle.mate_desk.proofs.StatusLaws.{no_textless, ordered_not_usage, unused}

@@ -2,8 +2,8 @@ use Rattle.std.proofs.lemmas.Result.{err_from_is_err_and}
 use Rattle.period_sets.proofs.Starts.{repeating-of, runs-error}
 use Rattle.period_sets.proofs.description.describe_set.Goals as goal
 
-pub rests_of-requires : goal.rests_of-requires
-rests_of-requires c =
+pub residues_of-requires : goal.residues_of-requires
+residues_of-requires c =
     rw c.in_ok-set.ensures (repeating-of c.args.a.now c.args.budget c.in_ok-start.start c.in_ok-start.ensures.found)
 
 pub returns-in_err-runs-clause-err : goal.returns-in_err-runs-clause-err

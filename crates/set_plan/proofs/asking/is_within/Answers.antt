@@ -16,7 +16,7 @@ pub returns-in_err-left : goal.returns-in_err-left
 returns-in_err-left g c =
     let p = err_from_is_err_and c.from_residual.result c.from_residual.ensures.1 in
     let error =
-    Error-bind (plan.remainder c.args.tracks.now c.args.part (lent c.args.one) (lent c.args.other))
+    Error-bind (plan.difference_set c.args.tracks.now c.args.part (lent c.args.one) (lent c.args.other))
     (λ (rest : SetOf). Ask (Within (lent c.args.one) (lent c.args.other)) (Give true) (Give false)) c.args.budget c.in_err-left.field-0.0
     c.in_err-left.ensures.answers in
     rw (p.1, p.2) (record { answers = error })

@@ -33,5 +33,5 @@ invariant_of-result c =
           });
       left_side = rw c.in_ok-product.ensures.left (rw c.as_slice.ensures.value at c.in_ok-left_side.ensures);
       right_side = rw c.in_ok-product.ensures.right (rw c.as_slice-2.ensures.value at c.in_ok-right_side.ensures);
-      sinks = rw c.in_ok-product.ensures.absorbing c.requires.sinks;
+      deciding_states = rw c.in_ok-product.ensures.absorbing c.requires.deciding_states;
     }

@@ -15,7 +15,7 @@ invariant_of-self c = record {
   are_tracks = c.args.self.now.are_tracks;
   left_side = rw c.apply.ensures.sides c.args.self.now.left_side;
   right_side = rw c.apply.ensures.sides c.args.self.now.right_side;
-  sinks = rw c.apply.ensures.sides c.args.self.now.sinks;
+  deciding_states = rw c.apply.ensures.sides c.args.self.now.deciding_states;
 }
 
 pub returns-clause-row : goal.returns-clause-row

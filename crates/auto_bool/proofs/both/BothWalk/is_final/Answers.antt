@@ -5,11 +5,11 @@ use Rattle.auto_bool.proofs.both.BothWalk.is_final.Goals as goal
 
 pub accept_of-requires : goal.accept_of-requires
 accept_of-requires c =
-    (states_in _ _ _ _ c.args.self.now.left_side.valid c.args.self.now.right_side.valid c.args.self.now.sinks (c.as_slice.ensures ∙ c.pairs.ensures) c.requires.known c.requires.numbered).0
+    (states_in _ _ _ _ c.args.self.now.left_side.valid c.args.self.now.right_side.valid c.args.self.now.deciding_states (c.as_slice.ensures ∙ c.pairs.ensures) c.requires.known c.requires.numbered).0
 
 pub accept_of-requires-2 : goal.accept_of-requires-2
 accept_of-requires-2 c =
-    (states_in _ _ _ _ c.args.self.now.left_side.valid c.args.self.now.right_side.valid c.args.self.now.sinks (c.as_slice.ensures ∙ c.pairs.ensures) c.requires.known c.requires.numbered).1
+    (states_in _ _ _ _ c.args.self.now.left_side.valid c.args.self.now.right_side.valid c.args.self.now.deciding_states (c.as_slice.ensures ∙ c.pairs.ensures) c.requires.known c.requires.numbered).1
 
 pub returns : goal.returns
 returns c = (

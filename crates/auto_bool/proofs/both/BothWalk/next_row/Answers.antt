@@ -7,11 +7,11 @@ use Rattle.auto_bool.proofs.both.BothWalk.next_row.Goals as goal
 
 pub row_node-requires : goal.row_node-requires
 row_node-requires c =
-    (states_in _ _ _ _ c.args.self.now.left_side.valid c.args.self.now.right_side.valid c.args.self.now.sinks (c.as_slice.ensures ∙ c.pairs.ensures) c.requires.known c.requires.numbered).0
+    (states_in _ _ _ _ c.args.self.now.left_side.valid c.args.self.now.right_side.valid c.args.self.now.deciding_states (c.as_slice.ensures ∙ c.pairs.ensures) c.requires.known c.requires.numbered).0
 
 pub row_node-requires-2 : goal.row_node-requires-2
 row_node-requires-2 c =
-    (states_in _ _ _ _ c.args.self.now.left_side.valid c.args.self.now.right_side.valid c.args.self.now.sinks (c.as_slice.ensures ∙ c.pairs.ensures) c.requires.known c.requires.numbered).1
+    (states_in _ _ _ _ c.args.self.now.left_side.valid c.args.self.now.right_side.valid c.args.self.now.deciding_states (c.as_slice.ensures ∙ c.pairs.ensures) c.requires.known c.requires.numbered).1
 
 pub apply-requires-clause-read : goal.apply-requires-clause-read
 apply-requires-clause-read c = record {
@@ -24,7 +24,7 @@ invariant_of-self c = record {
   are_tracks = c.args.self.now.are_tracks;
   left_side = rw c.apply.ensures.sides c.args.self.now.left_side;
   right_side = rw c.apply.ensures.sides c.args.self.now.right_side;
-  sinks = rw c.apply.ensures.sides c.args.self.now.sinks;
+  deciding_states = rw c.apply.ensures.sides c.args.self.now.deciding_states;
 }
 
 pub returns-in_err-node-clause-kept : goal.returns-in_err-node-clause-kept

@@ -171,16 +171,16 @@ both-overflow_add-step t c =
     let size = size-connect c.args.pair.connective (tree_of c.args.pair.left.now) (tree_of c.args.pair.right.now) in
     record { fits = omega (arith, c.requires.room, left, right, size) }
 
-pub both-put_together-requires-clause-left : goal.both-put_together-requires-clause-left
-both-put_together-requires-clause-left t c =
+pub both-combine-requires-clause-left : goal.both-combine-requires-clause-left
+both-combine-requires-clause-left t c =
     let left = c.in_ok-left.ensures.ok in
     (left.auto, part-after c.in_ok-left.left.part left.auto left.has c.in_ok-right.ensures.ok.remembered.after c.compiled-2.ensures.grows)
 
-pub both-put_together-requires-clause-right : goal.both-put_together-requires-clause-right
-both-put_together-requires-clause-right t c = (c.in_ok-right.ensures.ok.auto, c.in_ok-right.ensures.ok.has)
+pub both-combine-requires-clause-right : goal.both-combine-requires-clause-right
+both-combine-requires-clause-right t c = (c.in_ok-right.ensures.ok.auto, c.in_ok-right.ensures.ok.has)
 
-pub both-put_together-requires-clause-room : goal.both-put_together-requires-clause-room
-both-put_together-requires-clause-room t c = λ a b has_left has_right.
+pub both-combine-requires-clause-room : goal.both-combine-requires-clause-room
+both-combine-requires-clause-room t c = λ a b has_left has_right.
     let left = lent-later c.in_ok-left.ensures.ok c.in_ok-right.ensures.ok.remembered.after c.compiled-2.ensures.grows has_left in
     let right = lent (rw c.compiled.ensures.grows.sets at c.in_ok-right.ensures.ok) has_right in
     rw (left.made.decides.tracks, right.made.decides.tracks)

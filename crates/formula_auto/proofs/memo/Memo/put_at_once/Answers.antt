@@ -2,8 +2,8 @@ use Rattle.std.proofs.Common.{Err, refl, ap}
 use Rattle.formula_auto.proofs.Chains.{next-fits, taken-now, stopped-now}
 use Rattle.formula_auto.proofs.memo.Memo.put_at_once.Goals as goal
 
-pub put_together-requires-clause-room : goal.put_together-requires-clause-room
-put_together-requires-clause-room c = next-fits c.requires.left.is c.requires.short c.requires.left.fits
+pub combine-requires-clause-room : goal.combine-requires-clause-room
+combine-requires-clause-room c = next-fits c.requires.left.is c.requires.short c.requires.left.fits
 
 pub returns-in-Ok-clause-ok : goal.returns-in-Ok-clause-ok
 returns-in-Ok-clause-ok c = record {

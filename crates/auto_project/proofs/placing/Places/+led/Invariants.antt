@@ -1,4 +1,0 @@
-use Rattle.auto_project.proofs.placing.Places.+led.Given as goal
-
-abbrev pub decreases-led : goal.decreases-led
-decreases-led l = l.node

@@ -1,8 +1,0 @@
-use Rattle.auto_search.specs.Entries.{BeginsAlong, KeepsLists}
-use Rattle.auto_search.proofs.met.Met.begin.Given as goal
-
-abbrev pub invariant-loop-slot : goal.invariant-loop-slot
-invariant-loop-slot l = record {
-  begins : BeginsAlong l.course l.self l.slot;
-  sizes : KeepsLists l.fn.self l.self;
-}

@@ -1,7 +1,0 @@
-use Rattle.std.proofs.Common.{subst}
-use Rattle.game_session.specs.Game.{Game}
-use Rattle.defender.specs.Defending.{seen, StandsAs}
-use Rattle.defender.proofs.defence.Defence.stand.Goals as goal
-
-pub returns-clause-stands : goal.returns-clause-stands
-returns-clause-stands c = subst (λ (h : Game). StandsAs (seen h) c.turn.result) c.can_move.ensures.kept c.turn.ensures

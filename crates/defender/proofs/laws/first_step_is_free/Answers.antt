@@ -1,5 +1,0 @@
-use Rattle.defender.proofs.FirstSteps.{first_is_free}
-use Rattle.defender.proofs.laws.first_step_is_free.Goals as goal
-
-pub returns : goal.returns
-returns c = first_is_free

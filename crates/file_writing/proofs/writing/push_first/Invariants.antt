@@ -1,9 +1,0 @@
-use Rattle.std.proofs.Common.{◌≡◌, ◌++◌}
-use Rattle.std.specs.Int.{w32, to_be_bytes}
-use Rattle.auto_core.specs.Automaton.{first_state, width}
-use Rattle.file_writing.specs.Written.{row_bytes}
-use Rattle.file_writing.proofs.RangeLemmas.{with_rest}
-use Rattle.file_writing.proofs.writing.push_first.Given as goal
-
-abbrev pub invariant-loop-letter : goal.invariant-loop-letter
-invariant-loop-letter l = with_rest (λ letter. to_be_bytes w32 (first_state l.set letter)) l.out.items (width l.set) l.letter ≡ l.initial.out.items ++ row_bytes (width l.set) (first_state l.set)

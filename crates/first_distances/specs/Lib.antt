@@ -1,0 +1,12 @@
+pub use Rattle.auto_core.specs.Automaton
+pub use Rattle.auto_core.specs.Integers
+pub use Rattle.auto_core.specs.Reduced
+pub use Rattle.auto_numbers.specs.Numbers
+pub use Rattle.lin_formula.specs.Tree
+pub use Rattle.formula_auto.specs.Step
+pub use Rattle.winning_sets.specs.Kept
+pub use Rattle.winning_sets.specs.Solve
+pub use Rattle.winner_session.specs.Firsts
+pub mod RayFormula
+pub mod FirstSet
+pub mod Laws

@@ -1,5 +1,0 @@
-use Rattle.first_sets.proofs.LawLemmas.{one_first_set}
-use Rattle.first_sets.proofs.laws.one_first_set.Goals as goal
-
-pub returns : goal.returns
-returns c = one_first_set

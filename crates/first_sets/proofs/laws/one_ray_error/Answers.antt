@@ -1,5 +1,0 @@
-use Rattle.first_sets.proofs.LawLemmas.{one_ray_error}
-use Rattle.first_sets.proofs.laws.one_ray_error.Goals as goal
-
-pub returns : goal.returns
-returns c = one_ray_error

@@ -1,5 +1,0 @@
-use Rattle.mask_sets.proofs.Masks.{mask_one}
-use Rattle.first_sets.proofs.masks.live_mask.Goals as goal
-
-pub returns : goal.returns
-returns c = mask_one c.mask.ensures

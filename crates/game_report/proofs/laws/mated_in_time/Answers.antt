@@ -1,5 +1,0 @@
-use Rattle.game_report.proofs.Played.{report_in_time}
-use Rattle.game_report.proofs.laws.mated_in_time.Goals as goal
-
-pub returns : goal.returns
-returns c = λ before lines s report valid value h. report_in_time s valid value before lines report h

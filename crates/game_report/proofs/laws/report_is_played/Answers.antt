@@ -1,5 +1,0 @@
-use Rattle.game_report.proofs.Played.{report_played}
-use Rattle.game_report.proofs.laws.report_is_played.Goals as goal
-
-pub returns : goal.returns
-returns c = λ before lines s report h. report_played s before lines report h

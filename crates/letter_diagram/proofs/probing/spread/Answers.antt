@@ -1,7 +1,0 @@
-use Rattle.std.proofs.Common.{refl}
-use Rattle.letter_diagram.specs.Probing.{spread_of}
-use Rattle.letter_diagram.proofs.probing.spread.Goals as goal
-
-pub returns : goal.returns
-unfolding spread_of
-returns c = refl

@@ -1,0 +1,33 @@
+-- Where men stand after the moves of a path, by the distances that are moved.
+use Rattle.std.specs.Prelude.{ℕ, ◌==◌, if◌then◌else◌, List, [], ◌∷◌, length, ℤ, pos, ◌+ℤ◌, ◌*ℤ◌, Option, Some, None}
+use Rattle.game_rules.specs.declared.men.Man.{Man}
+use Rattle.game_rules.specs.declared.men.Square.{Square}
+use Rattle.track_word.specs.Tracks.{Values}
+use Rattle.mask_sets.specs.Stock.{stock_man}
+use Rattle.rule_formula.specs.Trees.{man_square}
+use Rattle.line_formula.specs.declared.leg.Leg.{Leg}
+
+-- a square, or where there is none the middle of the board
+abbrev pub square_or : Option Square → Square
+square_or None = record { x = pos 0; y = pos 0 }
+square_or (Some z) = z
+
+-- where man k stands at first
+abbrev pub home : List Man → ℕ → Square
+home men k = square_or (man_square (stock_man men k))
+
+-- how far to the right, and up, one step of the leg brings man k
+abbrev pub step_x : ℕ → Leg → ℤ
+step_x k leg = if leg.man == k then leg.ray.dx else pos 0
+
+abbrev pub step_y : ℕ → Leg → ℤ
+step_y k leg = if leg.man == k then leg.ray.dy else pos 0
+
+-- the square of man k after the legs, the last of which stands first: from his first square so many steps along each of
+-- his own. The distance of the first leg is the value of variable 0, that of the second the value of variable 1, and so on
+abbrev pub place : (ℕ → Square) → List Leg → Values → ℕ → Square
+place first [] v k = first k
+place first (leg ∷ legs) v k = record {
+  x = (place first legs v k).x +ℤ (v (length legs) *ℤ step_x k leg);
+  y = (place first legs v k).y +ℤ (v (length legs) *ℤ step_y k leg);
+}

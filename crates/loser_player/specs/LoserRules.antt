@@ -1,0 +1,40 @@
+-- The rules of a game that the loser plays.
+use Rattle.std.specs.Prelude.{◌≡◌}
+use Rattle.game_rules.specs.Game.{other}
+use Rattle.play_loop.specs.Turns.{Rules}
+use Rattle.play_loop.specs.declared.ending.Ending.TheVariants as ending
+use Rattle.play_loop.specs.declared.player.GameState.{GameState}
+use Rattle.play_loop.specs.declared.player.GameState.TheVariants.{Over, LineDue, ToMove}
+use Rattle.winner_session.specs.Game.{Game}
+use Rattle.loser_session.specs.Defending.{DefenceMatch, DefencePick, IsDefence, StandsAs, moved, seen}
+use Rattle.loser_session.specs.declared.defence.Stand.{Stand}
+use Rattle.loser_session.specs.declared.defence.Stand.TheVariants.{Held, Stuck, Attack, Answer}
+
+-- how a game stands for who plays the loser
+abbrev pub standing_of : Stand → GameState
+standing_of Held = Over ending.Held
+standing_of Stuck = Over ending.Stuck
+standing_of Attack = LineDue
+standing_of Answer = ToMove
+
+-- the game stands so
+abbrev pub StandsFor : DefenceMatch → GameState → Type 0
+StandsFor g standing = (stand : Stand) × (standing ≡ standing_of stand) × StandsAs g stand
+
+-- the loser moves: the first of his moves, by man, ray and distance, that lead to positions from which the winner does
+-- not mate within the moves that he has left
+abbrev pub loser_rules : Rules DefenceMatch
+loser_rules =
+    record {
+      position = λ g. g.position;
+      moved = moved;
+      side = λ g. other g.winner;
+      Stands = StandsFor;
+      Picks = DefencePick;
+    }
+
+-- a defence is seen as the game
+pub record IsOfDefence (g : DefenceMatch) : Type 0 where
+  pub game : Game
+  pub defence : IsDefence game
+  pub same : seen game ≡ g

@@ -1,0 +1,37 @@
+//! Who is to move at a ply, and the sets that moves are to lead into there.
+ghost use Rattle.std.specs.Prelude.{◌≡◌, ◌<◌, length, true, false};
+ghost use Rattle.game_rules.specs.Game.{other};
+ghost use Rattle.mate_plan.specs.Plan.{turn_at};
+ghost use Rattle.loser_session.specs.Unwon.{sets_into as into_ply};
+
+use auto_core::Auto;
+use chess_game::Side;
+use winning_sets::{PlySets, Solved};
+
+/// Whose turn it is after so many moves.
+fn side_at(first: Side, ply: u8) -> Side
+    ensures { result ≡ turn_at first ply }
+{
+    if ply % 2 == 0 { first } else { first.other() }
+}
+
+/// Whether the winner is to move at a ply.
+pub(crate) fn is_winners(solved: &Solved, ply: u8) -> bool
+    ensures his { result ≡ true → turn_at solved.now.position.turn ply ≡ solved.now.winner }
+    ensures not_his { result ≡ false → turn_at solved.now.position.turn ply ≡ other solved.now.winner }
+{
+    side_at(solved.position().turn(), ply) == solved.winner()
+}
+
+/// The sets that moves are to lead into at a ply, where these are the sets of what is not won with the winner to move. With the loser to move nothing
+/// that is reached is won.
+pub(crate) fn sets_into<'a>(solved: &'a Solved, plies: &'a [PlySets], ply: u8) -> &'a [Auto]
+    requires { ply < length plies.now }
+    ensures { result.now ≡ into_ply solved.now plies.now ply }
+{
+    if is_winners(solved, ply) {
+        plies[ply as usize].as_slice()
+    } else {
+        solved.reached_sets(ply)
+    }
+}

@@ -1,5 +1,0 @@
-use Rattle.std.proofs.Common.{length}
-use Rattle.near_image.proofs.share.+open_ways.Given as goal
-
-abbrev pub decreases-open_ways : goal.decreases-open_ways
-decreases-open_ways l = length l.shifts.now

@@ -1,0 +1,12 @@
+pub use Rattle.track_word.specs.Tracks
+pub use Rattle.auto_core.specs.Automaton
+pub use Rattle.auto_core.specs.Integers
+pub use Rattle.lin_formula.specs.Tree
+pub use Rattle.lin_formula.specs.Holds
+pub use Rattle.formula_auto.specs.Step
+pub use Rattle.auto_shift.specs.Moved
+pub use Rattle.shift_bound.specs.Equations
+pub mod Image
+pub mod Laws
+pub mod Read
+pub mod LeftOut

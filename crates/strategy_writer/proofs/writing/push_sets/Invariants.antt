@@ -1,0 +1,8 @@
+use Rattle.std.proofs.Common.{◌≡◌, ◌++◌, map, take}
+use Rattle.std.specs.List.{flat_map}
+use Rattle.strategy_writer.specs.KeptClaims.{as_set}
+use Rattle.strategy_writer.specs.Written.{set_bytes}
+use Rattle.strategy_writer.proofs.writing.push_sets.Given as goal
+
+abbrev pub invariant-loop-kept : goal.invariant-loop-kept
+invariant-loop-kept l = l.out.items ≡ l.fn.out.items ++ flat_map set_bytes (map as_set (take l.kept-index l.sets))

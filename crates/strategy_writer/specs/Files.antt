@@ -1,0 +1,17 @@
+-- Which bytes are the file of a claim, in either version.
+use Rattle.std.specs.Prelude.{◌≡◌, ℕ, List, length}
+use Rattle.mate_plan.specs.Claim.{Claim}
+use Rattle.strategy_file.specs.declared.version.Version.{Version}
+use Rattle.strategy_file.specs.declared.version.Version.TheVariants as versions
+use Rattle.strategy_writer.specs.Written.{written_dense}
+use Rattle.strategy_writer.specs.SharedWritten.{IsSharedFile}
+
+abbrev pub IsBytesOf : Version → Claim → List ℕ → Type 0
+IsBytesOf versions.Dense c bytes = bytes ≡ written_dense c
+IsBytesOf versions.Shared c bytes = IsSharedFile c bytes
+
+-- how many bytes that file has, or would have
+pub record IsLengthOf (version : Version) (c : Claim) (size : ℕ) : Type 0 where
+  pub bytes : List ℕ
+  pub are : IsBytesOf version c bytes
+  pub size_is : size ≡ length bytes

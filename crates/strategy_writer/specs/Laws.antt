@@ -1,0 +1,69 @@
+-- The laws of strategy files that are written.
+use Rattle.std.specs.Prelude.{◌≡◌, ◌≤◌, ℕ, List, length, Ok}
+use Rattle.game_rules.specs.Game.{Position, Sound, Value}
+use Rattle.game_rules.specs.declared.men.Side.{Side}
+use Rattle.strategy_file.specs.StrategyFile.{Charts, File, charts_of}
+use Rattle.mate_plan.specs.Claim.{Claim}
+use Rattle.winning_sets.specs.Solve.{IsSolution, Solution}
+use Rattle.claim_plan.specs.SameClaims.{IsSameClaim}
+use Rattle.strategy_file.specs.Claims.{claim_with}
+use Rattle.strategy_file.specs.Fitting.{HasFile, HasFileOf}
+use Rattle.strategy_writer.specs.KeptFile.{IsKeptFile, IsKeptTooLarge, IsReadAsWon}
+use Rattle.strategy_writer.specs.SolvedFile.{IsFileOf, IsTooLarge}
+use Rattle.strategy_writer.specs.Written.{most_bytes}
+use Rattle.strategy_writer.specs.Files.{IsBytesOf}
+use Rattle.strategy_writer.specs.ReducedClaims.{IsWrittenOf, IsWrittenTooLarge}
+use Rattle.strategy_file.specs.declared.version.Version.{Version}
+
+-- what is written for a claim that has a file is read as that claim
+abbrev pub WrittenIsRead : Type 0
+WrittenIsRead =
+    (version : Version) (c : Claim) (bytes : List ℕ) → HasFile version c → IsBytesOf version c bytes
+    → length bytes ≤ most_bytes → File bytes (Ok (charts_of c))
+
+-- a claim has one file that is written of it, or one size where that is too large
+pub record HasOneWritten (c : Claim) : Type 0 where
+  pub one_file : (a b : List ℕ) → IsWrittenOf c a → IsWrittenOf c b → a ≡ b
+  pub one_size : (a b : ℕ) → IsWrittenTooLarge c a → IsWrittenTooLarge c b → a ≡ b
+  pub same_size : (bytes : List ℕ) (size : ℕ) → IsWrittenOf c bytes → IsWrittenTooLarge c size → size ≡ length bytes
+
+abbrev pub OneWritten : Type 0
+OneWritten = (c : Claim) → HasOneWritten c
+
+-- what is written of a claim that has a file is read as a claim with the same position, sides, number of moves and words
+pub record IsReadAsSame (c : Claim) (bytes : List ℕ) : Type 0 where
+  pub charts : Charts
+  pub read : File bytes (Ok charts)
+  pub same : IsSameClaim c (claim_with charts)
+
+abbrev pub WrittenIsSame : Type 0
+WrittenIsSame =
+    (c : Claim) (bytes : List ℕ) → HasFileOf c → IsWrittenOf c bytes → length bytes ≤ most_bytes → IsReadAsSame c bytes
+
+-- a solved position has one file
+abbrev pub OneFile : Type 0
+OneFile = (version : Version) (s : Solution) (a b : List ℕ) → IsFileOf version s a → IsFileOf version s b → a ≡ b
+
+-- what is kept has one file, or one size where that is too large
+pub record HasOneKeptFile (version : Version) (winner : Side) (p : Position) (moves : ℕ) : Type 0 where
+  pub one_file : (a b : List ℕ) → IsKeptFile version winner p moves a → IsKeptFile version winner p moves b → a ≡ b
+  pub one_size : (a b : ℕ) → IsKeptTooLarge version winner p moves a → IsKeptTooLarge version winner p moves b → a ≡ b
+  pub same_size : (bytes : List ℕ) (size : ℕ) → IsKeptFile version winner p moves bytes → IsKeptTooLarge version winner p moves size
+      → size ≡ length bytes
+
+abbrev pub OneKeptFile : Type 0
+OneKeptFile = (version : Version) (winner : Side) (p : Position) (moves : ℕ) → HasOneKeptFile version winner p moves
+
+-- the file of a solved position is that of what is kept, and so is its size
+pub record HasKeptFile (version : Version) (s : Solution) : Type 0 where
+  pub file : (bytes : List ℕ) → IsFileOf version s bytes → IsKeptFile version s.winner s.position s.moves bytes
+  pub size : (size : ℕ) → IsTooLarge version s size → IsKeptTooLarge version s.winner s.position s.moves size
+
+abbrev pub FileIsKept : Type 0
+FileIsKept = (version : Version) (s : Solution) → IsSolution s → HasKeptFile version s
+
+-- where the winner mates in time, the file of what is kept is read as a claim that is won
+abbrev pub KeptFileIsClaim : Type 0
+KeptFileIsClaim =
+    (version : Version) (winner : Side) (p : Position) (moves : ℕ) (bytes : List ℕ) → Sound p → Value winner moves p
+    → length bytes ≤ most_bytes → IsKeptFile version winner p moves bytes → IsReadAsWon winner p moves bytes

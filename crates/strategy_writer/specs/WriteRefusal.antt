@@ -1,0 +1,13 @@
+-- Why no file of a claim in memory is written.
+use Rattle.std.specs.Prelude.{◌<◌}
+use Rattle.mate_plan.specs.Claim.{Claim}
+use Rattle.strategy_writer.specs.Files.{IsLengthOf}
+use Rattle.strategy_writer.specs.Written.{most_bytes}
+use Rattle.strategy_file.specs.declared.version.Version.{Version}
+use Rattle.strategy_writer.specs.declared.writing.WriteFileError.{WriteFileError}
+use Rattle.strategy_writer.specs.declared.writing.WriteFileError.TheVariants.{TooLarge, Memory}
+
+-- the file of the version would have this many bytes, which are too many; or there is no memory
+abbrev pub IsWriteRefusal : Version → Claim → WriteFileError → Type 0
+IsWriteRefusal version c (TooLarge n) = IsLengthOf version c n × (most_bytes < n)
+IsWriteRefusal version c Memory = Unit {0}
