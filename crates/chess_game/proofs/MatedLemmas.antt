@@ -1,23 +1,24 @@
 -- The king of the side to move, and who gives him check.
-use Rattle.std.proofs.Common.{◌≡◌, ◌≢◌, ◌↔◌, ℕ, ◌<◌, length, List, get_or, Option, Some, sym, ap, subst, ◌∙◌, refl, arith, rules}
+use Rattle.std.proofs.Common.{◌≡◌, ◌≢◌, ◌↔◌, ℕ, ◌<◌, length, List, get_or, Option, Some, None, sym, ap, subst, ◌∙◌, refl, arith, rules}
 use Rattle.std.specs.Prelude.{IsSomeAnd}
 use Rattle.std.specs.List.{Any}
-use Rattle.std.specs.Option.{ForSome}
+use Rattle.std.specs.Option.{ForSome, MatchOption}
 use Rattle.std.proofs.lemmas.Int.{ints}
 use Rattle.std.proofs.lemmas.Option.{same_Some}
 use Rattle.game_rules.specs.declared.men.Kind.TheVariants.{King}
 use Rattle.game_rules.specs.declared.men.Man.{Man}
 use Rattle.game_rules.specs.declared.men.Place.{Place}
 use Rattle.game_rules.specs.declared.men.Place.TheVariants.{Gone, At}
+use Rattle.game_rules.specs.declared.men.Side.{Side}
 use Rattle.game_rules.specs.declared.men.Square.{Square}
-use Rattle.game_rules.specs.Game.{Position, Attacked, HasOneKing, InCheck, IsLiveAnd, Sound, StandsOn, man_at, other, place_square, square_of}
+use Rattle.game_rules.specs.Game.{Position, Attacked, HasOneKingAtMost, InCheck, IsLiveAnd, Sound, StandsOn, man_at, other, place_square, square_of}
 use Rattle.game_rules.specs.declared.men.Ray.{Ray}
 use Rattle.game_rules.specs.Rays.{rays_of}
 use Rattle.game_laws.specs.Answer.{CanGo, HasAnswer, answer_square}
 use Rattle.game_laws.proofs.AnswerLemmas.{same_stand}
 use Rattle.game_laws.proofs.CheckLemmas.{any_is}
 use Rattle.game_laws.proofs.SoundLemmas.{any_at}
-use Rattle.chess_game.specs.Check.{IsClose, IsKingOn}
+use Rattle.chess_game.specs.Check.{HasNoKing, IsClose, IsKingOn}
 use Rattle.chess_game.specs.Near.{IsNarrow, IsNarrowMan, IsNarrowPosition}
 
 -- what holds of no element holds of none of them
@@ -28,32 +29,41 @@ live_square : (a : Place) → a ≢ Gone → (z : Square) × (place_square a ≡
 live_square Gone live = absurd (live refl)
 live_square (At x y) live = (record { x = x; y = y }, refl)
 
+some_matches : {X : Type 0} (P : Type 0) (Q : X → Type 0) (o : Option X) → IsSomeAnd o Q → MatchOption o P Q
+some_matches P Q None h = absurd h
+some_matches P Q (Some x) h = h
+
+-- a side with no king is not in check
+pub no_check : (p : Position) (s : Side) → HasNoKing p s → InCheck p s → ⊥
+no_check p s none check =
+    let there = any_is p _ check in none (any_at p _ there.0 there.1 there.2 (there.3.0, there.3.1))
+
 module _ (p : Position) (sound : Sound p) where
-  one : HasOneKing p p.turn
-  one = sound.kings p.turn
+  few : HasOneKingAtMost p p.turn
+  few = sound.kings.few p.turn
 
-  -- each king of the side to move is the one
-  is_one : (k : ℕ) (m : Man) → man_at p k ≡ Some m → m.side ≡ p.turn → m.kind ≡ King → m ≡ one.king
-  is_one k m is side kind =
-      let same : k ≡ one.number = one.only k m is side kind in
-      same_Some m one.king (sym is ∙ ap (man_at p) same ∙ one.is_man)
+  -- two kings of the side to move are one man
+  is_one : (j k : ℕ) (m n : Man) → man_at p j ≡ Some m → man_at p k ≡ Some n → (m.side ≡ p.turn) × (m.kind ≡ King) → (n.side ≡ p.turn) × (n.kind ≡ King) → m ≡ n
+  is_one j k m n is_m is_n king_m king_n =
+      let same : j ≡ k = few.only j k m n is_m is_n king_m.0 king_n.0 king_m.1 king_n.1 in
+      same_Some m n (sym is_m ∙ ap (man_at p) same ∙ is_n)
 
-  -- and he is live
+  -- he is live
   pub king_on : (k : ℕ) (m : Man) → man_at p k ≡ Some m → m.side ≡ p.turn → m.kind ≡ King → IsSomeAnd (square_of m) (λ z. Any (IsKingOn p.turn z) p.men)
   king_on k m is side kind =
-      let same = is_one k m is side kind in
-      let w = live_square m.place (subst (λ n. n.place ≢ Gone) (sym same) one.live) in
+      let w = live_square m.place (few.live k m is side kind) in
       subst (λ o. IsSomeAnd o (λ z. Any (IsKingOn p.turn z) p.men)) (sym w.1) (any_at p (IsKingOn p.turn w.0) k m is (side, kind, w.1))
 
-  pub some_king : Any (λ m. (m.side ≡ p.turn) × (m.kind ≡ King)) p.men
-  some_king = any_at p _ one.number one.king one.is_man one.is_king
+  pub king_on_some : (k : ℕ) (m : Man) → man_at p k ≡ Some m → m.side ≡ p.turn → m.kind ≡ King
+      → MatchOption (square_of m) (HasNoKing p p.turn) (λ z. Any (IsKingOn p.turn z) p.men)
+  king_on_some k m is side kind = some_matches (HasNoKing p p.turn) (λ z. Any (IsKingOn p.turn z) p.men) (square_of m) (king_on k m is side kind)
 
   -- in check, the square where he stands is attacked
   pub king_attacked : (z : Square) → Any (IsKingOn p.turn z) p.men → InCheck p p.turn → Attacked p (other p.turn) z
   king_attacked z on check =
       let here = any_is p (IsKingOn p.turn z) on in
       let there = any_is p _ check in
-      let same : there.1 ≡ here.1 = is_one there.0 there.1 there.2 there.3.0 there.3.1 ∙ sym (is_one here.0 here.1 here.2 here.3.0 here.3.1) in
+      let same : there.1 ≡ here.1 = is_one there.0 here.0 there.1 here.1 there.2 here.2 (there.3.0, there.3.1) (here.3.0, here.3.1) in
       let attacked : IsLiveAnd here.1 (Attacked p (other p.turn)) = subst (λ m. IsLiveAnd m (Attacked p (other p.turn))) same there.3.2 in
       same_stand (square_of here.1) z (Attacked p (other p.turn)) here.3.2 attacked
 

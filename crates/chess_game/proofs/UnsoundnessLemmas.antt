@@ -2,7 +2,7 @@
 use Rattle.std.proofs.Common.{◌≡◌, ◌⊎◌, inl, inr, ℕ, zero, suc, ◌<◌, ◌≤◌, length, Option, Some, None, sym, ap, subst, ◌∙◌, arith, refl}
 use Rattle.std.proofs.lemmas.Option.{slice_get_cases}
 use Rattle.std.specs.Prelude.{IsNone, IsSomeAnd}
-use Rattle.game_rules.specs.Game.{Position, HasOneKing, Sound, StandsOn, man_at, place_square}
+use Rattle.game_rules.specs.Game.{Position, HasBothKings, HasOneKing, Sound, SoundWithKings, StandsOn, man_at, place_square}
 use Rattle.game_rules.specs.declared.men.Man.{Man}
 use Rattle.game_rules.specs.declared.men.Place.{Place}
 use Rattle.game_rules.specs.declared.men.Place.TheVariants.{At, Gone}
@@ -64,35 +64,28 @@ apart_from p none i j m n z is_m is_n s t =
       | inr r ↦ elim r [ inl e ↦ e | inr gt ↦ absurd (none j i gt (z, rw is_n t, rw is_m s)) ]
     ]
 
--- for a sound position no reason holds
-refuted : (e : Unsound) {p : Position} → IsUnsoundFor p e → Sound p → ⊥
-refuted (NoKing s) h sound =
-    let one = sound.kings s in h one.number (rw one.is_man one.is_king)
-refuted (ManyKings s) {p} (i, j, lt, a, b) sound =
-    let one = sound.kings s in
+-- for a sound position with both kings no reason holds
+refuted : (e : Unsound) {p : Position} → IsUnsoundFor p e → Sound p → HasBothKings p → ⊥
+refuted (NoKing s) h sound kings =
+    let one = kings s in h one.number (rw one.is_man one.is_king)
+refuted (ManyKings s) {p} (i, j, lt, a, b) sound kings =
     let wa = man_of_some (man_at p i) _ a in
     let wb = man_of_some (man_at p j) _ b in
-    let ea : i ≡ one.number = one.only i wa.0 wa.1 wa.2.0 wa.2.1 in
-    let eb : j ≡ one.number = one.only j wb.0 wb.1 wb.2.0 wb.2.1 in
+    let e : i ≡ j = (sound.kings.few s).only i j wa.0 wb.0 wa.1 wb.1 wa.2.0 wb.2.0 wa.2.1 wb.2.1 in
     omega arith
-refuted (KingGone s) {p} (i, a, gone) sound =
-    let one = sound.kings s in
+refuted (KingGone s) {p} (i, a, gone) sound kings =
     let wa = man_of_some (man_at p i) _ a in
-    let ea : i ≡ one.number = one.only i wa.0 wa.1 wa.2.0 wa.2.1 in
-    let there : man_at p one.number ≡ Some wa.0 = subst (λ k. man_at p k ≡ Some wa.0) ea wa.1 in
-    let same : Some wa.0 ≡ Some one.king = sym there ∙ one.is_man in
-    let who : wa.0 ≡ one.king = cc in
     let none : wa.0.place ≡ Gone = rw wa.1 at gone in
-    one.live (sym (ap (λ m. m.place) who) ∙ none)
-refuted (SameSquare i j) {p} (lt, (z, a, b)) sound =
+    (sound.kings.few s).live i wa.0 wa.1 wa.2.0 wa.2.1 none
+refuted (SameSquare i j) {p} (lt, (z, a, b)) sound kings =
     let wa = man_of_some (man_at p i) _ a in
     let wb = man_of_some (man_at p j) _ b in
     let e : i ≡ j = sound.apart i j wa.0 wb.0 z wa.1 wb.1 wa.2 wb.2 in
     omega arith
-refuted OtherInCheck h sound = sound.other_safe h
+refuted OtherInCheck h sound kings = sound.other_safe h
 
-pub unsound_refuted : (e : Unsound) (p : Position) → IsFirstUnsoundness p e → Sound p → ⊥
-unsound_refuted e p h sound = refuted e h.holds sound
+pub unsound_refuted : (e : Unsound) (p : Position) → IsFirstUnsoundness p e → SoundWithKings p → ⊥
+unsound_refuted e p h whole = refuted e h.holds whole.sound whole.kings
 
 pub kings_from : {p : Position} → HasOneKing p White → HasOneKing p Black → (s : Side) → HasOneKing p s
 kings_from w b White = w

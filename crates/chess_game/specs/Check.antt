@@ -38,6 +38,10 @@ AnswersAlongNth p check m man n = IsSomeAnd (ray_of m.kind m.side n) (AnswersAlo
 abbrev pub IsUnanswered : Position → Square → Square → Type 0
 IsUnanswered p a k = (i : ℕ) → HasAnswer p a k i → ⊥
 
+-- no man of the side is a king
+abbrev pub HasNoKing : Position → Side → Type 0
+HasNoKing p s = Any (λ m. (m.side ≡ s) × (m.kind ≡ King)) p.men → ⊥
+
 -- he is the king of the side, on this square
 abbrev pub IsKingOn : Side → Square → Man → Type 0
 IsKingOn s k m = (m.side ≡ s) × (m.kind ≡ King) × StandsOn m k

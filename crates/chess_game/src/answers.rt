@@ -1,13 +1,13 @@
 //! Mate: whether some move answers a check.
 
-ghost use Rattle.std.specs.Prelude.{◌≡◌, ◌↔◌, ◌≤◌, ◌<◌, ◌*◌, ◌+◌, ◌+ℤ◌, ◌*ℤ◌, ◌-ℤ◌, ◌^◌, pos, unsigned_abs, IsSomeAnd, IsTrue, MatchOption, ℕ};
+ghost use Rattle.std.specs.Prelude.{◌≡◌, ◌↔◌, ◌≤◌, ◌<◌, ◌*◌, ◌+◌, ◌+ℤ◌, ◌*ℤ◌, ◌-ℤ◌, ◌^◌, pos, unsigned_abs, IsTrue, MatchOption, ℕ};
 ghost use Rattle.std.specs.List.{Any};
 ghost use Rattle.game_rules.specs.Game.{Attacked, InCheck, Mate, Sound, other};
 ghost use Rattle.game_rules.specs.Rays.{rays_of};
 ghost use Rattle.game_laws.specs.Answer.{HasAnswer, answer_square, answer_steps, cross, distance, off_line, steps_to, toward_x, toward_y};
 ghost use Rattle.chess_game.specs.Along.{IsStepwise};
 ghost use Rattle.chess_game.specs.Near.{IsNarrowPosition, IsNear};
-ghost use Rattle.chess_game.specs.Check.{AnswersAlong, AnswersAlongNth, IsCheckOf, IsCheckedFrom, IsClose, IsCloseCheck, IsKingOn, IsUnanswered};
+ghost use Rattle.chess_game.specs.Check.{AnswersAlong, AnswersAlongNth, HasNoKing, IsCheckOf, IsCheckedFrom, IsClose, IsCloseCheck, IsKingOn, IsUnanswered};
 
 use crate::attack::attacks;
 use crate::board::Board;
@@ -208,10 +208,10 @@ fn is_king_of(man: &Piece, side: Side) -> bool
     man.side() == side && man.kind() == Kind::King
 }
 
-/// The square of the king of the side to move.
+/// The square of the king of the side to move, if it has one.
 fn king_square(board: &Board) -> Option<Square>
     requires { Sound board.now }
-    ensures { IsSomeAnd result (λ k. Any (IsKingOn board.now.turn k) board.now.men) }
+    ensures { MatchOption result (HasNoKing board.now board.now.turn) (λ k. Any (IsKingOn board.now.turn k) board.now.men) }
 {
     for man in board.men() {
         if is_king_of(man, board.turn()) {

@@ -1,7 +1,7 @@
 //! Positions, and what is asked of them.
 
 ghost use Rattle.std.specs.Prelude.{◌≡◌, ◌≢◌, ◌↔◌, ◌≤◌, ◌^◌, ℕ, length, IfErr, IfNone, IfOk, IfSome, IsOk, IsSome, IsSomeAnd, IsTrue, OnErr, Some};
-ghost use Rattle.game_rules.specs.Game.{Attacked, InCheck, IsMaskOf, Legal, Mate, Sound, man_at};
+ghost use Rattle.game_rules.specs.Game.{Attacked, InCheck, IsMaskOf, Legal, Mate, Sound, SoundWithKings, man_at};
 ghost use Rattle.chess_game.specs.Unsoundness.{IsFirstUnsoundness, StandsAt};
 ghost use Rattle.chess_game.specs.Near.{IsNarrow};
 ghost use Rattle.chess_game.specs.Way.{IsFree, IsHit, IsRayOf};
@@ -125,18 +125,18 @@ pub fn mated(p: &Position) -> bool
     is_mated(&p.board)
 }
 
-/// Whether the setup is sound; and if not, the first reason.
+/// Whether the setup is sound, with a king on each side; and if not, the first reason.
 #[tactic(auto, using(crate::proofs::UnsoundnessLemmas::unsound_refuted))]
 fn soundness_of(setup: &Setup) -> Result<(), Unsound>
-    ensures ok { IsOk result ↔ Sound setup.now }
+    ensures ok { IsOk result ↔ SoundWithKings setup.now }
     ensures reason { IfErr result (IsFirstUnsoundness setup.now) }
 {
     check_setup(setup)
 }
 
-/// Whether the position is sound; and if not, the first reason.
+/// Whether the position is sound, with a king on each side; and if not, the first reason.
 pub fn soundness(p: &Position) -> Result<(), Unsound>
-    ensures ok { IsOk result ↔ Sound p.now }
+    ensures ok { IsOk result ↔ SoundWithKings p.now }
     ensures reason { IfErr result (IsFirstUnsoundness p.now) }
 {
     soundness_of(&p.board.setup())
@@ -149,7 +149,7 @@ pub const MOST_CROWD: usize = 32;
 /// [`soundness`], for a crowd.
 pub fn crowd_soundness(men: &[Man], turn: Side) -> Result<(), Unsound>
     requires { length men.now ≤ MOST_CROWD }
-    ensures ok { IsOk result ↔ Sound (record { men = men.now; turn = turn }) }
+    ensures ok { IsOk result ↔ SoundWithKings (record { men = men.now; turn = turn }) }
     ensures reason { IfErr result (IsFirstUnsoundness (record { men = men.now; turn = turn })) }
 {
     let mut pieces = [nobody(); MOST_CROWD];

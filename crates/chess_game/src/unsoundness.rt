@@ -1,7 +1,7 @@
 //! Which positions are sound.
 
 ghost use Rattle.std.specs.Prelude.{◌≡◌, ◌↔◌, ◌<◌, ℕ, IfErr, IfNone, IfOk, IfSome, IsTrue, OnOk};
-ghost use Rattle.game_rules.specs.Game.{Sound};
+ghost use Rattle.game_rules.specs.Game.{SoundWithKings};
 ghost use Rattle.game_rules.specs.declared.men.Square.{Square};
 ghost use Rattle.chess_game.specs.Unsoundness.{AreTwins, IsUnsoundFor, IsFirstUnsoundness, IsFirstPair, IsGoneAt, IsKingAt, StandsAt};
 
@@ -180,9 +180,9 @@ fn check_apart(setup: &Setup) -> Result<(), Unsound>
     }
 }
 
-/// Whether the position is sound; and if not, the first reason.
+/// Whether the position is sound, with a king on each side; and if not, the first reason.
 pub(crate) fn check_setup(setup: &Setup) -> Result<(), Unsound>
-    ensures ok { OnOk result (Sound setup.now) }
+    ensures ok { OnOk result (SoundWithKings setup.now) }
     ensures reason { IfErr result (IsFirstUnsoundness setup.now) }
 {
     let white = first_king(setup, Side::White)?;

@@ -1,6 +1,6 @@
 -- Words are one order, or none for one reason.
 use Rattle.std.proofs.Common.{◌≡◌, ℕ, Bool, true, false, List, [], ◌∷◌, Result, Ok, Err, inl, inr, refl, sym, ap, subst, ◌∙◌, arith}
-use Rattle.limits.specs.declared.numbers.TheConstants.{MOST_STATES}
+use Rattle.desk_args.specs.declared.order.TheConstants.{MOST_NAMED_STATES}
 use Rattle.desk_args.specs.Order.{Asks, FromNumber, IfSoMany, Ordered, OrderedBy, OrdersAs, ReadsNumber, ReadsWords, Row, WithName, WithNumber, Words, End, Numeral, Named, Budgeted, are_so_many, order_for, rows}
 use Rattle.desk_args.specs.declared.order.Order.{Order}
 use Rattle.desk_args.specs.declared.order.UsageWhy.{UsageWhy}
@@ -64,7 +64,7 @@ module _ {A : Type 0} (one other : Result A UsageWhy) where
       with_name one other word (ReadsWords next words one) (ReadsWords next words other) (λ x y. once_read next words x y) a b
   once_read (Budgeted asked) [] a b = a ∙ sym b
   once_read (Budgeted asked) (word ∷ words) a b =
-      with_number one other word 1 MOST_STATES (λ k. one ≡ Ok (asked k)) (λ k. other ≡ Ok (asked k)) (λ k u v. u ∙ sym v) a b
+      with_number one other word 1 MOST_NAMED_STATES (λ k. one ≡ Ok (asked k)) (λ k. other ≡ Ok (asked k)) (λ k u v. u ∙ sym v) a b
 
   once_so_many : (many : Bool) (F G : Type 0) → (F → G → one ≡ other) → IfSoMany many one F → IfSoMany many other G → one ≡ other
   once_so_many true F G once a b = once a b

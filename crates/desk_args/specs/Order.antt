@@ -4,8 +4,8 @@ use Rattle.std.specs.Char.{IsAsciiDigit}
 use Rattle.std.specs.declared.alloc.Global.{Global}
 use Rattle.std.specs.List.{All}
 use Rattle.std.specs.Str.Parse.{digits_value}
-use Rattle.limits.specs.declared.numbers.TheConstants.{MOST_MOVES, MOST_STATES}
-use Rattle.desk_args.specs.declared.order.TheConstants.{DEFAULT_STATES, MOST_CROWD_MOVES}
+use Rattle.limits.specs.declared.numbers.TheConstants.{MOST_MOVES}
+use Rattle.desk_args.specs.declared.order.TheConstants.{DEFAULT_STATES, MOST_CROWD_MOVES, MOST_NAMED_STATES}
 use Rattle.desk_args.specs.declared.order.Asked.{Asked}
 use Rattle.desk_args.specs.declared.order.Asked.TheVariants as asked
 use Rattle.desk_args.specs.declared.order.Order.{Order}
@@ -105,7 +105,7 @@ ReadsWords (Named next) [] answer = answer ≡ Err Count
 ReadsWords (Named next) (word ∷ words) answer = WithName word answer (ReadsWords next words answer)
 ReadsWords (Budgeted asked) [] answer = answer ≡ Ok (asked DEFAULT_STATES)
 ReadsWords (Budgeted asked) (word ∷ words) answer =
-    WithNumber word 1 MOST_STATES answer (λ b. answer ≡ Ok (asked b))
+    WithNumber word 1 MOST_NAMED_STATES answer (λ b. answer ≡ Ok (asked b))
 
 abbrev pub IfSoMany : Bool → {A : Type 0} → Result A UsageWhy → (reads : Type 0) → Type 0
 IfSoMany true answer reads = reads

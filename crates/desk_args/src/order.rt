@@ -5,7 +5,10 @@ ghost use Rattle.std.specs.Char.{IsAsciiDigit};
 ghost use Rattle.std.specs.List.{All};
 ghost use Rattle.desk_args.specs.Order.{Asks, IsAsked, IsAskedWithin, IsName, IsNameByte, IsNaturalText, IsWithinLimits, Ordered, OrderedBy, OrdersAs, ReadsName, ReadsNumber, budget_alone, crowd_moves_and_budget, most_seed, moves_and_budget, moves_name_and_budget, moves_up_to, name_and_budget, no_words, rows, seed_and_count, textless_rows, texts, two_names, usage_line};
 
-use limits::{Budget, MOST_MOVES, MOST_STATES};
+use limits::{Budget, MOST_MOVES};
+
+/// The greatest budget that a word names, in states.
+pub const MOST_NAMED_STATES: u32 = 200_000;
 
 /// The budget where no word names one.
 pub const DEFAULT_STATES: u32 = 50_000;
@@ -489,9 +492,9 @@ fn default_budget() -> Budget
 
 /// The budget that the word is.
 fn read_budget(word: &str) -> Result<Budget, UsageWhy>
-    ensures { ReadsNumber word.now 1 MOST_STATES result }
+    ensures { ReadsNumber word.now 1 MOST_NAMED_STATES result }
 {
-    let states = read_number(word, 1, MOST_STATES as u64)?;
+    let states = read_number(word, 1, MOST_NAMED_STATES as u64)?;
     Ok(Budget::new(states as u32))
 }
 

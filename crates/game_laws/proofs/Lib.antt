@@ -13,3 +13,4 @@ pub mod CrossLemmas
 pub mod AnswerLemmas
 pub mod SymmetryLemmas
 pub mod BoardMaps
+pub mod KingLemmas

@@ -3,7 +3,7 @@ use Rattle.std.proofs.Common.{◌≡◌, ◌≢◌, ◌⊎◌, inl, inr, ℕ, ze
 use Rattle.std.proofs.lemmas.Option.{get_or_from_slice_get, slice_get_within, slice_get-get_or}
 use Rattle.std.proofs.lemmas.Bool.Decides.{eqb_tells}
 use Rattle.std.specs.List.{Any}
-use Rattle.game_rules.specs.Game.{Position, Attacked, Bears, GoesAs, HasOneKing, InCheck, IsAfter, IsLeftBy, IsLiveAnd, Legal, Sound, StandsOn, Step, man_at, other}
+use Rattle.game_rules.specs.Game.{Position, Attacked, Bears, GoesAs, HasKings, HasOneKingAtMost, InCheck, IsAfter, IsLeftBy, IsLiveAnd, Legal, Sound, StandsOn, Step, man_at, other}
 use Rattle.game_rules.specs.declared.men.Kind.{Kind}
 use Rattle.game_rules.specs.declared.men.Kind.TheVariants.{King, Queen, Rook, Bishop, Knight, Pawn, Chancellor, Archbishop, Amazon, Nightrider}
 use Rattle.game_rules.specs.declared.men.Man.{Man}
@@ -122,25 +122,37 @@ apart_after i z sound a b ma mb m n w is_a is_b fa fb s t =
       ]
     ]
 
-kings_after : {p : Position} {i : ℕ} {z : Square} {q : Position} → Sound p → Legal p i z q → (s : Side) → HasOneKing q s
-kings_after {p} {i} {z} {q} sound l s =
-    let had : HasOneKing p s = sound.kings s in
-    let has = at_same p q had.number had.king l.step.after.same_count had.is_man in
-    let f : Fate i z had.number had.king has.0 = fate l.step.after had.number had.king has.0 had.is_man has.1 in
+-- who is a king after the move was one before, of the same number, and stays live
+few_after : {p : Position} {i : ℕ} {z : Square} {q : Position} → Sound p → Legal p i z q → (s : Side) → HasOneKingAtMost q s
+few_after {p} {i} {z} {q} sound l s =
+    let had : HasOneKingAtMost p s = sound.kings.few s in
     record {
-      number = had.number;
-      king = has.0;
-      is_man = has.1;
-      is_king = (sym (fate_side f) ∙ had.is_king.0, sym (fate_kind f) ∙ had.is_king.1);
-      live = elim f [
-        | moved e is ↦ λ gone. let there : At z.x z.y ≡ Gone = sym (ap (λ a. a.place) is) ∙ gone in cc
-        | taken ne h is ↦ absurd (king_not_taken p i z q sound l.step had.number had.king had.is_man had.is_king.1 h)
-        | kept off is ↦ λ gone. had.live (sym (ap (λ a. a.place) is) ∙ gone)
-      ];
-      only = λ j n is side kind.
-          let was = at_same q p j n (sym l.step.after.same_count) is in
-          let g : Fate i z j was.0 n = fate l.step.after j was.0 n was.1 is in
-          had.only j was.0 was.1 (fate_side g ∙ side) (fate_kind g ∙ kind);
+      live = λ k n is side kind.
+          let was = at_same q p k n (sym l.step.after.same_count) is in
+          let f : Fate i z k was.0 n = fate l.step.after k was.0 n was.1 is in
+          let his : was.0.side ≡ s = fate_side f ∙ side in
+          let king : was.0.kind ≡ King = fate_kind f ∙ kind in
+          elim f [
+            | moved e at ↦ λ gone. let there : At z.x z.y ≡ Gone = sym (ap (λ a. a.place) at) ∙ gone in cc
+            | taken ne h at ↦ absurd (king_not_taken p i z q sound l.step k was.0 was.1 king h)
+            | kept off at ↦ λ gone. had.live k was.0 was.1 his king (sym (ap (λ a. a.place) at) ∙ gone)
+          ];
+      only = λ j k m n is_m is_n side_m side_n kind_m kind_n.
+          let wm = at_same q p j m (sym l.step.after.same_count) is_m in
+          let wn = at_same q p k n (sym l.step.after.same_count) is_n in
+          let f : Fate i z j wm.0 m = fate l.step.after j wm.0 m wm.1 is_m in
+          let g : Fate i z k wn.0 n = fate l.step.after k wn.0 n wn.1 is_n in
+          had.only j k wm.0 wn.0 wm.1 wn.1 (fate_side f ∙ side_m) (fate_side g ∙ side_n) (fate_kind f ∙ kind_m) (fate_kind g ∙ kind_n);
+    }
+
+kings_after : {p : Position} {i : ℕ} {z : Square} {q : Position} → Sound p → Legal p i z q → HasKings q
+kings_after {p} {i} {z} {q} sound l =
+    record {
+      few = few_after sound l;
+      some = λ none. sound.kings.some (λ k m is kind.
+          let now = at_same p q k m l.step.after.same_count is in
+          let f : Fate i z k m now.0 = fate l.step.after k m now.0 is now.1 in
+          none k now.0 now.1 (sym (fate_kind f) ∙ kind));
     }
 
 pub legal_sound : (p : Position) (i : ℕ) (z : Square) (q : Position) → Sound p → Legal p i z q → Sound q

@@ -4,7 +4,7 @@ use Rattle.std.specs.Prelude.{IsSomeAnd}
 use Rattle.std.specs.List.{All, Any, slice_get}
 use Rattle.std.proofs.lemmas.List.{length-map}
 use Rattle.std.proofs.lemmas.Option.{get_or_from_slice_get, same_Some, slice_get-get_or, slice_get_within}
-use Rattle.game_rules.specs.Game.{Position, Attacked, Bears, GoesAs, HasOneKing, InCheck, IsAfter, IsApart, IsBetween, IsEmptySquare, IsOccupiedBy, IsLeftBy, IsLiveAnd, IsOpen, Legal, LostInto, Mate, Sound, StandsOn, Step, Value, Win, forward, man_at, other, place_square}
+use Rattle.game_rules.specs.Game.{Position, Attacked, Bears, GoesAs, HasOneKingAtMost, InCheck, IsAfter, IsApart, IsBetween, IsEmptySquare, IsOccupiedBy, IsLeftBy, IsLiveAnd, IsOpen, Legal, LostInto, Mate, Sound, StandsOn, Step, Value, Win, forward, man_at, other, place_square}
 use Rattle.game_rules.specs.declared.men.Kind.{Kind}
 use Rattle.game_rules.specs.declared.men.Kind.TheVariants.{King, Queen, Rook, Bishop, Knight, Pawn, Chancellor, Archbishop, Amazon, Nightrider}
 use Rattle.game_rules.specs.declared.men.Man.{Man}
@@ -269,20 +269,19 @@ module _ (f g : BoardMap) (u : IsUndone f g) where
         stuck = λ i z q l. mate.stuck i (g.square z) (mapped g q) (legal_from p l);
       }
 
-  -- the only king of a side is that of the side that becomes it
-  king_to : {p : Position} (s : Side) {t : Side} → f.side t ≡ s → HasOneKing p t → HasOneKing (mapped f p) s
-  king_to {p} s {t} e one =
+  -- the kings of a side are those of the side that becomes it
+  kings_to : {p : Position} (s : Side) {t : Side} → f.side t ≡ s → HasOneKingAtMost p t → HasOneKingAtMost (mapped f p) s
+  kings_to {p} s {t} e had =
+      let his : (m n : Man) → mapped_man f m ≡ n → n.side ≡ s → m.side ≡ t =
+      λ m n is side. side_one f g u m.side t (ap (λ a. a.side) is ∙ side ∙ sym e) in
       record {
-        number = one.number;
-        king = mapped_man f one.king;
-        is_man = man_to f p one.number one.king one.is_man;
-        is_king = (ap f.side one.is_king.0 ∙ e, one.is_king.1);
-        live = place_live f one.king.place one.live;
-        only = λ k n is side kind.
+        live = λ k n is side kind gone.
             let w = man_from f p k n is in
-            one.only k w.0 w.1
-            (side_one f g u w.0.side t (ap (λ a. a.side) w.2 ∙ side ∙ sym e))
-            (ap (λ a. a.kind) w.2 ∙ kind);
+            place_live f w.0.place (had.live k w.0 w.1 (his w.0 n w.2 side) (ap (λ a. a.kind) w.2 ∙ kind)) (ap (λ a. a.place) w.2 ∙ gone);
+        only = λ j k m n is_m is_n side_m side_n kind_m kind_n.
+            let a = man_from f p j m is_m in
+            let b = man_from f p k n is_n in
+            had.only j k a.0 b.0 a.1 b.1 (his a.0 m a.2 side_m) (his b.0 n b.2 side_n) (ap (λ a. a.kind) a.2 ∙ kind_m) (ap (λ a. a.kind) b.2 ∙ kind_n);
       }
 
   apart_to : (p : Position) → IsApart p → IsApart (mapped f p)
@@ -297,7 +296,10 @@ module _ (f g : BoardMap) (u : IsUndone f g) where
   sound_to : (p : Position) → Sound p → Sound (mapped f p)
   sound_to p sound =
       record {
-        kings = λ s. king_to s (u.side_back s) (sound.kings (g.side s));
+        kings = record {
+          few = λ s. kings_to s (u.side_back s) (sound.kings.few (g.side s));
+          some = λ none. sound.kings.some (λ k m is kind. none k (mapped_man f m) (man_to f p k m is) kind);
+        };
         apart = apart_to p sound.apart;
         other_safe = λ h. sound.other_safe (check_from f g u p (other p.turn) (subst (InCheck (mapped f p)) (sym (u.carrier.opponent p.turn)) h));
       }

@@ -3,7 +3,7 @@ use Rattle.std.specs.Prelude.{◌≡◌, ◌≢◌, ℕ, Some, unwrap_or}
 use Rattle.std.specs.Coded.{Coded-set, coded_option, coded_ℕ, ×_prop, →_prop, Π_prop}
 use mathlib.Core.HLevel.{¬_prop}
 use mathlib.Core.Path.{ap, subst, sym, ◌∙◌}
-use Rattle.game_rules.specs.Game.{HasOneKing, IsApart, Position, Sound, man_at}
+use Rattle.game_rules.specs.Game.{HasKings, HasOneKing, HasOneKingAtMost, IsApart, Position, Sound, SoundWithKings, man_at}
 use Rattle.game_rules.specs.declared.men.Kind.TheVariants.{King}
 use Rattle.game_rules.specs.declared.men.Man.{Man}
 use Rattle.game_rules.specs.declared.men.Place.TheVariants.{Gone}
@@ -43,13 +43,32 @@ module _ (p : Position) (s : Side) where
       one_king-same h.number g.number h.king g.king (h.is_man, (h.is_king, (h.live, h.only))) number man
       (g.is_man, (g.is_king, (g.live, g.only)))
 
+HasOneKingAtMost-prop : (p : Position) (s : Side) → IsProp (HasOneKingAtMost p s)
+HasOneKingAtMost-prop p s h g = λ i. record {
+  live = Π_prop (λ k. Π_prop (λ m. →_prop (→_prop (→_prop ¬_prop)))) h.live g.live i;
+  only = Π_prop (λ j. Π_prop (λ k. Π_prop (λ m. Π_prop (λ n. →_prop (→_prop (→_prop (→_prop (→_prop (→_prop (Coded-set coded_ℕ j k))))))))))
+      h.only g.only i;
+}
+
+HasKings-prop : (p : Position) → IsProp (HasKings p)
+HasKings-prop p h g = λ i. record {
+  few = Π_prop (HasOneKingAtMost-prop p) h.few g.few i;
+  some = ¬_prop h.some g.some i;
+}
+
 IsApart-prop : (p : Position) → IsProp (IsApart p)
 IsApart-prop p =
     Π_prop (λ i. Π_prop (λ j. Π_prop (λ m. Π_prop (λ n. Π_prop (λ z. →_prop (→_prop (→_prop (→_prop (Coded-set coded_ℕ i j)))))))))
 
 pub Sound-prop : (p : Position) → IsProp (Sound p)
 Sound-prop p h g = λ i. record {
-  kings = Π_prop (HasOneKing-prop p) h.kings g.kings i;
+  kings = HasKings-prop p h.kings g.kings i;
   apart = IsApart-prop p h.apart g.apart i;
   other_safe = ¬_prop h.other_safe g.other_safe i;
+}
+
+pub SoundWithKings-prop : (p : Position) → IsProp (SoundWithKings p)
+SoundWithKings-prop p h g = λ i. record {
+  sound = Sound-prop p h.sound g.sound i;
+  kings = Π_prop (HasOneKing-prop p) h.kings g.kings i;
 }

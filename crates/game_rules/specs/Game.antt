@@ -191,6 +191,21 @@ pub record HasOneKing (p : Position) (s : Side) : Type 0 where
   pub live : king.place ≢ Gone
   pub only : (k : ℕ) (m : Man) → man_at p k ≡ Some m → m.side ≡ s → m.kind ≡ King → k ≡ number
 
+-- the side has no king, or one alone, who is live
+pub record HasOneKingAtMost (p : Position) (s : Side) : Type 0 where
+  pub live : (k : ℕ) (m : Man) → man_at p k ≡ Some m → m.side ≡ s → m.kind ≡ King → m.place ≢ Gone
+  pub only : (j k : ℕ) (m n : Man) → man_at p j ≡ Some m → man_at p k ≡ Some n → m.side ≡ s → n.side ≡ s → m.kind ≡ King
+      → n.kind ≡ King → j ≡ k
+
+-- some man is a king, and no side has two of them, or a captured one
+pub record HasKings (p : Position) : Type 0 where
+  pub few : (s : Side) → HasOneKingAtMost p s
+  pub some : ((k : ℕ) (m : Man) → man_at p k ≡ Some m → m.kind ≡ King → ⊥) → ⊥
+
+-- each side has one king, who is live
+abbrev pub HasBothKings : Position → Type 0
+HasBothKings p = (s : Side) → HasOneKing p s
+
 -- live men stand on distinct squares
 abbrev pub IsApart : Position → Type 0
 IsApart p =
@@ -201,11 +216,17 @@ IsApart p =
     → StandsOn n z
     → i ≡ j
 
--- each side has one king, who is live, men stand apart, and the side that is not to move is not in check
+-- each side has one king at most, who is live, and one of the two has one; men stand apart, and the side that is not to
+-- move is not in check
 pub record Sound (p : Position) : Type 0 where
-  pub kings : (s : Side) → HasOneKing p s
+  pub kings : HasKings p
   pub apart : IsApart p
   pub other_safe : InCheck p (other p.turn) → ⊥
+
+-- a sound position with a king on each side
+pub record SoundWithKings (p : Position) : Type 0 where
+  pub sound : Sound p
+  pub kings : HasBothKings p
 
 -- the king of the side to move is attacked, and no move is legal (Article 5.1.1)
 pub record Mate (p : Position) : Type 0 where

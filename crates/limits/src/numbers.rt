@@ -4,7 +4,7 @@
 pub const MOST_TRACKS: u8 = 20;
 
 /// The greatest spread that a budget lets a step of a computation have, in states.
-pub const MOST_STATES: u32 = 200_000;
+pub const MOST_STATES: u32 = 16_777_216;
 
 /// Within how many moves of the winner a mate is asked for at most.
 pub const MOST_MOVES: u8 = 20;

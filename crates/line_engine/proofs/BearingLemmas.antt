@@ -1,6 +1,6 @@
 -- Of the rays along which a side's men may bear on the other king: whose they are, on whom they lead, and how many there are.
-use Rattle.std.proofs.Common.{◌≡◌, ℕ, zero, suc, ◌+◌, ◌*◌, ◌≤◌, Bool, true, false, List, [], ◌∷◌, ◌++◌, length, length-append, get_or, Option, Some, None, refl, sym, ◌∙◌, subst, arith}
-use Rattle.std.specs.Prelude.{if◌then◌else◌, ◌&&◌}
+use Rattle.std.proofs.Common.{◌≡◌, ℕ, zero, suc, ◌+◌, ◌*◌, ◌<◌, ◌≤◌, Bool, true, false, List, [], ◌∷◌, ◌++◌, length, length-append, get_or, Option, Some, None, refl, sym, ◌∙◌, subst, arith}
+use Rattle.std.specs.Prelude.{nat_lt, if◌then◌else◌, ◌&&◌}
 use Rattle.std.specs.List.{All}
 use Rattle.std.proofs.lemmas.List.Elements.{All-append, All-cons, All-nil}
 use Rattle.chess_game.proofs.AnswerBounds.{rays_few}
@@ -10,13 +10,12 @@ use Rattle.game_rules.specs.declared.men.Kind.{Kind}
 use Rattle.game_rules.specs.declared.men.Man.{Man}
 use Rattle.game_rules.specs.declared.men.Side.{Side}
 use Rattle.mask_sets.specs.Stock.{stock_man}
-use Rattle.mask_sets.proofs.Men.{stock_man-men}
 use Rattle.rule_formula.specs.declared.opt.Bearing.{Bearing}
 use Rattle.rule_formula.specs.Bearings.{along_rays, bearing, bearings_of, bearings_to, king_number, man_bearings}
 use Rattle.rule_formula.specs.Options.{is_side}
 use Rattle.rule_formula.specs.Placed.{is_live}
 use Rattle.rule_formula.proofs.BearLemmas.{IsNumber, stock_number}
-use Rattle.rule_formula.proofs.BearingTheorem.{king_is}
+use Rattle.rule_formula.proofs.BearingTheorem.{king_numbered}
 use Rattle.line_formula.specs.Small.{AreTwo}
 
 -- a man bears on the man of this number
@@ -56,12 +55,18 @@ module _ (men : List Man) (g : ℕ) where
 
 -- both are men of the position
 pub bearing_men : (p : Position) (mask : ℕ) (side : Side) → Sound p → All (λ b. AreTwo p.men b.man b.king) (bearings_of p.men mask side)
-bearing_men p mask side sound i d within =
-    let had = sound.kings (other side) in
-    let king = stock_number p.men had.number had.king (stock_man-men p had.number ∙ had.is_man) in
-    let aimed = to_aimed p.men (king_number p.men (other side)) mask side (length p.men) i d within in
-    let target : IsNumber p.men (get_or (bearings_of p.men mask side) i d).king = subst (IsNumber p.men) (sym (aimed.king ∙ king_is had)) king in
-    record { first = aimed.man.low; first_is = aimed.man.high; second = target.low; second_is = target.high }
+bearing_men p mask side sound =
+    let g = king_number p.men (other side) in
+    if_all (nat_lt 0 g) (bearings_to p.men mask side g (length p.men)) (λ e i d within.
+    let low : 0 < g = grind (arith, e) in
+    let aimed = to_aimed p.men g mask side (length p.men) i d within in
+    let target : IsNumber p.men (get_or (bearings_to p.men mask side g (length p.men)) i d).king =
+    subst (IsNumber p.men) (sym aimed.king) (king_numbered p.men (other side) low) in
+    record { first = aimed.man.low; first_is = aimed.man.high; second = target.low; second_is = target.high })
+  where
+    if_all : (b : Bool) (xs : List Bearing) → (b ≡ true → All (λ b. AreTwo p.men b.man b.king) xs) → All (λ b. AreTwo p.men b.man b.king) (if b then xs else [])
+    if_all true xs h = h refl
+    if_all false xs h = All-nil (λ b. AreTwo p.men b.man b.king)
 
 if_few : {A : Type 0} (b : Bool) (xs : List A) (x : A) (n : ℕ) → length xs ≤ n → length (if b then xs ++ x ∷ [] else xs) ≤ n + 1
 if_few true xs x n h = let e = length-append xs (x ∷ []) in omega (arith, e, h)
@@ -91,4 +96,7 @@ to_few men mask side g (suc n) =
     omega (arith, rest, here, both)
 
 pub bearings_few : (men : List Man) (mask : ℕ) (side : Side) → length men ≤ 32 → length (bearings_of men mask side) ≤ 512
-bearings_few men mask side few = let all = to_few men mask side (king_number men (other side)) (length men) in omega (arith, all, few)
+bearings_few men mask side few =
+    let g = king_number men (other side) in
+    let all = to_few men mask side g (length men) in
+    some_few (nat_lt 0 g) (bearings_to men mask side g (length men)) 512 (omega (arith, all, few))

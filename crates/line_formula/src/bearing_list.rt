@@ -85,6 +85,9 @@ pub fn bearings(alloc: Global, men: &[Man], force: Force) -> Result<Vec<Bearing>
 {
     let king = king_number(men, force.side.other());
     let mut bearings = Vec::new(alloc);
+    if king == 0 {
+        return Ok(bearings);
+    }
     for n in 0..men.len() as u8 {
         let number = n + 1;
         let man = man_of(men, number);

@@ -1,7 +1,7 @@
 -- How many formulas a union has.
 use Rattle.std.proofs.Common.{ℕ, zero, suc, ◌+◌, ◌*◌, ◌^◌, ◌<◌, ◌≤◌, Bool, true, false, List, [], ◌∷◌, ◌++◌, length, Option, Some, None, arith, length-append}
 use Rattle.std.proofs.lemmas.List.{length-map}
-use Rattle.std.specs.Prelude.{filter, if◌then◌else◌, ◌&&◌, ◌==◌}
+use Rattle.std.specs.Prelude.{filter, nat_lt, if◌then◌else◌, ◌&&◌, ◌==◌}
 use Rattle.std.specs.List.{flat_map}
 use Rattle.std.proofs.Math.Pow.{pow_mono}
 use Rattle.game_rules.specs.Game.{Position, other}
@@ -106,7 +106,10 @@ to_few stock mask side g (suc n) =
     omega (arith, rest, here, both)
 
 pub bearings_few : (stock : List Man) (mask : ℕ) (side : Side) → length stock ≤ 8 → length (bearings_of stock mask side) ≤ 1000
-bearings_few stock mask side few = let all = to_few stock mask side (king_number stock (other side)) (length stock) in omega (arith, all, few)
+bearings_few stock mask side few =
+    let g = king_number stock (other side) in
+    let all = to_few stock mask side g (length stock) in
+    some_few (nat_lt 0 g) (bearings_to stock mask side g (length stock)) 1000 (omega (arith, all, few))
 
 pub bears_few : (p : Position) (side : Side) (mask : ℕ) (source : Option SetId) → length p.men ≤ 8 → length (bear_trees p side mask source) < 2 ^ 20
 bears_few p side mask None few = omega arith

@@ -7,7 +7,7 @@ use Rattle.track_word.specs.declared.tracks.Var.{Var}
 use Rattle.auto_core.specs.Automaton.{Automaton}
 use Rattle.game_rules.specs.Game.{Position, Sound}
 use Rattle.game_rules.specs.declared.men.Place.TheVariants.{Gone}
-use Rattle.game_laws.proofs.SoundLemmas.{any_at}
+use Rattle.game_laws.proofs.KingLemmas.{a_king_lives}
 use Rattle.lin_formula.specs.Tree.{Tree, Value, memberships}
 use Rattle.lin_formula.specs.SetOf.{Nothing}
 use Rattle.lin_formula.specs.declared.formula.SetId.{SetId}
@@ -39,7 +39,7 @@ use Rattle.mate_plan.proofs.UnionAnswers.{game_of}
 
 -- some man of a sound position is live, and its live men are one of its masks
 pub some_live : {p : Position} → Sound p → HasLiveMan p
-some_live {p} sound = let king = sound.kings p.turn in any_at p (λ m. m.place ≢ Gone) king.number king.king king.is_man king.live
+some_live sound = a_king_lives sound.kings
 
 mask_there : {p : Position} → Sound p → length p.men ≤ 8 → Contains (masks_of p) (mask_of p)
 mask_there {p} sound few =

@@ -1,6 +1,6 @@
 -- The list of bearings has each bearing on the king, and nothing else; and a check is one by a bearing.
 use Rattle.std.proofs.Common.{◌≡◌, ◌≢◌, ◌↔◌, ℕ, zero, suc, ◌<◌, ◌≤◌, Bool, true, false, ◌&&◌, List, length, Some, None, inl, inr, refl, subst, sym, ap, ◌∙◌, arith}
-use Rattle.std.specs.Prelude.{if◌then◌else◌, IsSomeAnd}
+use Rattle.std.specs.Prelude.{nat_lt, if◌then◌else◌, IsSomeAnd}
 use Rattle.std.specs.List.{Contains}
 use Rattle.std.proofs.lemmas.Option.{slice_get_within}
 use Rattle.game_rules.specs.declared.men.Kind.{Kind}
@@ -10,7 +10,7 @@ use Rattle.game_rules.specs.declared.men.Man.{Man}
 use Rattle.game_rules.specs.declared.men.Ray.{Ray}
 use Rattle.game_rules.specs.declared.men.Place.TheVariants.{Gone}
 use Rattle.game_rules.specs.declared.men.Square.{Square}
-use Rattle.game_rules.specs.Game.{Attacked, Bears, HasOneKing, InCheck, IsLiveAnd, Position, StandsOn, man_at, other, place_square, square_of}
+use Rattle.game_rules.specs.Game.{Attacked, Bears, HasKings, HasOneKing, HasOneKingAtMost, InCheck, IsLiveAnd, Position, StandsOn, man_at, other, place_square, square_of}
 use Rattle.game_rules.specs.Rays.{ray_of, rays_of, serves_captures}
 use Rattle.game_laws.proofs.SoundLemmas.{any_at, live_at, other_differs, other_other}
 use Rattle.game_laws.proofs.CheckLemmas.{any_is}
@@ -21,7 +21,7 @@ use Rattle.mask_sets.specs.Stock.{mask_of, stock_man}
 use Rattle.rule_formula.specs.Meaning.{BearsBy}
 use Rattle.rule_formula.specs.Options.{is_king, is_side}
 use Rattle.rule_formula.specs.Placed.{is_live}
-use Rattle.rule_formula.proofs.BearLemmas.{stock_number}
+use Rattle.rule_formula.proofs.BearLemmas.{IsNumber, stock_number}
 use Rattle.mask_sets.proofs.Men.{stock_has, stock_man-men}
 use Rattle.rule_formula.proofs.ChainLemmas.{last_or_before}
 use Rattle.rule_formula.proofs.FitLemmas.{AreAlike, alike_back, alike_of}
@@ -175,21 +175,51 @@ king_is {p} had =
     let at = stock_number p.men had.number had.king (stock_man-men p had.number ∙ had.is_man) in
     king_to_is had (length p.men) at.high
 
+-- who is found is the side's king
+pub king_at : {p : Position} {s : Side} → HasOneKingAtMost p s → (k : ℕ) (m : Man) → man_at p k ≡ Some m → m.side ≡ s → m.kind ≡ King → king_number p.men s ≡ k
+king_at {p} {s} h k m is side kind =
+    let had : HasOneKing p s = record {
+      number = k;
+      king = m;
+      is_man = is;
+      is_king = (side, kind);
+      live = h.live k m is side kind;
+      only = λ j n is_n side_n kind_n. h.only j k n m is_n is side_n side kind_n kind;
+    } in
+    king_is had
+
+if_some : (b : Bool) (k rest : ℕ) (P : ℕ → Type 0) → (b ≡ true → P k) → (b ≡ false → 0 < rest → P rest) → 0 < (if b then k else rest)
+    → P (if b then k else rest)
+if_some true k rest P yes' no' h = yes' refl
+if_some false k rest P yes' no' h = no' refl h
+
+-- a number that is not 0 is a king's
+king_to_some : (stock : List Man) (s : Side) (n : ℕ) → 0 < king_to stock s n → IsKingAt stock s (king_to stock s n)
+king_to_some stock s zero h = absurd (omega (arith, h))
+king_to_some stock s (suc n) h =
+    if_some (is_king_man s (stock_man stock (suc n))) (suc n) (king_to stock s n) (IsKingAt stock s) (λ e. kingly_is stock s (suc n) e)
+    (λ e. king_to_some stock s n) h
+
+-- and it is the number of a man
+pub king_numbered : (stock : List Man) (s : Side) → 0 < king_number stock s → IsNumber stock (king_number stock s)
+king_numbered stock s low = let king = king_to_some stock s (length stock) low in stock_number stock (king_number stock s) king.man king.is_man
+
 -- the list has exactly the bearings of the men of the side on the other side's king
-pub bearings_are : {p : Position} {m : ℕ} (s : Side) (b : Bearing) → ((t : Side) → HasOneKing p t) → IsGameMask p m → Contains (bearings_of p.men m s) b ↔ IsBearingOf p.men m s b
+pub bearings_are : {p : Position} {m : ℕ} (s : Side) (b : Bearing) → HasKings p → IsGameMask p m → Contains (bearings_of p.men m s) b ↔ IsBearingOf p.men m s b
 bearings_are {p} {m} s b kings game =
-    let had = kings (other s) in
-    let number : king_number p.men (other s) ≡ had.number = king_is had in
-    let king_there : stock_man p.men had.number ≡ Some had.king = stock_man-men p had.number ∙ had.is_man in (
+    let g : ℕ = king_number p.men (other s) in
+    let some = only_if (nat_lt 0 g) (bearings_to p.men m s g (length p.men)) b in (
       λ h.
-          let w = listed p.men m s (king_number p.men (other s)) (length p.men) b h in
-          let at : b.king ≡ had.number = w.king ∙ number in
+          let found = some.0 h in
+          let low : 0 < g = grind (arith, found.0) in
+          let king : IsKingAt p.men (other s) g = king_to_some p.men (other s) (length p.men) low in
+          let w = listed p.men m s g (length p.men) b found.1 in
           let (r, ray) = get_some (rays_of w.man.kind w.man.side) b.ray w.low in
-          let target : stock_man p.men b.king ≡ Some had.king = subst (λ j. stock_man p.men j ≡ Some had.king) (sym at) king_there in
+          let target : stock_man p.men b.king ≡ Some king.man = subst (λ j. stock_man p.men j ≡ Some king.man) (sym w.king) king.is_man in
           record {
             bearer = record {
               man = w.man;
-              target = had.king;
+              target = king.man;
               ray = r;
               is = record {
                 is_man = w.is_man;
@@ -197,31 +227,36 @@ bearings_are {p} {m} s b kings game =
                 ray = ray;
                 serves = w.serves;
                 is_target = target;
-                target_live = game.kings b.king had.king (sym (stock_man-men p b.king) ∙ target) had.is_king.1;
+                target_live = game.kings b.king king.man (sym (stock_man-men p b.king) ∙ target) king.king;
                 apart = λ same.
-                    let both : Some w.man ≡ Some had.king = sym w.is_man ∙ ap (stock_man p.men) same ∙ target in
-                    let who : w.man ≡ had.king = cc in
-                    other_differs s (sym w.side ∙ ap (λ (a : Man). a.side) who ∙ had.is_king.0);
+                    let both : Some w.man ≡ Some king.man = sym w.is_man ∙ ap (stock_man p.men) same ∙ target in
+                    let who : w.man ≡ king.man = cc in
+                    other_differs s (sym w.side ∙ ap (λ (a : Man). a.side) who ∙ king.side);
               };
             };
             side = w.side;
-            other_side = had.is_king.0;
-            king = had.is_king.1;
+            other_side = king.side;
+            king = king.king;
           },
       λ h.
           let is = h.bearer.is in
-          let at : b.king ≡ had.number = had.only b.king h.bearer.target (sym (stock_man-men p b.king) ∙ is.is_target) h.other_side h.king in
+          let target : man_at p b.king ≡ Some h.bearer.target = sym (stock_man-men p b.king) ∙ is.is_target in
+          let number : g ≡ b.king = king_at (kings.few (other s)) b.king h.bearer.target target h.other_side h.king in
+          let low = (stock_number p.men b.king h.bearer.target is.is_target).low in
           let number_of = stock_number p.men b.man h.bearer.man is.is_man in
-          lists p.men m s (king_number p.men (other s)) (length p.men) b
-          (record {
-            man = h.bearer.man;
-            is_man = is.is_man;
-            live = is.live;
-            side = h.side;
-            low = slice_get_within (rays_of h.bearer.man.kind h.bearer.man.side) b.ray h.bearer.ray is.ray;
-            serves = is.serves;
-            king = at ∙ sym number;
-          }) number_of.high,
+          some.1 (
+            grind (arith, number, low),
+            lists p.men m s g (length p.men) b
+                (record {
+                  man = h.bearer.man;
+                  is_man = is.is_man;
+                  live = is.live;
+                  side = h.side;
+                  low = slice_get_within (rays_of h.bearer.man.kind h.bearer.man.side) b.ray h.bearer.ray is.ray;
+                  serves = is.serves;
+                  king = sym number;
+                }) number_of.high,
+          ),
     )
 
 -- the man of the one list who is man k of the other

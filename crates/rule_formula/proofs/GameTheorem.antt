@@ -6,7 +6,7 @@ use Rattle.game_rules.specs.declared.men.Man.{Man}
 use Rattle.game_rules.specs.declared.men.Place.TheVariants.{Gone}
 use Rattle.game_rules.specs.declared.men.Ray.{Ray}
 use Rattle.game_rules.specs.declared.men.Square.{Square}
-use Rattle.game_rules.specs.Game.{HasOneKing, IsApart, IsMaskOf, Position, Sound, StandsOn, man_at, other}
+use Rattle.game_rules.specs.Game.{HasKings, HasOneKingAtMost, IsApart, IsMaskOf, Position, Sound, StandsOn, man_at, other}
 use Rattle.game_laws.proofs.RayLemmas.{true_or_not}
 use Rattle.rule_formula.proofs.StockLemmas.{fits_placed}
 use Rattle.rule_formula.specs.declared.opt.Opt.{Opt}
@@ -45,22 +45,24 @@ at_gone : (b : Bool) (z : Square) → place_at b z ≡ Gone → b ≡ false
 at_gone true z e = absurd (cc)
 at_gone false z e = refl
 
-placed_king : {p : Position} (live : ℕ → Bool) (turn : Side) (g : ℕ → Square) → KeepsKings p.men live → {s : Side} → HasOneKing p s → HasOneKing (placed p.men live turn g) s
-placed_king {p} live turn g keeps had =
-    let in_stock : stock_man p.men had.number ≡ Some had.king = stock_man-men p had.number ∙ had.is_man in
-    let on : live had.number ≡ true = keeps had.number had.king in_stock had.is_king.1 in
+placed_kings : {p : Position} (live : ℕ → Bool) (turn : Side) (g : ℕ → Square) → KeepsKings p.men live → {s : Side} → HasOneKingAtMost p s
+    → HasOneKingAtMost (placed p.men live turn g) s
+placed_kings {p} live turn g keeps had =
     record {
-      number = had.number;
-      king = man_placed live g had.number had.king;
-      is_man = placed_man p.men live turn g had.number had.king in_stock;
-      is_king = had.is_king;
-      live = λ gone. let off : live had.number ≡ false = at_gone (live had.number) (g had.number) gone in cc;
-      only = λ k n is side king.
+      live = λ k n is side king gone.
           let w = from_placed p.men live turn g k n is in
-          had.only k w.man (sym (stock_man-men p k) ∙ w.is_man) (sym (ap (λ (a : Man). a.side) w.is) ∙ side) (sym (ap (λ (a : Man). a.kind) w.is) ∙ king);
+          let on : live k ≡ true = keeps k w.man w.is_man (sym (ap (λ (a : Man). a.kind) w.is) ∙ king) in
+          let off : live k ≡ false = at_gone (live k) (g k) (sym (ap (λ (a : Man). a.place) w.is) ∙ gone) in
+          cc;
+      only = λ j k m n is_m is_n side_m side_n king_m king_n.
+          let a = from_placed p.men live turn g j m is_m in
+          let b = from_placed p.men live turn g k n is_n in
+          had.only j k a.man b.man (sym (stock_man-men p j) ∙ a.is_man) (sym (stock_man-men p k) ∙ b.is_man)
+          (sym (ap (λ (x : Man). x.side) a.is) ∙ side_m) (sym (ap (λ (x : Man). x.side) b.is) ∙ side_n)
+          (sym (ap (λ (x : Man). x.kind) a.is) ∙ king_m) (sym (ap (λ (x : Man). x.kind) b.is) ∙ king_n);
     }
 
-pub placed_fits : (p : Position) (live : ℕ → Bool) (turn : Side) (g : ℕ → Square) → IsApart (placed p.men live turn g) → ((s : Side) → HasOneKing p s)
+pub placed_fits : (p : Position) (live : ℕ → Bool) (turn : Side) (g : ℕ → Square) → IsApart (placed p.men live turn g) → HasKings p
     → KeepsKings p.men live → KeepsGone p.men live → Fits p turn (placed p.men live turn g)
 placed_fits p live turn g apart kings keeps gone =
     record {
@@ -74,7 +76,11 @@ placed_fits p live turn g apart kings keeps gone =
           ];
       turn = refl;
       apart = apart;
-      kings = λ s. placed_king live turn g keeps (kings s);
+      kings = record {
+        few = λ s. placed_kings live turn g keeps (kings.few s);
+        some = λ none. kings.some (λ k m is kind.
+            none k (man_placed live g k m) (placed_man p.men live turn g k m (stock_man-men p k ∙ is)) kind);
+      };
     }
 
 -- the mask of a placed position is the one with the same men
@@ -122,10 +128,7 @@ pub fits_kings : {p : Position} {side : Side} {q : Position} → Fits p side q �
 fits_kings {q} fits k m is king =
     let (n, at) = man_of_stock fits.stock k m is in
     let same = fits.stock.men k m n is at in
-    let had = fits.kings n.side in
-    let number : k ≡ had.number = had.only k n at refl (same.1 ∙ king) in
-    let there : man_at q k ≡ Some had.king = subst (λ j. man_at q j ≡ Some had.king) (sym number) had.is_man in
-    live_in_mask q k had.king there had.live
+    live_in_mask q k n at ((fits.kings.few n.side).live k n at refl (same.1 ∙ king))
 
 pub fits_gone : {p : Position} {side : Side} {q : Position} → Fits p side q → KeepsGone p.men (is_live (mask_of q))
 fits_gone {p} {q} fits k m is on gone =
@@ -140,7 +143,7 @@ fits_mask {p} side q fits =
       kings = λ k m is king. fits_kings fits k m (stock_man-men p k ∙ is) king;
     }
 
--- in a position where each side has one live king, each king has his one number: so the start is of the game, too
+-- the start is of the game, too
 pub sound_fits : {p : Position} → Sound p → Fits p p.turn p
 sound_fits {p} sound =
     record {
@@ -227,7 +230,7 @@ pub record Arrives (p : Position) (side : Side) (m : ℕ) (o : Opt) (r : Positio
   pub fits : Fits p (other side) r
   pub mask : mask_of r ≡ target_of m o
 
-pub arrives : {p : Position} {side : Side} {o : Opt} {q r : Position} → ((s : Side) → HasOneKing p s) → Fits p side q
+pub arrives : {p : Position} {side : Side} {o : Opt} {q r : Position} → HasKings p → Fits p side q
     → IsOptionOfSide p.men (mask_of q) side o → TakesOption o q r → Arrives p side (mask_of q) o r
 arrives {p} {side} {o} {q} {r} kings fits (w, his) takes =
     let m : ℕ = mask_of q in

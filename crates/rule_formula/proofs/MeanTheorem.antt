@@ -4,7 +4,7 @@ use Rattle.std.specs.Prelude.{Contains}
 use Rattle.game_rules.specs.declared.men.Side.{Side}
 use Rattle.game_rules.specs.declared.men.Man.{Man}
 use Rattle.game_rules.specs.declared.men.Square.{Square}
-use Rattle.game_rules.specs.Game.{HasOneKing, IsApart, Position, Sound, StandsOn, other}
+use Rattle.game_rules.specs.Game.{HasKings, IsApart, Position, Sound, StandsOn, other}
 use Rattle.rule_formula.proofs.StockLemmas.{fits_placed, fits_unique, fits_values}
 use Rattle.track_word.specs.Tracks.{Values, values_at}
 use Rattle.lin_formula.specs.Tree.{Tree, free_vars}
@@ -141,7 +141,7 @@ image_tracks_are p {m} {o} a few w =
     ∙ tracks_alike (without (is_live m) o.taken) (is_live (target_of m o)) (length p.men)
     (λ k low. sym (without_is m o.taken k low (prey_live p.men m w.man.side o.taken w.is.prey)))
 
-arrives_at : {p : Position} {side : Side} (m : ℕ) {o : Opt} {q r : Position} → ((s : Side) → HasOneKing p s) → Fits p side q → mask_of q ≡ m
+arrives_at : {p : Position} {side : Side} (m : ℕ) {o : Opt} {q r : Position} → HasKings p → Fits p side q → mask_of q ≡ m
     → IsOptionOfSide p.men m side o → TakesOption o q r → Arrives p side m o r
 arrives_at {p} {side} m {o} {r} kings fits mask w takes =
     subst (λ n. IsOptionOfSide p.men n side o → Arrives p side n o r) mask (λ x. arrives kings fits x takes) w

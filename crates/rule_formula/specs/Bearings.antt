@@ -1,5 +1,5 @@
 -- The rays along which the men of a side bear on the other side's king, in order.
-use Rattle.std.specs.Prelude.{◌≡◌, ℕ, zero, suc, Bool, false, ◌&&◌, if◌then◌else◌, List, [], ◌∷◌, ◌++◌, length, Option, Some, None}
+use Rattle.std.specs.Prelude.{◌≡◌, ℕ, zero, suc, Bool, false, ◌&&◌, nat_lt, if◌then◌else◌, List, [], ◌∷◌, ◌++◌, length, Option, Some, None}
 use Rattle.game_rules.specs.declared.men.Kind.{Kind}
 use Rattle.game_rules.specs.declared.men.Kind.TheVariants.{King}
 use Rattle.game_rules.specs.declared.men.Side.{Side}
@@ -21,7 +21,7 @@ abbrev pub king_to : List Man → Side → ℕ → ℕ
 king_to stock s zero = 0
 king_to stock s (suc n) = if is_king_man s (stock_man stock (suc n)) then suc n else king_to stock s n
 
--- the king of the side
+-- the king of the side, or 0
 abbrev pub king_number : List Man → Side → ℕ
 king_number stock s = king_to stock s (length stock)
 
@@ -46,8 +46,10 @@ bearings_to stock mask s g zero = []
 bearings_to stock mask s g (suc n) =
     bearings_to stock mask s g n ++ man_bearings mask s g (suc n) (stock_man stock (suc n))
 
+-- none where the other side has no king
 abbrev pub bearings_of : List Man → ℕ → Side → List Bearing
-bearings_of stock mask s = bearings_to stock mask s (king_number stock (other s)) (length stock)
+bearings_of stock mask s =
+    if nat_lt 0 (king_number stock (other s)) then bearings_to stock mask s (king_number stock (other s)) (length stock) else []
 
 -- a live man of the side, a ray along which he bears, and the other side's king
 pub record IsBearingOf (stock : List Man) (mask : ℕ) (s : Side) (b : Bearing) : Type 0 where

@@ -5,20 +5,20 @@ use Rattle.game_rules.specs.declared.men.Kind.TheVariants.{King}
 use Rattle.game_rules.specs.declared.men.Side.{Side}
 use Rattle.game_rules.specs.declared.men.Man.{Man}
 use Rattle.game_rules.specs.declared.men.Place.TheVariants.{Gone}
-use Rattle.game_rules.specs.Game.{HasOneKing, IsApart, Position, man_at}
+use Rattle.game_rules.specs.Game.{HasKings, IsApart, Position, man_at}
 use Rattle.rule_formula.specs.declared.opt.Opt.{Opt}
 use Rattle.rule_formula.specs.Options.{is_king}
 use Rattle.rule_formula.specs.Placed.{is_live}
 use Rattle.mask_sets.specs.Stock.{HasStock, mask_of, stock_man}
 
 -- q may come up in a game from p with this side to move: the same men, of whom none is back who was gone,
--- live men on distinct squares, and both kings live
+-- live men on distinct squares, and one king a side at most, who is live, and some king
 pub record Fits (p : Position) (side : Side) (q : Position) : Type 0 where
   pub stock : HasStock p.men q
   pub none_back : (k : ℕ) (m n : Man) → man_at p k ≡ Some m → man_at q k ≡ Some n → m.place ≡ Gone → n.place ≡ Gone
   pub turn : q.turn ≡ side
   pub apart : IsApart q
-  pub kings : (s : Side) → HasOneKing q s
+  pub kings : HasKings q
 
 -- the mask without a man, or with no man the mask
 abbrev pub mask_without : ℕ → ℕ → ℕ

@@ -1,7 +1,7 @@
 -- What the formulas of the rules mean at the positions of one game.
 use Rattle.std.specs.Prelude.{◌≡◌, ◌↔◌, ℕ, ◌<◌, ◌≤◌, List, length, ℤ, Contains, Some}
 use Rattle.game_rules.specs.declared.men.Side.{Side}
-use Rattle.game_rules.specs.Game.{HasOneKing, InCheck, Position, Sound, other}
+use Rattle.game_rules.specs.Game.{HasKings, InCheck, Position, Sound, other}
 use Rattle.track_word.specs.declared.tracks.Var.{Var}
 use Rattle.lin_formula.specs.Tree.{Tree, Among, Or, free_vars}
 use Rattle.lin_formula.specs.SetOf.{Member, SetOf, Where}
@@ -100,10 +100,10 @@ pub record PairsMean (p : Position) (m : ℕ) (w : ManPair) : Type 0 where
   pub within : (a : ℕ) (e : ℕ → SetOf) (tuple : List ℤ) → Member (Where (twins_tree 8 m w.first w.second a) e) tuple
       → Member (e a) tuple
 
--- two to eight men, with one live king a side
+-- up to eight men, with a king, and one a side at most, who is live
 pub record IsGame (p : Position) : Type 0 where
   pub few : length p.men ≤ 8
-  pub kings : (s : Side) → HasOneKing p s
+  pub kings : HasKings p
 
 -- what the formulas mean in the game that begins at p
 pub record RulesMean (p : Position) : Type 0 where

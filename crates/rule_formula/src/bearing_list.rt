@@ -2,7 +2,7 @@
 
 ghost use Rattle.std.specs.Prelude.{◌≡◌, ◌↔◌, ◌≤◌, ◌++◌, Contains, IfOk, OnOk, Some, length};
 ghost use Rattle.game_rules.specs.declared.men.Side.{Side};
-ghost use Rattle.game_rules.specs.Game.{HasOneKing};
+ghost use Rattle.game_rules.specs.Game.{HasKings};
 ghost use Rattle.rule_formula.specs.declared.opt.Bearing.{Bearing};
 ghost use Rattle.rule_formula.specs.Bearings.{IsBearingOf, along_rays, bearings_of, is_king_man, king_number as number_of_king, king_to, man_bearings};
 ghost use Rattle.rule_formula.specs.Fits.{IsGameMask};
@@ -87,6 +87,9 @@ fn list(alloc: Global, stock: &Position, force: Force) -> Result<Bearings, Alloc
 {
     let king = king_number(stock, force.side.other());
     let mut bearings = Vec::new(alloc);
+    if king == 0 {
+        return Ok(bearings);
+    }
     for n in 0..stock.count() {
         let number = n + 1;
         let man = man_of(stock, number);
@@ -102,7 +105,7 @@ pub fn bearings(
     mask: u8,
     side: Side,
 ) -> Result<Vec<Bearing>, AllocError>
-    requires kings { (s : Side) → HasOneKing stock.now s }
+    requires kings { HasKings stock.now }
     requires mask { IsGameMask stock.now mask }
     ensures list { IfOk result (λ all. all.items ≡ bearings_of stock.now.men mask side) }
     ensures exact { IfOk result (λ all. (b : Bearing) → Contains all.items b ↔ IsBearingOf stock.now.men mask side b) }

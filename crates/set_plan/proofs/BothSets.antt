@@ -3,6 +3,7 @@ use Rattle.std.proofs.Common.{◌≡◌, ◌↔◌, ℕ, suc, ◌<◌, ◌≤◌
 use Rattle.std.specs.List.{AllPairs}
 use Rattle.std.proofs.lemmas.Bool.{ltb-true}
 use Rattle.std.proofs.lemmas.List.Kept.{AllPairs-from_increasing}
+use Rattle.limits.specs.declared.numbers.TheConstants.{MOST_STATES}
 use Rattle.track_word.specs.declared.tracks.Var.{Var}
 use Rattle.track_word.specs.Word.{IsWord}
 use Rattle.track_word.specs.Tracks.{IsAscending, with_var, with_vars}
@@ -123,14 +124,14 @@ module _ (tracks : List Var) (a b : Automaton) (left : DecidesOn tracks a) (righ
       tracks_are = decided.tracks ∙ free-tracks connective;
     }
 
-    pub both-set : IsReduced r → (budget : ℕ) → budget ≤ 200000 → (BothSpreadExceeds a.tracks b.tracks (Accepts a) (Accepts b) budget → ⊥) → IsSetOn tracks r
+    pub both-set : IsReduced r → (budget : ℕ) → budget ≤ MOST_STATES → (BothSpreadExceeds a.tracks b.tracks (Accepts a) (Accepts b) budget → ⊥) → IsSetOn tracks r
     both-set reduced budget high within =
         let states =
         few_states (members (two (Table a) (Table b))) budget 1 (some_step connective tracks) decided reduced
         (none-over connective budget (λ over. within ((both-exceeds connective budget).1 over))) in
         record { reduced = reduced; decides = decides-on; few = omega (arith, states, high) }
 
-    pub both-reached : AllReached r → length r.accept ≤ 200000 → IsReachedOn tracks r
+    pub both-reached : AllReached r → length r.accept ≤ MOST_STATES → IsReachedOn tracks r
     both-reached reached few = record { reached = reached; decides = decides-on; few = few }
 
   -- a side that serves as the product

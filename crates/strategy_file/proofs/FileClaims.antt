@@ -82,7 +82,7 @@ module _ (version : Version) (c : Claim) (h : HasFile version c) where
 
   pub file_is_claim : IsClaim c
   file_is_claim = record {
-    sound = h.sound;
+    sound = h.sound.sound;
     few = few_men version (length c.position.men) h.fits.most;
     found = λ ply mask losers game.
         is_some_in c.sets ply mask (subst (λ (ps : List (ℕ × ℕ)). Contains {X = ℕ × ℕ} ps (ply, mask)) (sym h.places) ((places_of-are c.winner c.position c.moves ply mask).1 (losers, game)));

@@ -1,9 +1,10 @@
 -- Claims that have a file.
 use Rattle.std.specs.Prelude.{◌≡◌, ◌≤◌, length, map}
 use Rattle.std.specs.List.{All}
-use Rattle.limits.specs.declared.numbers.TheConstants.{MOST_MOVES, MOST_STATES}
+use Rattle.limits.specs.declared.numbers.TheConstants.{MOST_MOVES}
+use Rattle.strategy_file.specs.declared.most.TheConstants.{MOST_FILED_STATES}
 use Rattle.auto_core.specs.Automaton.{IsAutomaton}
-use Rattle.game_rules.specs.Game.{Position, Sound}
+use Rattle.game_rules.specs.Game.{Position, SoundWithKings}
 use Rattle.game_rules.specs.declared.men.Side.{Side}
 use Rattle.chess_game.specs.Near.{IsNarrowPosition}
 use Rattle.rule_formula.specs.Mean.{mask_tracks}
@@ -18,7 +19,7 @@ use Rattle.strategy_file.specs.Numbers.{turn_byte, kind_byte}
 pub record IsFormed (p : Position) (s : ClaimedSet) : Type 0 where
   pub tracks : s.set.tracks ≡ mask_tracks p s.mask
   pub valid : IsAutomaton s.set
-  pub few : length s.set.accept ≤ MOST_STATES
+  pub few : length s.set.accept ≤ MOST_FILED_STATES
 
 -- a file of the version can tell the winner, and has room for the men and bytes for their kinds
 pub record FitsVersion (version : Version) (winner : Side) (p : Position) : Type 0 where
@@ -31,7 +32,7 @@ pub record FitsVersion (version : Version) (winner : Side) (p : Position) : Type
 -- loser and each mask, in order.
 pub record HasFile (version : Version) (c : Claim) : Type 0 where
   pub fits : FitsVersion version c.winner c.position
-  pub sound : Sound c.position
+  pub sound : SoundWithKings c.position
   pub moves : c.moves ≤ MOST_MOVES
   pub least : 2 ≤ length c.position.men
   pub narrow : IsNarrowPosition c.position

@@ -3,7 +3,7 @@ use Rattle.std.specs.Prelude.{◌≡◌, ◌⊎◌, ℕ, List, length, map, Resu
 use Rattle.std.specs.Int.{w8}
 use Rattle.std.specs.List.{flat_map}
 use Rattle.track_word.specs.declared.tracks.Var.{Var}
-use Rattle.game_rules.specs.Game.{Position, Sound}
+use Rattle.game_rules.specs.Game.{Position, SoundWithKings}
 use Rattle.game_rules.specs.declared.men.Side.{Side}
 use Rattle.rule_formula.specs.Fits.{masks_of}
 use Rattle.rule_formula.specs.Mean.{mask_tracks}
@@ -67,11 +67,11 @@ charts_layout start = do
 abbrev pub SetsFollow : Start → ℕ → List ℕ → Result Charts Refusal → Type 0
 SetsFollow start at bytes outcome = Reads (charts_layout start) IsFileEnd at bytes outcome
 
--- after the men the position has to be sound
+-- after the men the position has to be sound, with a king on each side
 abbrev pub GoesOn : Start → ℕ → List ℕ → Result Charts Refusal → Type 0
 GoesOn start at bytes outcome =
-    ((Sound start.position → ⊥) × (outcome ≡ Err (Byte at why.Unsound)))
-    ⊎ (Sound start.position × SetsFollow start at bytes outcome)
+    ((SoundWithKings start.position → ⊥) × (outcome ≡ Err (Byte at why.Unsound)))
+    ⊎ (SoundWithKings start.position × SetsFollow start at bytes outcome)
 
 -- the bytes are the file of a claim with these tables, or this is the first reason why they are no file
 abbrev pub File : List ℕ → Result Charts Refusal → Type 0

@@ -8,9 +8,9 @@ ghost use Rattle.strategy_file.specs.Rests.{ReadBy};
 ghost use Rattle.strategy_file.specs.SharedTables.{CanBePart, IsPart, node_layout, nodes_layout, part_field};
 
 use crate::fields::Rest;
+use crate::most::MOST_FILED_STATES;
 use crate::refusal::{ByteWhy, FileError};
 use auto_nodes::{MOST_NODES, RowNode};
-use limits::MOST_STATES;
 use std::alloc::Global;
 
 /// The bytes of a node.
@@ -19,7 +19,7 @@ const NODE_BYTES: usize = 9;
 /// Whether a reference names a state or one of these nodes, and what it names looks only at tracks after the track.
 #[tactic(auto, using(crate::proofs::NodeReads::part_state, crate::proofs::NodeReads::part_node, crate::proofs::NodeReads::part_none))]
 fn can_be_part(states: u32, nodes: &[RowNode], track: u8, part: u32) -> bool
-    requires states { states ≤ MOST_STATES }
+    requires states { states ≤ MOST_FILED_STATES }
     requires track { track < 20 }
     ensures { result ≡ CanBePart states nodes.now track part }
 {
@@ -40,7 +40,7 @@ fn part_at<'a>(
     track: u8,
     rest: Rest<'a>,
 ) -> Result<(u32, Rest<'a>), FileError>
-    requires states { states ≤ MOST_STATES }
+    requires states { states ≤ MOST_FILED_STATES }
     requires track { track < 20 }
     ensures part { ReadBy (λ x. x) (one (part_field states nodes.now track)) rest.entry result }
     ensures is { IfOk result (λ x. IsPart states nodes.now track x.0) }
@@ -64,7 +64,7 @@ fn node_at<'a>(
     rest: Rest<'a>,
 ) -> Result<(RowNode, Rest<'a>), FileError>
     requires few { tracks ≤ 20 }
-    requires states { states ≤ MOST_STATES }
+    requires states { states ≤ MOST_FILED_STATES }
     ensures node { ReadBy (λ x. x) (node_layout tracks states nodes.now) rest.entry result }
     ensures is { IfOk result (λ x. IsRowNode (named states nodes.now) tracks (states + length nodes.now) x.0) }
 {
@@ -83,7 +83,7 @@ pub(crate) fn nodes_at<'a>(
     rest: Rest<'a>,
 ) -> Result<(Vec<RowNode>, Rest<'a>), FileError>
     requires few { tracks ≤ 20 }
-    requires states { states ≤ MOST_STATES }
+    requires states { states ≤ MOST_FILED_STATES }
     requires count { count ≤ MOST_NODES }
     ensures nodes { ReadBy (λ x. x.items) (nodes_layout tracks states count []) rest.entry result }
     ensures count { IfOk result (λ x. length x.0.items ≡ count) }

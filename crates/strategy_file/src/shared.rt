@@ -11,11 +11,12 @@ ghost use Rattle.strategy_file.specs.SharedTables.{shared_states_layout, shared_
 ghost use Rattle.strategy_file.specs.Tables.{shared_layout, table_of};
 
 use crate::fields::Rest;
+use crate::most::MOST_FILED_STATES;
 use crate::nodes::nodes_at;
 use crate::refusal::{ByteWhy, FileError};
 use auto_core::Auto;
 use auto_nodes::{MOST_NODES, NodeTable, from_nodes};
-use limits::{MOST_STATES, MOST_TRACKS};
+use limits::MOST_TRACKS;
 use std::alloc::{AllocError, Global};
 use std::marker::Model;
 use track_word::Var;
@@ -127,11 +128,11 @@ pub(crate) fn shared_at(
     requires ascending { IsAscending tracks.items }
     requires few { length tracks.items ≤ MOST_TRACKS }
     requires some { 1 ≤ states }
-    requires most { states ≤ MOST_STATES }
+    requires most { states ≤ MOST_FILED_STATES }
     ensures table { ReadBy table_of (shared_layout (length tracks.items) states) rest.entry result }
     ensures tracks { IfOk result (λ x. x.0.tracks ≡ tracks.items) }
     ensures valid { IfOk result (λ x. IsAutomaton x.0) }
-    ensures few { IfOk result (λ x. length x.0.accept ≤ MOST_STATES) }
+    ensures few { IfOk result (λ x. length x.0.accept ≤ MOST_FILED_STATES) }
 {
     let (count, rest) = rest.number(0, MOST_NODES as u32, ByteWhy::Nodes)?;
     let (nodes, rest) = nodes_at(alloc, tracks.len() as u8, states, count, rest)?;

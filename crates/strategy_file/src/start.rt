@@ -2,14 +2,14 @@
 
 ghost use Rattle.std.specs.Prelude.{◌≤◌, length};
 ghost use Rattle.limits.specs.declared.numbers.TheConstants.{MOST_MOVES};
-ghost use Rattle.game_rules.specs.Game.{Sound};
-ghost use Rattle.game_laws.specs.Soundness.{Sound-prop};
+ghost use Rattle.game_rules.specs.Game.{SoundWithKings};
+ghost use Rattle.game_laws.specs.Soundness.{SoundWithKings-prop};
 ghost use Rattle.strategy_file.specs.Versions.{most_men};
 
 use crate::version::Version;
 use chess_game::{Position, Side};
 
-/// What stands before the sets: as many moves as there may be, and a sound position of as many men as the version has.
+/// What stands before the sets: as many moves as there may be, and a sound position, a king on each side, of as many men as the version has.
 #[derive(Clone, Copy)]
 pub(crate) struct FileHead {
     pub(crate) version: Version,
@@ -18,5 +18,5 @@ pub(crate) struct FileHead {
     pub(crate) position: Position,
     ghost within: { moves ≤ MOST_MOVES },
     ghost few: { length position.men ≤ most_men version },
-    ghost sound: { Sound position } by { Sound-prop position },
+    ghost sound: { SoundWithKings position } by { SoundWithKings-prop position },
 }

@@ -7,7 +7,7 @@ use Rattle.track_word.specs.declared.tracks.Var.{Var}
 use Rattle.track_word.specs.Word.{IsWord}
 use Rattle.auto_core.specs.Automaton.{Automaton, Accepts}
 use Rattle.auto_reduce.specs.Tables.{AcceptSameWords}
-use Rattle.game_rules.specs.Game.{HasOneKing, Position, man_at}
+use Rattle.game_rules.specs.Game.{HasBothKings, HasOneKing, Position, man_at}
 use Rattle.game_rules.specs.declared.men.Man.{Man}
 use Rattle.game_rules.specs.declared.men.Side.{Side}
 use Rattle.game_rules.specs.declared.men.Side.TheVariants.{White, Black}
@@ -91,14 +91,14 @@ module _ (s : Solution) (valid : IsSolution s) where
       let fewer = h.fewer in
       record { tracks = h.tracks ∙ kept.tracks; valid = h.in_order.valid; few = omega (arith, few, fewer) }
 
-  pub claim_has_file : (version : Version) → FitsVersion version s.winner s.position → IsNarrowPosition s.position → (c : Claim) → IsClaimOf s c → HasFile version c
-  claim_has_file version fits narrow c h =
+  pub claim_has_file : (version : Version) → HasBothKings s.position → FitsVersion version s.winner s.position → IsNarrowPosition s.position → (c : Claim) → IsClaimOf s c → HasFile version c
+  claim_has_file version kings fits narrow c h =
       let same = sym h.position in
       record {
         fits = rw (h.winner, h.position) fits;
-        sound = rw h.position valid.sound;
+        sound = rw h.position (record { sound = valid.sound; kings = kings });
         moves = rw h.moves valid.moves;
-        least = rw h.position (two_men s.position valid.sound.kings);
+        least = rw h.position (two_men s.position kings);
         narrow = rw h.position narrow;
         places = h.places ∙ rw (h.winner, h.position, h.moves) refl;
         sets = subst (λ (p : Position). All (IsFormed p) c.sets) same (All-weaker (IsOfKeptSet s) (IsFormed s.position) formed_of c.sets h.sets);

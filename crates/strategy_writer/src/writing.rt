@@ -6,6 +6,7 @@ ghost use Rattle.strategy_writer.specs.Written.{coordinate_bytes, start_bytes, f
 ghost use Rattle.std.specs.List.{flat_map};
 ghost use Rattle.strategy_writer.specs.KeptClaims.{as_claim, as_set};
 ghost use Rattle.chess_game.specs.Near.{IsNarrowMan, IsNarrowPosition};
+ghost use Rattle.game_rules.specs.Game.{HasBothKings};
 ghost use Rattle.strategy_file.specs.Fitting.{FitsVersion, HasFileOf};
 ghost use Rattle.strategy_writer.specs.ReducedClaims.{IsWriteClaimRefusal, IsWrittenOf};
 ghost use Rattle.strategy_file.specs.Claims.{claim_of};
@@ -257,6 +258,7 @@ fn write_dense(alloc: Global, claim: &KeptClaim) -> Result<Vec<u8>, WriteFileErr
 /// in time, they are the file of a claim that isn't won.
 pub fn write_file(alloc: Global, solved: &Solved) -> Result<Vec<u8>, WriteFileError>
     requires plan { solved.now.origin ≡ Origin.Plan }
+    requires kings { HasBothKings solved.now.position }
     ensures file { IfOk result (λ bytes. IsFileOf Version.Shared solved.now bytes.items) }
     ensures small { IfOk result (λ bytes. length bytes.items ≤ most_bytes) }
     ensures refused { IfErr result (IsFileRefusal Version.Shared solved.now) }
@@ -269,6 +271,7 @@ pub fn write_file(alloc: Global, solved: &Solved) -> Result<Vec<u8>, WriteFileEr
 /// The bytes of the file of version 1 of such a position, where `Version::Dense` fits the winner and the position.
 pub fn write_file_1(alloc: Global, solved: &Solved) -> Result<Vec<u8>, WriteFileError>
     requires plan { solved.now.origin ≡ Origin.Plan }
+    requires kings { HasBothKings solved.now.position }
     requires fits { FitsVersion Version.Dense solved.now.winner solved.now.position }
     ensures file { IfOk result (λ bytes. IsFileOf Version.Dense solved.now bytes.items) }
     ensures small { IfOk result (λ bytes. length bytes.items ≤ most_bytes) }

@@ -3,7 +3,7 @@ use Rattle.std.proofs.Common.{◌≡◌, ℕ, Bool, Option, Some, None, refl, sy
 use Rattle.std.specs.Prelude.{IsSomeAnd}
 use Rattle.auto_core.specs.Automaton.{Automaton}
 use Rattle.auto_core.specs.Integers.{IsAccepted}
-use Rattle.game_rules.specs.Game.{HasOneKing, InCheck, IsApart, Position, Sound, Value, other}
+use Rattle.game_rules.specs.Game.{HasKings, InCheck, IsApart, Position, Sound, Value, other}
 use Rattle.game_rules.specs.declared.men.Side.{Side}
 use Rattle.game_laws.proofs.SoundLemmas.{other_other}
 use Rattle.rule_formula.specs.Fits.{Fits, IsGameMask}
@@ -20,7 +20,7 @@ use Rattle.winning_sets.specs.OfGame.{AreOfGame}
 use Rattle.winning_sets.proofs.WonLemmas.{won_value}
 
 -- a position of the stock with a mask of the game whose men stand apart is one of the game
-pub stock_fits : {p q : Position} → ((s : Side) → HasOneKing p s) → HasStock p.men q → IsGameMask p (mask_of q) → IsApart q → Fits p q.turn q
+pub stock_fits : {p q : Position} → HasKings p → HasStock p.men q → IsGameMask p (mask_of q) → IsApart q → Fits p q.turn q
 stock_fits {p} {q} kings stock game apart =
     let live : ℕ → Bool = is_live (mask_of q) in
     let is : placed p.men live q.turn (squares_of q) ≡ q = stock_placed stock in

@@ -5,7 +5,7 @@ use Rattle.auto_core.specs.Automaton.{Automaton}
 use Rattle.game_rules.specs.Game.{Position, Sound}
 use Rattle.game_rules.specs.declared.men.Place.TheVariants.{Gone}
 use Rattle.game_rules.specs.declared.men.Side.TheVariants.{White}
-use Rattle.game_laws.proofs.SoundLemmas.{any_at}
+use Rattle.game_laws.proofs.KingLemmas.{a_king_lives}
 use Rattle.lin_formula.specs.declared.formula.SetId.{SetId}
 use Rattle.rule_formula.specs.Mean.{IsGame, RulesMean}
 use Rattle.rule_formula.specs.Trees.{point_of}
@@ -26,8 +26,7 @@ mean {p} sound few = let game : IsGame p = record { few = few; kings = sound.kin
 -- and some man is live in it
 pub some_point : {p : Position} → Sound p → point_of p.men ≡ None → ⊥
 some_point {p} sound =
-    let king = sound.kings White in
-    point_made p (any_at p (λ m. m.place ≢ Gone) king.number king.king king.is_man king.live)
+    point_made p (a_king_lives sound.kings)
 
 pub forward_means : ForwardIsReach
 forward_means = λ p ply entries levels sound few t. forward_is_reach p sound few (mean sound few) (some_point sound) ply entries levels t

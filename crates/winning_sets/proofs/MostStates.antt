@@ -5,6 +5,7 @@ use Rattle.std.specs.List.{Contains}
 use Rattle.std.specs.Prelude.{option_copied}
 use Rattle.std.proofs.lemmas.Bool.{cases_lt}
 use Rattle.std.proofs.lemmas.List.Elements.{at_from_Contains}
+use Rattle.limits.specs.declared.numbers.TheConstants.{MOST_STATES}
 use Rattle.auto_core.specs.Automaton.{Automaton}
 use Rattle.rule_formula.specs.Fits.{masks_of}
 use Rattle.rule_formula.proofs.MasksTheorem.{masks_are}
@@ -48,13 +49,13 @@ most_is s valid count within least = record {
 }
 
 -- each set has few states, and so has the one that has most
-pub most_few : {s : Solution} → IsValid s → {count : ℕ} → IsMostStates s count → count ≤ 200000
-most_few {s} valid most = most.least 200000 (λ ply mask a some. (valid_formed s valid ply mask a some).few)
+pub most_few : {s : Solution} → IsValid s → {count : ℕ} → IsMostStates s count → count ≤ MOST_STATES
+most_few {s} valid most = most.least MOST_STATES (λ ply mask a some. (valid_formed s valid ply mask a some).few)
 
-pub kept_few : (s : Solution) → IsValid s → (ply mask : ℕ) (o : Option (Bor Automaton)) → option_copied o ≡ kept_at s ply mask → IfSome o (λ a. length a.now.accept ≤ 200000)
+pub kept_few : (s : Solution) → IsValid s → (ply mask : ℕ) (o : Option (Bor Automaton)) → option_copied o ≡ kept_at s ply mask → IfSome o (λ a. length a.now.accept ≤ MOST_STATES)
 kept_few s valid ply mask None is = tt
 kept_few s valid ply mask (Some a) is = (valid_formed s valid ply mask a.now (sym is)).few
 
-pub reached_few : (s : Solution) → IsValid s → (ply mask : ℕ) (o : Option (Bor Automaton)) → option_copied o ≡ reach_at s ply mask → IfSome o (λ a. length a.now.accept ≤ 200000)
+pub reached_few : (s : Solution) → IsValid s → (ply mask : ℕ) (o : Option (Bor Automaton)) → option_copied o ≡ reach_at s ply mask → IfSome o (λ a. length a.now.accept ≤ MOST_STATES)
 reached_few s valid ply mask None is = tt
 reached_few s valid ply mask (Some a) is = valid_reached s valid ply mask a.now (sym is)

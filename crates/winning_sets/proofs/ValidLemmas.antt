@@ -1,5 +1,6 @@
 -- What holds of a valid solution, wherever its sets come from. Other crates may cite these lemmas.
 use Rattle.std.proofs.Common.{◌≡◌, ◌↔◌, ℕ, zero, suc, ◌≤◌, length, Some, sym, ◌∙◌, subst, arith}
+use Rattle.limits.specs.declared.numbers.TheConstants.{MOST_STATES}
 use Rattle.auto_core.specs.Automaton.{Automaton}
 use Rattle.formula_auto.proofs.FirstOvers.{none_some}
 use Rattle.game_rules.specs.Game.{Position, Sound, Value}
@@ -18,7 +19,7 @@ plan_valid s valid is = subst (λ (o : Origin). IsValidBy o s) is valid
 pub claim_valid : (s : Solution) → IsValid s → s.origin ≡ Claimed → IsWonClaim s
 claim_valid s valid is = subst (λ (o : Origin). IsValidBy o s) is valid
 
-reached_formed : (p : Position) (last : ℕ) (sets : Sets) → AreReachedTo p last sets → (ply mask : ℕ) (a : Automaton) → sets ply mask ≡ Some a → length a.accept ≤ 200000
+reached_formed : (p : Position) (last : ℕ) (sets : Sets) → AreReachedTo p last sets → (ply mask : ℕ) (a : Automaton) → sets ply mask ≡ Some a → length a.accept ≤ MOST_STATES
 reached_formed p zero sets none ply mask a some = none_some (sym some ∙ none ply mask)
 reached_formed p (suc last) sets are ply mask a some = (are.formed ply mask a some).few
 
@@ -46,7 +47,7 @@ module _ (s : Solution) where
       let before = losers.before in
       (omega (arith, before), game)
 
-  reached_by : (o : Origin) → IsValidBy o s → (ply mask : ℕ) (a : Automaton) → reach_at s ply mask ≡ Some a → length a.accept ≤ 200000
+  reached_by : (o : Origin) → IsValidBy o s → (ply mask : ℕ) (a : Automaton) → reach_at s ply mask ≡ Some a → length a.accept ≤ MOST_STATES
   reached_by Plan is ply mask a some = reached_formed s.position (end_of s) (reach_at s) is.reached ply mask a some
   reached_by Claimed is ply mask a some = none_some (sym some ∙ is.unreached ply mask)
 
@@ -68,7 +69,7 @@ module _ (s : Solution) where
     pub valid_only : (ply mask : ℕ) (a : Automaton) → kept_at s ply mask ≡ Some a → (ply ≤ end_of s) × IsGameMask s.position mask
     valid_only = only_by s.origin valid
 
-    pub valid_reached : (ply mask : ℕ) (a : Automaton) → reach_at s ply mask ≡ Some a → length a.accept ≤ 200000
+    pub valid_reached : (ply mask : ℕ) (a : Automaton) → reach_at s ply mask ≡ Some a → length a.accept ≤ MOST_STATES
     valid_reached = reached_by s.origin valid
 
     -- with the sets of a plan the starting position is kept exactly where the winner mates in time

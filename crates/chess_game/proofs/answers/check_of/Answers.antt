@@ -3,8 +3,14 @@ use Rattle.std.specs.Option.{MatchOption}
 use Rattle.game_rules.specs.Game.{InCheck}
 use Rattle.game_laws.specs.Answer.{IsCheckFrom}
 use Rattle.chess_game.specs.Check.{IsCheckerOn, IsCloseCheck, IsKingOn}
-use Rattle.chess_game.proofs.MatedLemmas.{any_close, king_attacked}
+use Rattle.chess_game.proofs.MatedLemmas.{any_close, king_attacked, no_check}
 use Rattle.chess_game.proofs.answers.check_of.Goals as goal
+
+pub returns-in_err-king : goal.returns-in_err-king
+returns-in_err-king c =
+    let p = c.args.board.now in
+    subst (λ o. MatchOption o (InCheck p p.turn → ⊥) (λ c. IsCloseCheck c × IsCheckFrom p c.from c.king)) (sym c.from_residual.ensures)
+    (no_check p p.turn c.in_err-king.ensures)
 
 pub returns-in_err-from : goal.returns-in_err-from
 returns-in_err-from c =

@@ -1,8 +1,9 @@
 use Rattle.std.proofs.Common.{◌≡◌, ◌∙◌, ap, subst, sym, true, rules}
-use Rattle.game_rules.specs.Game.{InCheck, other}
+use Rattle.game_rules.specs.Game.{HasBothKings, InCheck, other}
 use Rattle.game_rules.specs.declared.men.Side.TheVariants.{White, Black}
 use Rattle.chess_game.specs.declared.unsoundness.Unsound.TheVariants.{OtherInCheck}
 use Rattle.chess_game.specs.Unsoundness.{IsFirstUnsoundness}
+use Rattle.game_laws.proofs.KingLemmas.{both_kings}
 use Rattle.chess_game.proofs.UnsoundnessLemmas.{apart_from, clear_apart, clear_kings, first_unsoundness, first_pair, kings_from, one_king}
 use Rattle.chess_game.proofs.unsoundness.check_setup.Goals as goal
 
@@ -28,13 +29,19 @@ returns-then-in_check-clause-reason c =
 
 pub returns-clause-ok : goal.returns-clause-ok
 returns-clause-ok c =
+    let kings : HasBothKings c.args.setup.now =
+    kings_from
+    (one_king c.args.setup.now White c.in_ok-white.white c.in_ok-white.ensures.king c.in_ok-white.ensures.first c.in_ok-check_only.ensures.only c.in_ok-check_live.ensures.live)
+    (one_king c.args.setup.now Black c.in_ok-black.black c.in_ok-black.ensures.king c.in_ok-black.ensures.first c.in_ok-check_only-2.ensures.only c.in_ok-check_live-2.ensures.live)
+    in
     record {
-      kings = kings_from
-          (one_king c.args.setup.now White c.in_ok-white.white c.in_ok-white.ensures.king c.in_ok-white.ensures.first c.in_ok-check_only.ensures.only c.in_ok-check_live.ensures.live)
-          (one_king c.args.setup.now Black c.in_ok-black.black c.in_ok-black.ensures.king c.in_ok-black.ensures.first c.in_ok-check_only-2.ensures.only c.in_ok-check_live-2.ensures.live);
-      apart = apart_from c.args.setup.now c.in_ok-check_apart.ensures.apart;
-      other_safe = λ h.
-          let yes : c.in_check.result ≡ true =
-          c.in_check.ensures.1 (subst (InCheck c.args.setup.now) (sym (c.other.ensures ∙ ap other c.turn.ensures)) h) in
-          cc;
+      sound = record {
+        kings = both_kings kings;
+        apart = apart_from c.args.setup.now c.in_ok-check_apart.ensures.apart;
+        other_safe = λ h.
+            let yes : c.in_check.result ≡ true =
+            c.in_check.ensures.1 (subst (InCheck c.args.setup.now) (sym (c.other.ensures ∙ ap other c.turn.ensures)) h) in
+            cc;
+      };
+      kings = kings;
     }
