@@ -16,5 +16,5 @@ loop-owner-preserved g c =
     let i = c.loop-owner.owner-index in
     let below : c.loop-owner.owner-index < length c.args.merging.now.owners.items = rw value at c.loop-owner-test.true in
     rw c.in_ok-push.ensures.items
-    (AreClassFlags-more (g.R.Rows.graph c.args.rows.now).walker (g.R.Rows.places c.args.rows.now c.args.merging.now.led.seen) owners i (get_or owners i 0) c.is_final.result below
+    (AreClassFlags-more (g.R.RowSource.graph c.args.rows.now).walker (g.R.RowSource.places c.args.rows.now c.args.merging.now.led.seen) owners i (get_or owners i 0) c.is_final.result below
     (get_or_default owners i 0 (get_or owners i 0) below) (rw value at c.is_final.ensures) c.loop-owner.invariant)

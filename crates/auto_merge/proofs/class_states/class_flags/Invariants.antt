@@ -4,4 +4,4 @@ use Rattle.auto_merge.proofs.class_states.class_flags.Given as goal
 
 abbrev pub invariant-loop-owner : goal.invariant-loop-owner
 invariant-loop-owner g l =
-    AreClassFlags (g.R.Rows.graph l.rows).walker (g.R.Rows.places l.rows l.merging.led.seen) (take l.owner-index l.merging.owners.items) l.flags.items
+    AreClassFlags (g.R.RowSource.graph l.rows).walker (g.R.RowSource.places l.rows l.merging.led.seen) (take l.owner-index l.merging.owners.items) l.flags.items

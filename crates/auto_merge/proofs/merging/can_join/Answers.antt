@@ -18,7 +18,7 @@ returns-then-key g c = λ can.
     let same : c.is_final.result ≡ c.is_final-2.result = let no = c.if-is_final.false in grind (arith, common_steps, no) in
     let equal : c.args.key.now.node ≡ c.in-Some.row = grind (arith, common_steps, can, c.eq.ensures) in
     CanJoin-agrees at c.requires.key row
-    (flags_agree (g.R.Rows.graph c.args.rows.now).walker c.index-owner.result.now c.args.number (Extends-refl (g.R.Rows.places c.args.rows.now c.args.merging.now.led.seen)) c.is_final.ensures c.is_final-2.ensures same)
+    (flags_agree (g.R.RowSource.graph c.args.rows.now).walker c.index-owner.result.now c.args.number (Extends-refl (g.R.RowSource.places c.args.rows.now c.args.merging.now.led.seen)) c.is_final.ensures c.is_final-2.ensures same)
     (record { at = λ letter. inl (ap (λ node. map_at c.args.merging.now.led.to node letter) equal) })
 
 pub returns : goal.returns
@@ -27,5 +27,5 @@ returns g c = λ can.
     let row = rw c.in-Some.is at c.whole_row.ensures in
     let same : c.is_final.result ≡ c.is_final-2.result = let no = c.if-is_final.false in grind (arith, common_steps, no) in
     CanJoin-agrees at c.requires.key row
-    (flags_agree (g.R.Rows.graph c.args.rows.now).walker c.index-owner.result.now c.args.number (Extends-refl (g.R.Rows.places c.args.rows.now c.args.merging.now.led.seen)) c.is_final.ensures c.is_final-2.ensures same)
+    (flags_agree (g.R.RowSource.graph c.args.rows.now).walker c.index-owner.result.now c.args.number (Extends-refl (g.R.RowSource.places c.args.rows.now c.args.merging.now.led.seen)) c.is_final.ensures c.is_final-2.ensures same)
     (c.agrees.ensures.agrees can)

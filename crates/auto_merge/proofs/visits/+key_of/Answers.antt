@@ -23,7 +23,7 @@ fresh_key-place_key-requires g t c κs within =
             (
               within.1.1.1,
               (
-                slice_get_within (g.R.Rows.places c.args.visit.now.rows.now c.look.new.seen) c.in-Place.number one.place one.is,
+                slice_get_within (g.R.RowSource.places c.args.visit.now.rows.now c.look.new.seen) c.in-Place.number one.place one.is,
                 IsMerging-of _ (IsMergingOf-seen (of-IsMerging c.requires.merging) c.look.ensures.kept c.look.ensures.seen),
               ),
             ),
@@ -86,13 +86,13 @@ fresh_key-returns-in_ok-node-in-Test-clause-merging g t c =
 
 -- what is known of the merging behind the visit, where there was one
 module _ (g : Over) (t : ℕ) (c : place_key-After-leaf_key g t) where
-  visited : IsMerging (g.R.Rows.graph c.args.visit.now.rows.now) (g.R.Rows.places c.args.visit.now.rows.now) g.R.Rows.answers c.if-ne.merging
+  visited : IsMerging (g.R.RowSource.graph c.args.visit.now.rows.now) (g.R.RowSource.places c.args.visit.now.rows.now) g.R.RowSource.answers c.if-ne.merging
   visited = elim c.if-ne.branch [
     | place_key-then-ne+then-class_of+in_ok-visit_within w ↦ rw w.merging-is w.in_ok-visit_within.ensures.merging
     | place_key-else-ne w ↦ rw w.merging-is c.requires.merging
   ]
 
-  visited-keeps : Keeps (g.R.Rows.places c.args.visit.now.rows.now) c.args.merging.now c.if-ne.merging
+  visited-keeps : Keeps (g.R.RowSource.places c.args.visit.now.rows.now) c.args.merging.now c.if-ne.merging
   visited-keeps = elim c.if-ne.branch [
     | place_key-then-ne+then-class_of+in_ok-visit_within w ↦ rw w.merging-is w.in_ok-visit_within.ensures.kept
     | place_key-else-ne w ↦ rw w.merging-is (Keeps-refl c.args.merging.now)
@@ -100,7 +100,7 @@ module _ (g : Over) (t : ℕ) (c : place_key-After-leaf_key g t) where
 
 pub place_key-returns-clause-refused : goal.place_key-returns-clause-refused
 place_key-returns-clause-refused g t c =
-    IfErr-leaf (g.R.Rows.graph c.args.visit.now.rows.now) (g.R.Rows.places c.args.visit.now.rows.now c.if-ne.merging.led.seen) c.if-ne.merging.table.items c.args.number c.leaf_key.result
+    IfErr-leaf (g.R.RowSource.graph c.args.visit.now.rows.now) (g.R.RowSource.places c.args.visit.now.rows.now c.if-ne.merging.led.seen) c.if-ne.merging.table.items c.args.number c.leaf_key.result
     (length-Extends c.args.number (visited-keeps g t c).numbers c.requires.known)
     (rw c.as_slice-2.ensures.value at c.leaf_key.ensures.refused)
 

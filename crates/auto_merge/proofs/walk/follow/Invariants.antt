@@ -4,10 +4,10 @@ use Rattle.auto_merge.proofs.walk.follow.Given as goal
 
 abbrev pub invariant-loop-number : goal.invariant-loop-number
 invariant-loop-number g l = record {
-  merging : IsMerging (g.R.Rows.graph l.rows) (g.R.Rows.places l.rows) g.R.Rows.answers l.merging;
-  kept : Keeps (g.R.Rows.places l.rows) l.initial.merging l.merging;
-  way : IsTrailIn (g.R.Rows.places l.rows) l.merging l.way;
+  merging : IsMerging (g.R.RowSource.graph l.rows) (g.R.RowSource.places l.rows) g.R.RowSource.answers l.merging;
+  kept : Keeps (g.R.RowSource.places l.rows) l.initial.merging l.merging;
+  way : IsTrailIn (g.R.RowSource.places l.rows) l.merging l.way;
 }
 
 abbrev pub decreases-loop-number : goal.decreases-loop-number
-decreases-loop-number g l = steps_left_in (g.R.Rows.graph l.rows) l.way
+decreases-loop-number g l = steps_left_in (g.R.RowSource.graph l.rows) l.way

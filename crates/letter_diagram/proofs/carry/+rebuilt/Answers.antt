@@ -34,19 +34,19 @@ test-requires-clause-within g t c =
     let e = c.in-Test.ensures in
     track-within c.in-Test.track c.in-Test.low c.in-Test.high e.diagram e.at e.fits c.requires.can
 
-made : (g : Over) (t : ℕ) (c : In_ok-remember g t) → Carries (g.C.Carry.carrier c.args.carry.now) c.match-shape.to c.args.node c.match-shape.made
+made : (g : Over) (t : ℕ) (c : In_ok-remember g t) → Carries (g.C.Rebuild.carrier c.args.carry.now) c.match-shape.to c.args.node c.match-shape.made
 made g t c = elim c.match-shape.branch [
   | in-Leaf+in_ok-made-in-Leaf w ↦ rw (w.to-is, w.made-is) (
       let e = w.in_ok-made-in-Leaf.ensures in
-      Carries-leaf (g.C.Carry.carrier c.args.carry.now) _ _ _ _ w.in-Leaf.value w.in-Leaf.ensures.at e.grows e.known e.map e.top)
+      Carries-leaf (g.C.Rebuild.carrier c.args.carry.now) _ _ _ _ w.in-Leaf.value w.in-Leaf.ensures.at e.grows e.known e.map e.top)
   | in-Test+in_ok-low-in-Test+in_ok-high-in-Test+in_ok-made-in-Test w ↦ rw (w.to-is, w.made-is) (
       let at = w.in-Test.ensures in
       let e = w.in_ok-made-in-Test.ensures in
       let low = w.in_ok-low-in-Test.ensures in
       let high = w.in_ok-high-in-Test.ensures in
       let sides = Grows-trans low.grows high.grows in
-      let low_there = Carries-grows (g.C.Carry.carrier c.args.carry.now) _ _ high.grows low.rebuilt in
-      Carries-test (g.C.Carry.carrier c.args.carry.now) _ _ _ _ _ w.in-Test.track w.in-Test.low w.in-Test.high _ _
+      let low_there = Carries-grows (g.C.Rebuild.carrier c.args.carry.now) _ _ high.grows low.rebuilt in
+      Carries-test (g.C.Rebuild.carrier c.args.carry.now) _ _ _ _ _ w.in-Test.track w.in-Test.low w.in-Test.high _ _
       at.at at.fits sides e.grows low_there high.rebuilt e.known e.map e.top)
 ]
 
@@ -55,7 +55,7 @@ returns-clause-rebuilt g t c = made g t c
 
 pub returns-clause-remembered : goal.returns-clause-remembered
 returns-clause-remembered g t c =
-    let before : RemembersCarried (g.C.Carry.carrier c.args.carry.now) c.match-shape.to (g.M.Memo.answers c.match-shape.memo) = elim c.match-shape.branch [
+    let before : RemembersCarried (g.C.Rebuild.carrier c.args.carry.now) c.match-shape.to (g.M.NodeCache.answers c.match-shape.memo) = elim c.match-shape.branch [
       | in-Leaf+in_ok-made-in-Leaf w ↦ rw (w.to-is, w.memo-is) (RemembersCarried-grows w.in_ok-made-in-Leaf.ensures.grows c.requires.remembered)
       | in-Test+in_ok-low-in-Test+in_ok-high-in-Test+in_ok-made-in-Test w ↦ rw (w.to-is, w.memo-is) (
           RemembersCarried-grows w.in_ok-made-in-Test.ensures.grows w.in_ok-high-in-Test.ensures.remembered)

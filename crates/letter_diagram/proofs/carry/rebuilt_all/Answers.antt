@@ -11,7 +11,7 @@ pub loop-node-preserved : goal.loop-node-preserved
 loop-node-preserved g c =
     let e = c.in_ok-answer.ensures in
     let i = c.loop-node.invariant in
-    let stays = λ (x y : ℕ). Carries-grows (g.C.Carry.carrier c.args.carry.now) x y e.grows in
+    let stays = λ (x y : ℕ). Carries-grows (g.C.Rebuild.carrier c.args.carry.now) x y e.grows in
     record {
       grows = Grows-trans i.grows e.grows;
       remembered = e.remembered;
@@ -32,7 +32,7 @@ returns-clause-rebuilt g c =
     let past = c.loop-node-test.false in
     let most = c.loop-node.auto.node-index-end in
     let end : c.loop-node.node-index ≡ length c.args.nodes.now = omega (arith, past, most) in
-    subst (λ nodes. EachAnswers (Carries (g.C.Carry.carrier c.args.carry.now) c.loop-node.to) nodes c.loop-node.made.items)
+    subst (λ nodes. EachAnswers (Carries (g.C.Rebuild.carrier c.args.carry.now) c.loop-node.to) nodes c.loop-node.made.items)
     (ap (λ n. take n c.args.nodes.now) end ∙ take-length c.args.nodes.now) c.loop-node.invariant.answered
 
 pub rebuilt-requires : goal.rebuilt-requires
@@ -41,6 +41,6 @@ rebuilt-requires g c =
     record {
       can =
           CanBeCarried-grows c.loop-node.invariant.grows
-          (subst (CanBeCarried (g.C.Carry.carrier c.args.carry.now) (g.C.Carry.can c.args.carry.now) c.args.to.now) (sym c.node-item.is) can);
+          (subst (CanBeCarried (g.C.Rebuild.carrier c.args.carry.now) (g.C.Rebuild.can c.args.carry.now) c.args.to.now) (sym c.node-item.is) can);
       remembered = c.loop-node.invariant.remembered;
     }

@@ -7,6 +7,6 @@ use Rattle.letter_diagram.proofs.carry.rebuilt_all.Given as goal
 abbrev pub invariant-loop-node : goal.invariant-loop-node
 invariant-loop-node g l = record {
   grows : Grows l.initial.to l.to;
-  remembered : RemembersCarried (g.C.Carry.carrier l.carry) l.to (g.M.Memo.answers l.memo);
-  answered : EachAnswers (Carries (g.C.Carry.carrier l.carry) l.to) (take l.node-index l.nodes) l.made.items;
+  remembered : RemembersCarried (g.C.Rebuild.carrier l.carry) l.to (g.M.NodeCache.answers l.memo);
+  answered : EachAnswers (Carries (g.C.Rebuild.carrier l.carry) l.to) (take l.node-index l.nodes) l.made.items;
 }

@@ -16,7 +16,7 @@ pub returns-clause-answers : goal.returns-clause-answers
 returns-clause-answers g c =
     let bench = c.args.bench.now in
     let sets = c.args.work.now.sets in
-    let program = g.M.MaskSets.program c.args.making.now bench.position.now sets in
+    let program = g.M.LevelBuilder.program c.args.making.now bench.position.now sets in
     let Over : List ℕ → Type 0 =
     λ ms. Answers (for_masks ms program (level_in bench.position.now sets [])) c.args.work.now.memo.budget
     (level_in bench.position.now c.each.new.work.sets) c.each.result in

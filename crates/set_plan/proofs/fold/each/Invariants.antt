@@ -5,7 +5,7 @@ use Rattle.set_plan.proofs.fold.each.Given as goal
 -- what is left leads to the whole, by programs that stay what they are
 abbrev pub invariant-loop-item : goal.invariant-loop-item
 invariant-loop-item g l =
-    let it = g.S.Steps in
+    let it = g.S.ProgramFold in
     record {
       fits : it.fits l.steps l.work l.value (drop l.item-index l.items);
       program : it.program l.steps l.work ≡ it.program l.steps l.initial.work;
