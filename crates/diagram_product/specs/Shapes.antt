@@ -1,4 +1,4 @@
--- What two nodes that are read look at first.
+-- What two nodes test first, as the operands read them.
 use Rattle.std.specs.Prelude.{◌≡◌, ℕ, ◌<◌, ◌≤◌, List}
 use Rattle.limits.specs.declared.numbers.TheConstants.{MOST_TRACKS}
 use Rattle.letter_diagram.specs.declared.diagrams.Shape.{Shape}
@@ -7,7 +7,7 @@ use Rattle.diagram_product.specs.declared.sides.PairShape.{PairShape}
 use Rattle.diagram_product.specs.declared.sides.PairShape.TheVariants.{Pair, Test}
 use Rattle.diagram_product.specs.Sided.{Sides, IsReadSplit, pair_at, pair_top}
 
--- both maps by the bit of the least track that one of them looks at
+-- both maps at the bits of the least track that one of them depends on
 pub record IsPairTest (sides : Sides) (shapes : List Shape) (a b : ℕ) (test : PairTest) : Type 0 where
   pub track_low : test.track < MOST_TRACKS
   pub top : test.track ≡ pair_top sides shapes a b
@@ -19,7 +19,7 @@ pub record IsOnePair (sides : Sides) (shapes : List Shape) (a b : ℕ) (pair : �
   pub same : (letter : ℕ) → pair_at sides shapes a b letter ≡ pair
   pub top : pair_top sides shapes a b ≤ MOST_TRACKS
 
--- one pair at each letter, or both maps by the bit of a track
+-- one pair at each letter, or both maps at the bits of a track
 abbrev pub IsPairShape : Sides → List Shape → ℕ → ℕ → PairShape → Type 0
 IsPairShape sides shapes a b (Pair left right) = IsOnePair sides shapes a b (left, right)
 IsPairShape sides shapes a b (Test test) = IsPairTest sides shapes a b test

@@ -1,9 +1,9 @@
-//! Values of two maps at which the other map does not matter.
+//! Values of two maps that make the other map's value irrelevant.
 ghost use Rattle.std.specs.Prelude.{◌≡◌, None};
 ghost use Rattle.diagram_product.specs.Absorbed.{absorbs, stand_in, absorbed};
 
-/// The value of either map, if any, at which the other map's value is not asked for. All pairs with one of these two values
-/// are one pair.
+/// For each of two maps, the value, if any, at which the other map's value is irrelevant (the absorbing value). All pairs with an
+/// absorbing value are represented by one pair.
 #[derive(Clone, Copy)]
 pub struct Absorbing {
     pub left: Option<u32>,
@@ -11,7 +11,7 @@ pub struct Absorbing {
 }
 
 impl Absorbing {
-    /// Both values of each pair are asked for.
+    /// Returns no absorbing values: both values of each pair matter.
     pub fn nothing() -> Self
         ensures left { result.left ≡ None }
         ensures right { result.right ≡ None }
@@ -22,7 +22,7 @@ impl Absorbing {
         }
     }
 
-    /// The pair that stands for a pair.
+    /// Returns the pair that represents a pair.
     #[tactic(auto, unfolding(crate::specs::Absorbed::absorbed))]
     pub fn of(self, left: u32, right: u32) -> (u32, u32)
         ensures { result ≡ absorbed self left right }
@@ -36,7 +36,7 @@ impl Absorbing {
         }
     }
 
-    /// The pair that stands for all pairs with one of both values.
+    /// Returns the pair that represents all pairs with an absorbing value.
     pub(crate) fn stand_in(self) -> (u32, u32)
         ensures { result ≡ stand_in self.left self.right }
     {
@@ -48,7 +48,7 @@ impl Absorbing {
     }
 }
 
-/// Whether a value is the absorbing one.
+/// Returns whether a value is the absorbing one.
 pub(crate) fn absorbs(absorbing: Option<u32>, value: u32) -> bool
     ensures { result ≡ absorbs absorbing value }
 {

@@ -12,7 +12,8 @@ use letter_diagram::{Diagrams, Node, PairMemo};
 use limits::MOST_TRACKS;
 use std::alloc::AllocError;
 
-/// The map from a letter to the number, in `pairs`, of the pair of both values.
+/// Returns the map from a letter to the number, in `pairs`, of the pair of the values of `a` and `b` (the apply operation of Bryant
+/// 1986).
 pub fn apply2(
     diagrams: &mut Diagrams,
     a: Node,

@@ -1,4 +1,6 @@
-//! Products of maps from letters to numbers: two maps that are read side by side, and their pairs of values, which are numbered.
+//! Computes products of two maps: diagrams of the numbered pairs of their values.
+//! The two maps are nodes of one table, or are read in place from tables of their own, with other tracks. Pairs are numbered in the
+//! order of their first occurrence. A cache of pairs of nodes is kept between calls.
 #![tactic(auto)]
 
 mod absorbing;

@@ -1,4 +1,4 @@
-//! Maps of pairs over one table of nodes, with a memo that is kept from call to call.
+//! Maps of pairs over one table of nodes, with a cache kept between calls.
 ghost use Rattle.std.specs.Prelude.{◌≡◌, ◌<◌, ◌≤◌, ◌+◌, ◌^◌, length, IfOk, OnOk};
 ghost use Rattle.letter_diagram.specs.Diagram.{top_track, HasMap, chosen, Grows};
 ghost use Rattle.letter_diagram.specs.Numbering.{PairsKept};
@@ -14,7 +14,7 @@ use limits::MOST_TRACKS;
 use std::alloc::AllocError;
 use std::marker::Model;
 
-/// Diagrams and the pairs of their values, for many calls of `apply`. What two calls have in common is done once.
+/// Diagrams and the numbered pairs of their values, for many calls of `apply`. Results that two calls share are computed once.
 #[derive(Drop)]
 pub struct Product {
     diagrams: Diagrams,
@@ -35,7 +35,8 @@ impl Model for Product {
 }
 
 impl Product {
-    /// Over nodes and pairs that are there already. The memo has room for as many pairs of nodes as there are nodes.
+    /// Creates a product from existing nodes and pairs. The cache has room for as many pairs of nodes as there are nodes. Errors:
+    /// an allocation failed.
     pub fn new(diagrams: Diagrams, pairs: Pairs, absorbing: Absorbing) -> Result<Self, AllocError>
         ensures shapes { IfOk result (λ product. product.shapes ≡ diagrams) }
         ensures pairs { IfOk result (λ product. product.pairs ≡ pairs) }
@@ -50,21 +51,21 @@ impl Product {
         })
     }
 
-    /// The nodes.
+    /// Returns the nodes.
     pub fn diagrams(&self) -> &Diagrams
         ensures { result.now ≡ self.now.shapes }
     {
         &self.diagrams
     }
 
-    /// The pairs that are numbered.
+    /// Returns the numbered pairs.
     pub fn pairs(&self) -> &Pairs
         ensures { result.now ≡ self.now.pairs }
     {
         &self.pairs
     }
 
-    /// The nodes and the pairs.
+    /// Returns the nodes and the pairs.
     pub fn into_parts(self) -> (Diagrams, Pairs)
         ensures shapes { result.0 ≡ self.shapes }
         ensures pairs { result.1 ≡ self.pairs }
@@ -78,9 +79,11 @@ impl Product {
         (diagrams, pairs)
     }
 
-    /// The map from a letter to the number of the absorbed pair of both values, as `Diagrams::apply2` gives it where nothing
-    /// absorbs. Where a node's map is an absorbing value alone, the other node is not visited, nor are pairs of nodes that
-    /// earlier calls met. Want of memory empties the memo.
+    /// Returns the map from a letter to the number of the absorbed pair of both values; without absorbing values it is that of
+    /// `Diagrams::apply2`.
+    /// If one map is constantly an absorbing value, the other node is not visited. Pairs of nodes visited by earlier calls are not
+    /// visited again.
+    /// Errors: on an allocation failure the cache is cleared.
     pub fn apply(&mut self, a: Node, b: Node) -> Result<Node, AllocError>
         requires a_known { a < length self.old.shapes }
         requires b_known { b < length self.old.shapes }
@@ -106,7 +109,7 @@ impl Product {
 }
 
 impl Product {
-    /// `Diagrams::choose` of nodes of the product.
+    /// Applies `Diagrams::choose` to nodes of the product.
     pub fn choose(&mut self, track: u8, low: Node, high: Node) -> Result<Node, AllocError>
         requires track_low { track < MOST_TRACKS }
         requires low_known { low < length self.old.shapes }

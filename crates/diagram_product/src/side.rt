@@ -1,4 +1,4 @@
-//! One side of a product: how its nodes are read.
+//! One operand of a product: how its nodes are read.
 ghost use Rattle.std.specs.Prelude.{◌≡◌, ◌<◌, ◌≤◌, ℕ, length, None, All, IfSome};
 ghost use Rattle.std.specs.List.Sorted.{IsStrictlyIncreasing};
 ghost use Rattle.limits.specs.declared.numbers.TheConstants.{MOST_TRACKS};
@@ -12,14 +12,14 @@ use std::marker::Model;
 pub trait NodeReader: Drop {
     ghost reading: { Self → Reading };
 
-    /// What a node looks at first, by the tracks from which its own tracks take their bits.
+    /// Returns what a node tests first, with the track from which the tested track takes its bit.
     fn shape(&self, to: &Diagrams, node: Node) -> Shape
         requires { CanBeRead (reading self.now) to.now node }
         ensures read { IsRead (reading self.now) to.now node result }
         ensures from { LooksFrom (read_at (reading self.now) to.now node) (read_top (reading self.now) to.now node) };
 }
 
-/// Nodes of the `Diagrams` to which nodes are added, as they are.
+/// Reads nodes of the `Diagrams` to which nodes are added, unchanged.
 #[derive(Drop)]
 pub struct Here;
 
@@ -31,7 +31,7 @@ impl NodeReader for Here {
     }
 }
 
-/// Nodes of another `Diagrams`, each track of which takes its bit from a later or the same track.
+/// Reads nodes of another `Diagrams`; each track takes its bit from the same track or a later one.
 #[derive(Drop)]
 pub struct LentReader<'a> {
     from: &'a Diagrams,
@@ -49,7 +49,7 @@ impl<'a> Model for LentReader<'a> {
 }
 
 impl<'a> LentReader<'a> {
-    /// Track t takes its bit from `tracks[t]`.
+    /// Creates a reader of `from` in which track t takes its bit from `tracks[t]`.
     pub fn new(from: &'a Diagrams, tracks: Vec<u8>) -> Self
         requires ascending { IsStrictlyIncreasing tracks.items }
         requires low { All (λ track. track < MOST_TRACKS) tracks.items }
@@ -59,7 +59,7 @@ impl<'a> LentReader<'a> {
         LentReader { from, tracks }
     }
 
-    /// How many nodes are lent.
+    /// Returns the number of nodes of the other `Diagrams`.
     pub fn len(&self) -> usize
         ensures { result ≡ length self.now.shapes }
     {
@@ -84,7 +84,7 @@ impl<'a> NodeReader for LentReader<'a> {
     }
 }
 
-/// The value of a map where it is constant.
+/// Returns the value of a map if it is constant.
 pub(crate) fn constant<S: NodeReader>(side: &S, to: &Diagrams, node: Node) -> Option<u32>
     requires { CanBeRead (S.reading side.now) to.now node }
     ensures constant { IfSome result
@@ -98,7 +98,7 @@ pub(crate) fn constant<S: NodeReader>(side: &S, to: &Diagrams, node: Node) -> Op
     }
 }
 
-/// The least track that a map looks at, or 20 where it is constant.
+/// Returns the least track that a map depends on, or 20 if it is constant.
 pub(crate) fn top<S: NodeReader>(side: &S, to: &Diagrams, node: Node) -> u8
     requires { CanBeRead (S.reading side.now) to.now node }
     ensures { result ≡ read_top (S.reading side.now) to.now node }
@@ -109,7 +109,7 @@ pub(crate) fn top<S: NodeReader>(side: &S, to: &Diagrams, node: Node) -> u8
     }
 }
 
-/// A map where the bit of a track is 0, and where it is 1.
+/// Returns the maps at the bits 0 and 1 of a track.
 pub(crate) fn split<S: NodeReader>(side: &S, to: &Diagrams, node: Node, track: u8) -> (Node, Node)
     requires read { CanBeRead (S.reading side.now) to.now node }
     requires track_low { track < MOST_TRACKS }

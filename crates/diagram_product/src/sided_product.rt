@@ -1,4 +1,4 @@
-//! Maps of pairs of the values of two sides that are read where they stand, with a memo that is kept from call to call.
+//! Maps of pairs of two operands that are read in place, with a cache kept between calls.
 ghost use Rattle.std.specs.Prelude.{◌≡◌, ◌<◌, ◌≤◌, ◌+◌, ◌^◌, [], length, Some, IfOk, OnOk};
 ghost use Rattle.letter_diagram.specs.Diagram.{top_track, Grows};
 ghost use Rattle.letter_diagram.specs.Numbering.{PairsKept};
@@ -15,8 +15,8 @@ use limits::MOST_TRACKS;
 use std::alloc::{AllocError, Global};
 use std::marker::Model;
 
-/// Two sides, the nodes of maps of pairs of their values, and these pairs, for many calls of `apply`. What two calls have in
-/// common is done once, and no node of a side is copied.
+/// Two operands, the nodes of maps of pairs of their values, and these pairs, for many calls of `apply`. Results that two calls
+/// share are computed once, and no node of an operand is copied.
 #[derive(Drop)]
 pub struct SidedProduct<'a> {
     sides: TwoSides<LentReader<'a>>,
@@ -37,8 +37,8 @@ impl<'a> Model for SidedProduct<'a> {
 }
 
 impl<'a> SidedProduct<'a> {
-    /// Over pairs that are there already, with no node. There is room for as many nodes, and for as many pairs of nodes, as the
-    /// larger side has nodes.
+    /// Creates a product without nodes over existing pairs. It has room for as many nodes and pairs of nodes as the larger operand
+    /// has nodes. Errors: an allocation failed.
     pub fn new(
         alloc: Global,
         left: LentReader<'a>,
@@ -68,22 +68,22 @@ impl<'a> SidedProduct<'a> {
         })
     }
 
-    /// The pairs that are numbered.
+    /// Returns the numbered pairs.
     pub fn pairs(&self) -> &Pairs
         ensures { result.now ≡ self.now.pairs }
     {
         &self.pairs
     }
 
-    /// The nodes of the maps that were made.
+    /// Returns the nodes of the maps that were computed.
     pub fn into_diagrams(self) -> Diagrams
         ensures { result ≡ self.entry.shapes }
     {
         self.diagrams
     }
 
-    /// The map from a letter to the number of the absorbed pair of the value of `a`, a node of the left side, and that of `b`, a
-    /// node of the right one. Otherwise as `Product::apply`.
+    /// Returns the map from a letter to the number of the absorbed pair of the values of `a`, a node of the left operand, and `b`,
+    /// a node of the right one. Otherwise it is as `Product::apply`.
     pub fn apply(&mut self, a: Node, b: Node) -> Result<Node, AllocError>
         requires read { CanBePaired self.old.sides self.old.shapes a b }
         requires room { length self.old.pairs < 2 ^ 31 }

@@ -1,4 +1,4 @@
-//! The map of the pairs of the values of two maps, each of which is read where it stands.
+//! The map of the pairs of values of two maps that are read in place.
 ghost use Rattle.std.specs.Prelude.{◌≡◌, ◌<◌, ◌≤◌, ℕ, length, None, IfOk, IfSome, OnOk};
 ghost use Rattle.letter_diagram.specs.Diagram.{Grows};
 ghost use Rattle.letter_diagram.specs.Numbering.{PairsKept};
@@ -13,7 +13,7 @@ use limits::MOST_TRACKS;
 use std::alloc::AllocError;
 use std::marker::Model;
 
-/// Both maps by the bit of the least track that one of them looks at.
+/// Both maps at the bits 0 and 1 of the least track that one of them depends on.
 #[derive(Clone, Copy)]
 pub struct PairTest {
     pub track: u8,
@@ -21,15 +21,15 @@ pub struct PairTest {
     pub high: (Node, Node),
 }
 
-/// What a node of either side look at first.
+/// What a node of each operand test first.
 #[derive(Clone, Copy)]
 pub enum PairShape {
-    /// The absorbed pair of both values is plainly the same at each letter.
+    /// The absorbed pair of both values is known to be the same at each letter.
     Pair(u32, u32),
     Test(PairTest),
 }
 
-/// Both sides of a product, and which of their values absorb the other's.
+/// Both operands of a product, and their absorbing values.
 #[derive(Drop)]
 pub struct TwoSides<S: NodeReader> {
     pub(crate) left: S,
@@ -46,7 +46,7 @@ impl<S: NodeReader> Model for TwoSides<S> {
 }
 
 impl TwoSides<Here> {
-    /// Two nodes of the `Diagrams` to which nodes are added.
+    /// Returns two operands that are nodes of the `Diagrams` to which nodes are added.
     pub(crate) fn together(absorbing: Absorbing) -> Self
         ensures { result ≡ together absorbing }
     {
@@ -59,6 +59,7 @@ impl TwoSides<Here> {
 }
 
 impl<S: NodeReader> TwoSides<S> {
+    /// Creates a pair of operands from two readers and their absorbing values.
     pub fn new(left: S, right: S, absorbing: Absorbing) -> Self
         ensures left { result.left ≡ S.reading left }
         ensures right { result.right ≡ S.reading right }
@@ -71,7 +72,7 @@ impl<S: NodeReader> TwoSides<S> {
         }
     }
 
-    /// What two nodes look at first.
+    /// Returns what two nodes test first: the pair if it is known to be constant, and a test otherwise.
     pub fn look(&self, to: &Diagrams, a: Node, b: Node) -> PairShape
         requires { CanBePaired self.now to.now a b }
         ensures { IsPairShape self.now to.now a b result }
@@ -82,7 +83,7 @@ impl<S: NodeReader> TwoSides<S> {
         }
     }
 
-    /// The node in `to` of the map of the absorbed pairs, where the memo has pairs of nodes of these sides.
+    /// Returns the node in `to` of the map of the absorbed pairs; `memo` is a cache of pairs of nodes of these operands.
     #[cycle(paired)]
     pub(crate) fn paired(
         &self,
@@ -113,7 +114,7 @@ impl<S: NodeReader> TwoSides<S> {
         Ok(node)
     }
 
-    /// The absorbed pair of both values, where it is plainly the same at each letter.
+    /// Returns the absorbed pair of both values if it is known to be the same at each letter.
     fn one_pair(&self, to: &Diagrams, a: Node, b: Node) -> Option<(u32, u32)>
         requires { CanBePaired self.now to.now a b }
         ensures one { IfSome result (λ pair. (letter : ℕ) → pair_at self.now to.now a b letter ≡ pair) }
@@ -161,7 +162,7 @@ impl<S: NodeReader> TwoSides<S> {
         Ok(node)
     }
 
-    /// Both maps by the least track that one of them looks at.
+    /// Returns both maps at the bits of the least track that one of them depends on.
     fn test(&self, to: &Diagrams, a: Node, b: Node) -> PairTest
         requires read { CanBePaired self.now to.now a b }
         requires low { pair_top self.now to.now a b < MOST_TRACKS }
@@ -172,7 +173,7 @@ impl<S: NodeReader> TwoSides<S> {
         PairTest { track, low, high }
     }
 
-    /// The least track that one of both maps looks at, or 20 where both are constant.
+    /// Returns the least track that one of both maps depends on, or 20 if both are constant.
     fn top(&self, to: &Diagrams, a: Node, b: Node) -> u8
         requires { CanBePaired self.now to.now a b }
         ensures { result ≡ pair_top self.now to.now a b }
@@ -180,7 +181,7 @@ impl<S: NodeReader> TwoSides<S> {
         top(&self.left, to, a).min(top(&self.right, to, b))
     }
 
-    /// Both maps where the bit of a track is 0, and where it is 1.
+    /// Returns both maps at the bits 0 and 1 of a track.
     fn split(&self, to: &Diagrams, a: Node, b: Node, track: u8) -> ((Node, Node), (Node, Node))
         requires read { CanBePaired self.now to.now a b }
         requires track_low { track < MOST_TRACKS }

@@ -5,7 +5,7 @@ use Rattle.limits.specs.declared.numbers.TheConstants.{MOST_TRACKS}
 use Rattle.letter_diagram.specs.declared.diagrams.Shape.{Shape}
 use Rattle.letter_diagram.specs.declared.diagrams.Shape.TheVariants.{Leaf, Test}
 
--- the value that a shape gives at a letter, from the values there of the nodes before it
+-- the value of a shape at a letter, given the values of the nodes before it there
 abbrev pub value_of : ℕ → List ℕ → Shape → ℕ
 value_of letter values (Leaf value) = value
 value_of letter values (Test track low high) =
@@ -19,12 +19,12 @@ values_at letter shapes = fold (λ values shape. values ++ value_of letter value
 unfoldable pub map_at : List Shape → ℕ → ℕ → ℕ
 map_at shapes node letter = slice_index (values_at letter shapes) node
 
--- the least track that a shape looks at, or 20
+-- the least track that a shape tests, or 20
 abbrev pub track_of : Shape → ℕ
 track_of (Leaf value) = 20
 track_of (Test track low high) = track
 
--- the least track that a node's map looks at, or 20
+-- the least track that a node's map depends on, or 20
 unfoldable pub top_track : List Shape → ℕ → ℕ
 top_track shapes node = track_of (slice_index_or shapes node (Leaf 0))
 
@@ -32,21 +32,21 @@ top_track shapes node = track_of (slice_index_or shapes node (Leaf 0))
 abbrev pub HasMap : List Shape → (ℕ → ℕ) → ℕ → Type 0
 HasMap shapes values node = (letter : ℕ) → map_at shapes node letter ≡ values letter
 
--- two nodes' maps have the same value at each letter of the tracks
+-- two nodes' maps have equal values at each letter over all tracks
 abbrev pub HaveOneMap : List Shape → ℕ → ℕ → Type 0
 HaveOneMap shapes a b = (letter : ℕ) → letter < 2 ^ MOST_TRACKS → map_at shapes a letter ≡ map_at shapes b letter
 
--- the map that is low where the track's bit is 0, else high
+-- the value of low if the track's bit is 0, and that of high otherwise
 abbrev pub chosen : List Shape → ℕ → ℕ → ℕ → ℕ → ℕ
 chosen shapes track low high letter =
     if nat_eq (bit_at letter track) 0 then map_at shapes low letter else map_at shapes high letter
 
--- the value of a shape over nodes that are known
+-- the value of a shape over existing nodes
 abbrev pub value_in : List Shape → Shape → ℕ → ℕ
 value_in shapes (Leaf value) letter = value
 value_in shapes (Test track low high) letter = chosen shapes track low high letter
 
--- a test of two different nodes below a bound that look only at tracks above it
+-- a test of two different nodes below a bound that depend only on later tracks
 pub record IsTest (shapes : List Shape) (bound track low high : ℕ) : Type 0 where
   pub track_low : track < MOST_TRACKS
   pub low_before : low < bound
@@ -55,12 +55,12 @@ pub record IsTest (shapes : List Shape) (bound track low high : ℕ) : Type 0 wh
   pub high_above : track < top_track shapes high
   pub differ : low ≢ high
 
--- a shape over nodes below a bound that look only at later tracks
+-- a shape over nodes below a bound that depend only on later tracks
 abbrev pub FitsBelow : List Shape → ℕ → Shape → Type 0
 FitsBelow shapes bound (Leaf value) = Unit {0}
 FitsBelow shapes bound (Test track low high) = IsTest shapes bound track low high
 
--- each test is of earlier nodes that differ, tracks ascend, and no two nodes are equal
+-- a reduced ordered diagram: each test is of two different earlier nodes, tracks ascend, and no two nodes are equal
 pub record IsDiagram (shapes : List Shape) : Type 0 where
   pub fits : (node : ℕ) (shape : Shape) → slice_get shapes node ≡ Some shape → FitsBelow shapes node shape
   pub distinct : (i j : ℕ) (shape : Shape) → slice_get shapes i ≡ Some shape → slice_get shapes j ≡ Some shape → i ≡ j
@@ -72,7 +72,7 @@ pub record IsAt (shapes : List Shape) (node : ℕ) (shape : Shape) : Type 0 wher
   pub map : (letter : ℕ) → map_at shapes node letter ≡ value_in shapes shape letter
   pub top : top_track shapes node ≡ track_of shape
 
--- the nodes that were known keep their maps
+-- existing nodes keep their maps
 pub record Grows (old new : List Shape) : Type 0 where
   pub longer : length old ≤ length new
   pub map : (node letter : ℕ) → node < length old → map_at new node letter ≡ map_at old node letter
@@ -86,6 +86,6 @@ HasChildren shapes node (Test track low high) =
     → ((l : ℕ) × (map_at shapes node l ≡ map_at shapes low letter))
     × ((l : ℕ) × (map_at shapes node l ≡ map_at shapes high letter))
 
--- a node's map looks only at tracks below a bound
+-- a node's map depends only on tracks below a bound
 pub record LooksBelow (shapes : List Shape) (node bound : ℕ) : Type 0 where
   pub same : (a b : ℕ) → ((k : ℕ) → k < bound → bit_at a k ≡ bit_at b k) → map_at shapes node a ≡ map_at shapes node b

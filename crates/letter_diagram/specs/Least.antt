@@ -1,4 +1,4 @@
--- The least letter at which a map gives a value, and a pass over the nodes below a node that finds these letters.
+-- The least letter at which a map gives a value, and a pass over the reachable nodes that finds these letters.
 use Rattle.std.specs.Prelude.{◌≡◌, ℕ, ◌%◌, ◌^◌, ◌<◌, ◌≤◌, ◌⊎◌, List, length, Some, All}
 use Rattle.std.specs.Ordering.{nat_cmp}
 use Rattle.std.specs.BTreeMap.{BTreeMap, get}
@@ -23,7 +23,7 @@ pub record IsMet (shapes : List Shape) (root node letter : ℕ) : Type 0 where
   pub below : letter < 2 ^ top_track shapes node
   pub same : (l : ℕ) → l % 2 ^ top_track shapes node ≡ letter → map_at shapes root l ≡ map_at shapes node l
 
--- of old and of a node at a letter, what new has: for each node one letter, which is the least
+-- new is old with a node at a letter: each node has one letter, the least
 pub record Meets (old new : BTreeMap ℕ ℕ) (node letter : ℕ) : Type 0 where
   pub here : (least : ℕ) × (get nat_cmp new node ≡ Some least) × (least ≤ letter)
   pub kept : (n l : ℕ) → get nat_cmp old n ≡ Some l → (least : ℕ) × (get nat_cmp new n ≡ Some least) × (least ≤ l)
@@ -31,7 +31,7 @@ pub record Meets (old new : BTreeMap ℕ ℕ) (node letter : ℕ) : Type 0 where
   pub below : (bound : ℕ) → node < bound → All (λ key. key < bound) (keys_of old.entries)
       → All (λ key. key < bound) (keys_of new.entries)
 
--- a node that is met and gives the root's value at a letter, no later than that letter
+-- a visited node gives the root's value at a letter, and the node's letter is at most that letter
 pub record Awaits (shapes : List Shape) (root : ℕ) (met : BTreeMap ℕ ℕ) (letter : ℕ) : Type 0 where
   pub node : ℕ
   pub first : ℕ
@@ -39,19 +39,19 @@ pub record Awaits (shapes : List Shape) (root : ℕ) (met : BTreeMap ℕ ℕ) (l
   pub early : first ≤ letter % 2 ^ top_track shapes node
   pub gives : map_at shapes node letter ≡ map_at shapes root letter
 
--- the root's value at a letter was found, no later than that letter
+-- the root's value at a letter was found, at that letter or a lesser one
 pub record IsFound (shapes : List Shape) (root : ℕ) (firsts : BTreeMap ℕ ℕ) (letter : ℕ) : Type 0 where
   pub first : ℕ
   pub at : get nat_cmp firsts first ≡ Some (map_at shapes root letter)
   pub early : first ≤ letter
 
--- a value that was found is that of a leaf after all nodes that are still to be passed
+-- a found value is that of a leaf with a greater number than all nodes still to be processed
 pub record IsPassed (shapes : List Shape) (met : BTreeMap ℕ ℕ) (value : ℕ) : Type 0 where
   pub leaf : ℕ
   pub at : IsAt shapes leaf (Leaf value)
   pub after : (node letter : ℕ) → get nat_cmp met node ≡ Some letter → node < leaf
 
--- nodes that are met and still to be passed, and the values of the leaves that were passed, by their letters
+-- the visited nodes that are still to be processed, and the values of the leaves already processed, with their letters
 pub record IsPass (shapes : List Shape) (root : ℕ) (met firsts : BTreeMap ℕ ℕ) : Type 0 where
   pub met_at : (node letter : ℕ) → get nat_cmp met node ≡ Some letter → IsMet shapes root node letter
   pub value_at : (letter value : ℕ) → get nat_cmp firsts letter ≡ Some value → map_at shapes root letter ≡ value

@@ -1,7 +1,7 @@
--- Letters with the other bit on one track.
+-- Letters with the bit of one track flipped.
 use Rattle.std.specs.Prelude.{ℕ, ◌^◌}
 use Rattle.std.specs.Int.Bits.{bit_xor}
 
--- the letter whose bit on the track is the other one
+-- the letter with its bit on the track flipped
 unfoldable pub turned : ℕ → ℕ → ℕ
 turned track letter = bit_xor letter (2 ^ track)

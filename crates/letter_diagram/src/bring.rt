@@ -1,4 +1,4 @@
-//! Nodes with the maps of nodes of another `Diagrams`.
+//! Copies nodes from another `Diagrams`.
 ghost use Rattle.std.specs.Prelude.{◌<◌, Some, length, All, IfOk};
 ghost use Rattle.limits.specs.declared.numbers.TheConstants.{MOST_TRACKS};
 ghost use Rattle.letter_diagram.specs.Diagram.{Grows};
@@ -9,7 +9,7 @@ use crate::diagrams::{Diagrams, Node, Shape};
 use crate::node_memo::NodeMemo;
 use std::alloc::AllocError;
 
-/// Carries nodes of another `Diagrams` as they are.
+/// Rebuilds nodes of another `Diagrams` without a change.
 #[derive(Drop)]
 struct Bringing<'a> {
     from: &'a Diagrams,
@@ -48,7 +48,8 @@ impl<'a> Rebuild for Bringing<'a> {
 }
 
 impl Diagrams {
-    /// The nodes here that have the maps of nodes of `from`, in their order.
+    /// Adds nodes with the maps of `nodes` of `from`, and returns them in that order. Costs the nodes of `from` reachable from
+    /// `nodes`.
     pub fn bring(&mut self, from: &Diagrams, nodes: &[Node]) -> Result<Vec<Node>, AllocError>
         requires { All (λ node. node < length from.now) nodes.now }
         ensures brought { IfOk result (λ made. AreCarried from.now self.new (λ letter. letter) nodes.now made.items) }

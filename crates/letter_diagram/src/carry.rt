@@ -1,4 +1,4 @@
-//! Maps that are carried over from node to node, each node once.
+//! Maps rebuilt node by node, each node once.
 ghost use Rattle.std.specs.Prelude.{◌≡◌, ◌<◌, ◌≤◌, ℕ, length, All, IfOk, OnOk};
 ghost use Rattle.letter_diagram.specs.Diagram.{map_at, top_track, HasMap, Grows, FitsBelow, IsAt, IsDiagram};
 ghost use Rattle.letter_diagram.specs.Carried.{Carrier, KeepsLetters, source_of, side_at, IsSide, Carries, CanBeCarried, RemembersCarried};
@@ -9,21 +9,22 @@ use crate::memo::NodeCache;
 use limits::MOST_TRACKS;
 use std::alloc::AllocError;
 
-/// A way to carry maps over: what becomes of a map's values, and of the tracks that it looks at.
-/// `carrier` says how, and which nodes are carried: those of another `Diagrams`, or those of the one to which nodes are added.
+/// How a map is rebuilt: what becomes of its values and of the tracks that it tests.
+/// The ghost member `carrier` states it, and which nodes are rebuilt: those of another `Diagrams`, or those of the one to which
+/// nodes are added.
 pub trait Rebuild: Drop {
     ghost carrier: { Self → Carrier };
 
     ghost can: { Self → ℕ → Type 0 };
 
-    /// What a node that is to be carried looks at first.
+    /// Returns the shape of a node that is to be rebuilt.
     fn shape(&self, to: &Diagrams, node: Node) -> Shape
         requires { node < length (source_of (carrier self.now) to.now) }
         ensures at { IsAt (source_of (carrier self.now) to.now) node result }
         ensures fits { FitsBelow (source_of (carrier self.now) to.now) node result }
         ensures diagram { IsDiagram (source_of (carrier self.now) to.now) };
 
-    /// The node of the constant map of what a value becomes.
+    /// Returns the node of the constant map of what `value` becomes.
     fn leaf(&self, to: &mut Diagrams, value: u32) -> Result<Node, AllocError>
         requires { can self.now value }
         ensures known { IfOk result (λ node. node < length to.new) }
@@ -31,7 +32,7 @@ pub trait Rebuild: Drop {
         ensures top { IfOk result (λ node. top_track to.new node ≡ MOST_TRACKS) }
         ensures grows { Grows to.old to.new };
 
-    /// The node of a test of a track, whose sides are carried.
+    /// Returns the node of a test of what `track` becomes, over two rebuilt branches.
     fn test(&self, to: &mut Diagrams, track: u8, low: Node, high: Node) -> Result<Node, AllocError>
         requires track_low { track < MOST_TRACKS }
         requires within { track < (carrier self.now).tracks }
@@ -43,7 +44,8 @@ pub trait Rebuild: Drop {
         ensures grows { Grows to.old to.new };
 }
 
-/// The node in `to` that is a node carried over. What the memo has an answer for is not visited again.
+/// Returns the node in `to` that a node is rebuilt as. A node with an entry in `memo` is not visited again; the result of each
+/// visited node is added to it.
 pub fn rebuilt<C: Rebuild, M: NodeCache>(
     carry: &C,
     node: Node,
@@ -71,7 +73,7 @@ pub fn rebuilt<C: Rebuild, M: NodeCache>(
     Ok(made)
 }
 
-/// `rebuilt` for several nodes, in their order. What they share is done once.
+/// Rebuilds several nodes with one cache, and returns the results in order.
 pub fn rebuilt_all<C: Rebuild, M: NodeCache>(
     carry: &C,
     nodes: &[Node],

@@ -10,8 +10,10 @@ use limits::MOST_TRACKS;
 use std::alloc::AllocError;
 
 impl Diagrams {
-    /// The map that is `low` where the bit of `track` is 0, else `high`, whatever tracks they look at: the operation if-then-else
-    /// of Brace, Rudell and Bryant (1990), by a track. Costs the pairs of nodes that are met before the track.
+    /// Returns the map that is `low` at the letters whose bit on `track` is 0, and `high` at the others, whatever tracks the two
+    /// maps test.
+    /// This is the if-then-else operation of Brace, Rudell and Bryant (1990), with a track as its condition. Costs the pairs of
+    /// nodes that are visited above the track.
     pub fn choose(&mut self, track: u8, low: Node, high: Node) -> Result<Node, AllocError>
         requires track_low { track < MOST_TRACKS }
         requires low_known { low < length self.old }
@@ -27,7 +29,7 @@ impl Diagrams {
         self.chosen(track, low, high, &mut memo)
     }
 
-    /// The choice at a track that neither map looks before.
+    /// Returns the choice at a track that precedes the tracks of both maps.
     fn tested(&mut self, track: u8, low: Node, high: Node) -> Result<Node, AllocError>
         requires track_low { track < MOST_TRACKS }
         requires low_known { low < length self.old }
@@ -42,8 +44,8 @@ impl Diagrams {
         Ok(node)
     }
 
-    /// Before the track both maps are split by the tracks that they look at; at the track the one's side at its bit 0 and the
-    /// other's at its bit 1 are put under a test.
+    /// Splits both maps by their tracks above `track`. At `track`, a new test takes `low` from the first map and `high` from the
+    /// second.
     fn chosen(
         &mut self,
         track: u8,

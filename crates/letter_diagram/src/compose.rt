@@ -1,4 +1,4 @@
-//! Maps that read a letter twice: for the number of a row, and in that row.
+//! Maps that read a letter twice: to select a row, and in that row.
 ghost use Rattle.std.specs.Prelude.{◌<◌, ℕ, All, length, IfOk, OnOk};
 ghost use Rattle.letter_diagram.specs.Diagram.{map_at, Grows};
 ghost use Rattle.letter_diagram.specs.Composed.{IsComposed, RemembersComposed};
@@ -8,7 +8,7 @@ use std::alloc::AllocError;
 use std::collections::HashMap;
 
 impl Diagrams {
-    /// The map that gives at a letter what the row that `a` names there gives at the same letter.
+    /// Returns the map whose value at a letter is that of the row `rows[a(letter)]` at the same letter.
     pub fn compose(&mut self, a: Node, rows: &[Node]) -> Result<Node, AllocError>
         requires known { a < length self.old }
         requires rows { All (λ node. node < length self.old) rows.now }

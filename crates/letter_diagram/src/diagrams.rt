@@ -1,4 +1,4 @@
-//! Nodes, numbered in the order in which they were made.
+//! Nodes, numbered in the order of their creation.
 ghost use Rattle.std.specs.Prelude.{◌≡◌, ◌<◌, ◌≤◌, ◌^◌, [], List, ℕ, length, IfOk, IsTrue, ◌↔◌};
 ghost use Rattle.letter_diagram.specs.Diagram.{map_at, top_track, HasMap, HaveOneMap, Grows, FitsBelow, IsAt, IsDiagram, HasChildren, chosen};
 ghost use Rattle.letter_diagram.specs.Splits.{IsSplit};
@@ -8,7 +8,7 @@ use limits::MOST_TRACKS;
 use std::alloc::{AllocError, Global};
 use std::marker::Model;
 
-/// A diagram inside a `Diagrams`.
+/// A node of a `Diagrams`. It denotes a map from letters to numbers.
 #[derive(Clone, Copy, PartialEq, Eq, PartialOrd, Ord, Hash)]
 pub struct Node(u32);
 
@@ -22,11 +22,11 @@ impl Model for Node {
     ghost inverse = { λ i. record { 0 = i } };
 }
 
-/// What stands where a table has no node: none of a `Diagrams` has this number.
+/// The entry of a free table slot: no node of a `Diagrams` has this number.
 pub(crate) const NO_NODE: Node = Node(u32::MAX);
 
 impl Node {
-    /// How many nodes were made before it.
+    /// Returns the number of the node, which is the number of nodes created before it.
     pub fn number(self) -> usize
         ensures { result ≡ self }
     {
@@ -34,22 +34,24 @@ impl Node {
     }
 }
 
-/// What a diagram looks at first.
+/// What a node tests first.
 #[derive(Clone, Copy, PartialEq, Eq)]
 pub enum Shape {
-    /// The map is constant.
+    /// A leaf: the map is constant.
     Leaf(u32),
-    /// The least track that the map looks at, and the maps at its bit 0 and bit 1.
+    /// A test: the least track that the map depends on, and its branches at the bits 0 and 1.
     Test { track: u8, low: Node, high: Node },
 }
 
-/// Diagrams that share their nodes. There are no more than 2^32 - 1 of them: one more is refused as want of memory.
+/// A shared, reduced, ordered decision diagram with numbers at its leaves (MTBDD; Bryant 1986): a map is one node, and equal maps
+/// are the same node.
+/// Contains at most 2^32 - 1 nodes; a further one is refused as an allocation failure.
 pub struct Diagrams {
     shapes: ShapeTable,
 }
 
 impl Drop for Diagrams {
-    /// Lets the nodes go. Written out, so that a body that lets diagrams go has a call here in place of their fields' drops.
+    /// Drops the nodes. Written by hand, so that a function that drops a `Diagrams` calls this instead of dropping each field.
     fn drop(self) {
         let Diagrams { shapes: _ } = self;
     }
@@ -68,6 +70,7 @@ impl Model for Diagrams {
 }
 
 impl Diagrams {
+    /// Returns diagrams without nodes.
     pub fn new(alloc: Global) -> Self
         ensures { result ≡ [] }
     {
@@ -76,7 +79,7 @@ impl Diagrams {
         }
     }
 
-    /// No node, with room for so many.
+    /// Returns diagrams without nodes, with room for `nodes` of them.
     pub fn with_capacity(alloc: Global, nodes: usize) -> Result<Self, AllocError>
         ensures { IfOk result (λ diagrams. diagrams ≡ []) }
     {
@@ -85,28 +88,28 @@ impl Diagrams {
         })
     }
 
-    /// The allocator that the nodes are kept in.
+    /// Returns the allocator of the nodes.
     pub fn alloc(&self) -> Global
         ensures diagram { IsDiagram self.now }
     {
         self.shapes.alloc()
     }
 
-    /// How many nodes are known.
+    /// Returns the number of nodes.
     pub fn len(&self) -> usize
         ensures { result ≡ length self.now }
     {
         self.shapes.as_slice().len()
     }
 
-    /// Whether no node is known.
+    /// Returns whether there are no nodes.
     pub fn is_empty(&self) -> bool
         ensures { IsTrue result ↔ (self.now ≡ []) }
     {
         self.shapes.as_slice().is_empty()
     }
 
-    /// The same nodes, with the same maps.
+    /// Copies all nodes; they keep their numbers and maps.
     pub fn copy(&self) -> Result<Diagrams, AllocError>
         ensures { IfOk result (λ copy. copy ≡ self.now) }
     {
@@ -115,7 +118,7 @@ impl Diagrams {
         })
     }
 
-    /// The node of a constant map.
+    /// Returns the node of a constant map, and adds it if it is new.
     pub fn leaf(&mut self, value: u32) -> Result<Node, AllocError>
         ensures known { IfOk result (λ node. node < length self.new) }
         ensures map { IfOk result (λ node. (letter : ℕ) → map_at self.new node letter ≡ value) }
@@ -125,7 +128,8 @@ impl Diagrams {
         self.insert(Shape::Leaf(value))
     }
 
-    /// The node of the map that is `low` where the bit of `track` is 0, else `high`.
+    /// Returns the node of the map that is `low` at the letters whose bit on `track` is 0, and `high` at the others, and adds it if
+    /// it is new. Returns `low` if both are the same node.
     pub fn node(&mut self, track: u8, low: Node, high: Node) -> Result<Node, AllocError>
         requires track_low { track < MOST_TRACKS }
         requires low_known { low < length self.old }
@@ -143,7 +147,7 @@ impl Diagrams {
         self.insert(Shape::Test { track, low, high })
     }
 
-    /// What a node looks at first.
+    /// Returns what a node tests first.
     pub fn shape(&self, node: Node) -> Shape
         requires { node < length self.now }
         ensures at { IsAt self.now node result }
@@ -154,7 +158,7 @@ impl Diagrams {
         self.shapes.as_slice()[node.number()]
     }
 
-    /// The value of a node's map at a letter.
+    /// Returns the value of a node's map at a letter. Costs at most one step per track.
     pub fn read(&self, node: Node, letter: u32) -> u32
         requires { node < length self.now }
         ensures { result ≡ map_at self.now node letter }
@@ -172,7 +176,7 @@ impl Diagrams {
         }
     }
 
-    /// The least track that the node's map looks at, or 20 where it is constant.
+    /// Returns the least track that the node's map depends on, or 20 if the map is constant.
     pub fn top(&self, node: Node) -> u8
         requires { node < length self.now }
         ensures top { result ≡ top_track self.now node }
@@ -186,7 +190,7 @@ impl Diagrams {
         }
     }
 
-    /// The node's map where the bit of a track is 0, and where it is 1.
+    /// Returns the node's maps at the bits 0 and 1 of a track that is at or before its top track.
     pub fn split(&self, node: Node, track: u8) -> (Node, Node)
         requires known { node < length self.now }
         requires track_low { track < MOST_TRACKS }
@@ -205,7 +209,7 @@ impl Diagrams {
         }
     }
 
-    /// Whether two nodes have one map. That is so exactly where they are equal.
+    /// Returns whether two nodes have equal maps, that is, whether they are the same node.
     pub fn same_map(&self, a: Node, b: Node) -> bool
         requires a_known { a < length self.now }
         requires b_known { b < length self.now }

@@ -1,4 +1,4 @@
-//! Maps at the letters with the other bit on a track.
+//! Maps at letters with one bit flipped.
 ghost use Rattle.std.specs.Prelude.{◌<◌, None, length, All, IfOk};
 ghost use Rattle.limits.specs.declared.numbers.TheConstants.{MOST_TRACKS};
 ghost use Rattle.letter_diagram.specs.Diagram.{map_at, HasMap, Grows};
@@ -11,7 +11,7 @@ use crate::node_memo::NodeMemo;
 use limits::MOST_TRACKS;
 use std::alloc::AllocError;
 
-/// Carries nodes to tests whose sides are exchanged at one track.
+/// Rebuilds nodes with the branches of one track exchanged.
 #[derive(Drop)]
 struct Turning {
     track: u8,
@@ -56,7 +56,7 @@ impl Rebuild for Turning {
 }
 
 impl Diagrams {
-    /// The map of `a` at the letter with the other bit on the track.
+    /// Returns the map whose value at a letter is that of `a` at the letter with its bit on `track` flipped.
     pub fn flip_track(&mut self, a: Node, track: u8) -> Result<Node, AllocError>
         requires known { a < length self.old }
         requires track_low { track < MOST_TRACKS }
@@ -69,7 +69,7 @@ impl Diagrams {
         Ok(node)
     }
 
-    /// `flip_track` of several nodes, in their order. What they share is done once.
+    /// Applies `flip_track` to several nodes with one cache, and returns the results in order.
     pub fn flip_track_all(&mut self, nodes: &[Node], track: u8) -> Result<Vec<Node>, AllocError>
         requires known { All (λ node. node < length self.old) nodes.now }
         requires track_low { track < MOST_TRACKS }

@@ -11,7 +11,7 @@ use limits::MOST_TRACKS;
 use std::alloc::{AllocError, Global};
 use std::collections::BTreeMap;
 
-/// The values of a map, in the order of their keys.
+/// Returns the values of a map of least letters to values, by ascending letter.
 fn values_in_order(alloc: Global, firsts: &BTreeMap<u32, u32>) -> Result<Vec<u32>, AllocError>
     ensures values { IfOk result (λ values. values.items ≡ values_of firsts.now.entries) }
     ensures ordered { IsOrdered nat_cmp firsts.now }
@@ -19,7 +19,7 @@ fn values_in_order(alloc: Global, firsts: &BTreeMap<u32, u32>) -> Result<Vec<u32
     firsts.values().copied().collect(alloc)
 }
 
-/// Notes that a node is met at a letter. Of the letters at which a node is met, the least is kept.
+/// Records that a node is visited at a letter; of several letters the least is kept.
 fn meet(met: &mut BTreeMap<Node, u32>, node: Node, letter: u32) -> Result<(), AllocError>
     ensures { OnOk result (Meets met.old met.new node letter) }
 {
@@ -32,7 +32,7 @@ fn meet(met: &mut BTreeMap<Node, u32>, node: Node, letter: u32) -> Result<(), Al
     Ok(())
 }
 
-/// A letter with one more bit, that of a track after its bits.
+/// Returns a letter with the bit of `track` set, where `track` follows its other bits.
 fn with_bit(letter: u32, track: u8) -> u32
     requires before { letter < 2 ^ track }
     requires track_low { track < MOST_TRACKS }
@@ -42,7 +42,7 @@ fn with_bit(letter: u32, track: u8) -> u32
 }
 
 impl Diagrams {
-    /// The different values of a node's map, ordered by the least letter at which each is given.
+    /// Returns the distinct values of a node's map, ordered by the least letter of each. Costs the nodes reachable from `node`.
     pub fn leaves(&self, node: Node) -> Result<Vec<u32>, AllocError>
         requires { node < length self.now }
         ensures { IfOk result (λ values. AreLeaves self.now node values.items) }
@@ -52,8 +52,8 @@ impl Diagrams {
         Ok(leaves)
     }
 
-    /// Each value of a node's map by the least letter at which it is given. Nodes are passed from the last one down, so
-    /// that each was met from all that lead to it before it is passed itself.
+    /// Returns each value of a node's map, keyed by its least letter. Visits nodes by descending number, so that each is visited
+    /// after all its predecessors.
     fn firsts(&self, root: Node) -> Result<BTreeMap<u32, u32>, AllocError>
         requires { root < length self.now }
         ensures { IfOk result (λ firsts. AreFirsts self.now root firsts) }

@@ -1,4 +1,8 @@
-//! Shared diagrams: maps from letters to numbers that look at finitely many tracks.
+//! Stores maps from letters to numbers as shared decision diagrams.
+//! A node is a map that depends on finitely many tracks; equal maps are one node (reduced ordered decision diagrams with numbers at
+//! the leaves, Bryant 1986).
+//! Operations rebuild a map with other values or tracks, choose between two maps, compose them, and unite the sets that their
+//! values number.
 #![tactic(auto)]
 
 mod bring;

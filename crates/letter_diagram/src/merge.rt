@@ -1,4 +1,4 @@
-//! The map of the unions of the sets that a map gives at both bits of a track.
+//! Maps of unions of the two sets that a map gives at the bits of a track.
 ghost use Rattle.std.specs.Prelude.{◌≡◌, ◌<◌, ◌≤◌, ◌+◌, ◌^◌, ℕ, length, IfOk, OnOk};
 ghost use Rattle.letter_diagram.specs.Diagram.{map_at, top_track, Grows};
 ghost use Rattle.letter_diagram.specs.Sets.{SetsKept};
@@ -13,8 +13,9 @@ use std::alloc::AllocError;
 use std::collections::HashMap;
 
 impl Diagrams {
-    /// The map from a letter to the number, in `sets`, of the union of the two sets that `a` numbers at the bits 0 and 1 of
-    /// `track`. It does not look at `track`.
+    /// Returns the map from a letter to the number, in `sets`, of the union of the sets that `a` gives at the bits 0 and 1 of
+    /// `track`.
+    /// The result does not depend on `track`. This is the subset construction for the existential quantification of a track.
     pub fn merge_track(&mut self, a: Node, track: u8, sets: &mut Sets) -> Result<Node, AllocError>
         requires known { a < length self.old }
         requires track_low { track < MOST_TRACKS }
@@ -34,7 +35,7 @@ impl Diagrams {
         self.merged(a, track, sets, &mut merged, &mut united)
     }
 
-    /// `a` with both sides of `track` united. Above `track` both sides of a test are merged; at `track` they are united.
+    /// Unites both branches at `track`; above it, merges the branches of each test.
     pub(crate) fn merged(
         &mut self,
         a: Node,
@@ -76,7 +77,7 @@ impl Diagrams {
         Ok(node)
     }
 
-    /// The map of the unions of the sets that two maps number.
+    /// Returns the map of unions of the sets that two maps number.
     #[cycle(united)]
     pub(crate) fn united(
         &mut self,

@@ -1,4 +1,4 @@
-//! Merged and united maps over one table of nodes, with memos that are kept from call to call.
+//! Merging and uniting maps over one table of nodes, with caches kept between calls.
 ghost use Rattle.std.specs.Prelude.{◌≡◌, ◌<◌, ◌≤◌, ◌+◌, ◌^◌, ℕ, All, length, IfOk, OnOk};
 ghost use Rattle.limits.specs.declared.numbers.TheConstants.{MOST_TRACKS};
 ghost use Rattle.letter_diagram.specs.Diagram.{map_at, top_track, Grows};
@@ -14,8 +14,8 @@ use std::alloc::AllocError;
 use std::collections::HashMap;
 use std::marker::Model;
 
-/// Diagrams and the sets that their values number, for many calls of `apply` at one track and of `unite`. What two calls have
-/// in common is done once (the operation with a table of results of Bryant 1986).
+/// Diagrams and the sets that their values number, for many calls of `apply` at one track and of `unite`. Results that two calls
+/// share are computed once (the computed table of Bryant 1986).
 #[derive(Drop)]
 pub struct Merger {
     diagrams: Diagrams,
@@ -40,7 +40,7 @@ impl Model for Merger {
 }
 
 impl Merger {
-    /// Over nodes and sets that are there already, at a track.
+    /// Creates a merger from existing nodes and sets, for one track.
     pub fn new(diagrams: Diagrams, sets: Sets, track: u8) -> Self
         requires { track < MOST_TRACKS }
         ensures shapes { result.shapes ≡ diagrams }
@@ -58,22 +58,23 @@ impl Merger {
         }
     }
 
-    /// The nodes.
+    /// Returns the nodes.
     pub fn diagrams(&self) -> &Diagrams
         ensures { result.now ≡ self.now.shapes }
     {
         &self.diagrams
     }
 
-    /// The sets that are numbered.
+    /// Returns the numbered sets.
     pub fn sets(&self) -> &Sets
         ensures { result.now ≡ self.now.sets }
     {
         &self.sets
     }
 
-    /// The map from a letter to the number of the union of the two sets at both bits of the track, as `Diagrams::merge_track`
-    /// gives it. Nodes that earlier calls met are not visited again. Want of memory empties the memos.
+    /// Returns the map from a letter to the number of the union of the sets at both bits of the track, as `Diagrams::merge_track`
+    /// does. Nodes visited by earlier calls are not visited again.
+    /// Errors: on an allocation failure the caches are cleared.
     pub fn apply(&mut self, a: Node) -> Result<Node, AllocError>
         requires known { a < length self.old.shapes }
         requires leaves { (letter : ℕ) → map_at self.old.shapes a letter < length self.old.sets }
@@ -104,8 +105,9 @@ impl Merger {
         }
     }
 
-    /// The map from a letter to the number of the union of the two sets that `a` and `b` number there. Pairs of nodes that earlier
-    /// calls met are not visited again. Want of memory empties the memos.
+    /// Returns the map from a letter to the number of the union of the sets that `a` and `b` give. Pairs of nodes visited by
+    /// earlier calls are not visited again.
+    /// Errors: on an allocation failure the caches are cleared.
     pub fn unite(&mut self, a: Node, b: Node) -> Result<Node, AllocError>
         requires a_sets { HasSets self.old.shapes self.old.sets a }
         requires b_sets { HasSets self.old.shapes self.old.sets b }
@@ -127,8 +129,8 @@ impl Merger {
         }
     }
 
-    /// The map that gives at a letter what the row that `a` names there gives at the same letter, as `Diagrams::compose` gives it. The
-    /// memos stay.
+    /// Returns the map whose value at a letter is that of the row `rows[a(letter)]` at the same letter, as `Diagrams::compose`
+    /// does. The caches are kept.
     pub fn compose(&mut self, a: Node, rows: &[Node]) -> Result<Node, AllocError>
         requires known { a < length self.old.shapes }
         requires rows { All (λ node. node < length self.old.shapes) rows.now }

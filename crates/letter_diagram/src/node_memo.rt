@@ -1,4 +1,4 @@
-//! Answers for nodes, by the nodes' numbers.
+//! A cache by node number.
 ghost use Rattle.std.specs.Prelude.{◌≡◌, ◌≤◌, ℕ, length, IfOk, OnOk};
 ghost use Rattle.letter_diagram.specs.NodeMemo.{answer_of, Forgets, Remembers};
 
@@ -7,7 +7,7 @@ use crate::memo::NodeCache;
 use std::alloc::{AllocError, Global};
 use std::marker::Model;
 
-/// Answers for nodes of one `Diagrams`, by the nodes' numbers.
+/// A cache from nodes of one `Diagrams` to nodes, as a list indexed by node number.
 #[derive(Drop)]
 pub struct NodeMemo {
     answers: Vec<Option<Node>>,
@@ -22,7 +22,7 @@ impl Model for NodeMemo {
 }
 
 impl NodeMemo {
-    /// No node below `nodes` has an answer.
+    /// Returns an empty cache with room for the nodes below `nodes`.
     pub fn new(alloc: Global, nodes: usize) -> Result<Self, AllocError>
         ensures none { IfOk result (λ memo. (node : ℕ) → answer_of memo node ≡ None) }
         ensures len { IfOk result (λ memo. length memo ≡ nodes) }
@@ -32,7 +32,7 @@ impl NodeMemo {
         })
     }
 
-    /// Makes room for the nodes below `nodes`.
+    /// Grows the cache to have room for the nodes below `nodes`.
     pub fn make_room(&mut self, nodes: usize) -> Result<(), AllocError>
         ensures same { (node : ℕ) → answer_of self.new node ≡ answer_of self.old node }
         ensures room { OnOk result (nodes ≤ length self.new) }
@@ -44,14 +44,14 @@ impl NodeMemo {
         Ok(())
     }
 
-    /// The answer for a node.
+    /// Returns the stored result for a node, if there is one.
     pub fn get(&self, node: Node) -> Option<Node>
         ensures { result ≡ answer_of self.now node }
     {
         self.answers.get(node.number()).copied().flatten()
     }
 
-    /// A node past those that the memo was made for is not remembered.
+    /// Stores a result for a node, or drops it if the node is at or above the capacity.
     pub fn insert(&mut self, node: Node, answer: Node)
         ensures { Remembers self.old self.new node answer }
     {
@@ -60,7 +60,7 @@ impl NodeMemo {
         }
     }
 
-    /// Forgets the answer for a node.
+    /// Removes the result for a node.
     pub fn remove(&mut self, node: Node)
         ensures { Forgets self.old self.new node }
     {
@@ -70,7 +70,7 @@ impl NodeMemo {
     }
 }
 
-/// For most nodes of a table.
+/// A cache for most nodes of a table.
 impl NodeCache for NodeMemo {
     ghost answers = { answer_of };
 

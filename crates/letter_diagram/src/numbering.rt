@@ -1,10 +1,10 @@
-//! Why what is numbered in the order in which it was first seen has no number.
+//! Errors of numbering.
 use std::alloc::AllocError;
 
-/// Why a set or a pair got no number.
+/// The reason why a set or a pair got no number.
 #[derive(Drop, PartialEq)]
 pub enum NumberingError {
-    /// It is new, and 2^32 - 1 are numbered.
+    /// It is new, and 2^32 - 1 numbers are in use.
     Full,
     Memory,
 }

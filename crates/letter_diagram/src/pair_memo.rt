@@ -1,4 +1,4 @@
-//! Answers for pairs of nodes.
+//! A cache by pairs of nodes.
 ghost use Rattle.std.specs.Prelude.{◌<◌, ◌≤◌, ◌+◌, ◌*◌, length, IfOk, IfSome};
 ghost use Rattle.letter_diagram.specs.PairMemo.{Answers, AnswersNothing, AnswersOnly, LearnsPair};
 
@@ -7,7 +7,7 @@ use crate::probing::{place, scatter, slots_for};
 use std::alloc::{AllocError, Global};
 use std::marker::Model;
 
-/// A pair of nodes and its answer. One whose left node is `NO_NODE` is free.
+/// A slot: a pair of nodes and its result. It is free if the left node is `NO_NODE`.
 #[derive(Clone, Copy)]
 pub struct PairSlot {
     left: Node,
@@ -21,7 +21,7 @@ const FREE: PairSlot = PairSlot {
     answer: NO_NODE,
 };
 
-/// Puts a pair and its answer into the first slot that is free.
+/// Writes a pair and its result into the first free slot of the pair's probe sequence.
 fn put(slots: &mut [PairSlot], new: PairSlot)
     ensures { LearnsPair slots.old slots.new new.left new.right new.answer }
 {
@@ -35,8 +35,8 @@ fn put(slots: &mut [PairSlot], new: PairSlot)
     }
 }
 
-/// Answers for pairs of nodes, in an open table. It may forget: no answer is one that was put in for another pair, but one that
-/// was put in may be missing.
+/// A cache from pairs of nodes to nodes, as an open-addressing hash table. It is lossy: it never returns the result of another
+/// pair, but a stored result may be missing.
 pub struct PairMemo {
     slots: Vec<PairSlot>,
     taken: usize,
@@ -44,7 +44,7 @@ pub struct PairMemo {
 }
 
 impl Drop for PairMemo {
-    /// Lets the slots go. Written out, so that a body that lets a memo go has a call here in place of its fields' drops.
+    /// Drops the slots. Written by hand, so that a function that drops a cache calls this instead of dropping each field.
     fn drop(self) {
         let PairMemo { slots: _, taken: _ } = self;
     }
@@ -60,7 +60,7 @@ impl Model for PairMemo {
 }
 
 impl PairMemo {
-    /// No pair has an answer.
+    /// Returns an empty cache.
     pub fn new(alloc: Global) -> Self
         ensures { AnswersNothing result }
     {
@@ -70,7 +70,7 @@ impl PairMemo {
         }
     }
 
-    /// No pair has an answer, and there is room for so many.
+    /// Returns an empty cache with room for `pairs` pairs.
     pub fn with_capacity(alloc: Global, pairs: usize) -> Result<Self, AllocError>
         ensures { IfOk result AnswersNothing }
     {
@@ -80,7 +80,7 @@ impl PairMemo {
         })
     }
 
-    /// Forgets all answers.
+    /// Removes all results.
     pub fn clear(&mut self)
         ensures { AnswersNothing self.new }
     {
@@ -88,7 +88,7 @@ impl PairMemo {
         self.taken = 0;
     }
 
-    /// The answer for a pair.
+    /// Returns the stored result for a pair, if there is one.
     pub fn get(&self, left: Node, right: Node) -> Option<Node>
         ensures { IfSome result (Answers self.now left right) }
     {
@@ -105,7 +105,7 @@ impl PairMemo {
         None
     }
 
-    /// One more answer, for a pair that has none. Where the left node's number is 2^32 - 1 it is not remembered.
+    /// Stores a result for a pair without one. A pair whose left node has the number 2^32 - 1 is not stored.
     pub fn insert(&mut self, left: Node, right: Node, answer: Node) -> Result<(), AllocError>
         ensures { LearnsPair self.old self.new left right answer }
     {
@@ -123,7 +123,7 @@ impl PairMemo {
         Ok(())
     }
 
-    /// Twice as many slots, with the same pairs and answers.
+    /// Returns twice as many slots with the same pairs and results.
     fn grown(&self) -> Result<Vec<PairSlot>, AllocError>
         ensures only { IfOk result (λ grown. AnswersOnly self.now grown.items) }
         ensures more { IfOk result (λ grown. length self.now + 2 ≤ length grown.items) }

@@ -9,7 +9,7 @@ use crate::diagrams::{Diagrams, Node, Shape};
 use crate::node_memo::NodeMemo;
 use std::alloc::AllocError;
 
-/// Carries nodes of another `Diagrams`, or of the same, to tests of other tracks.
+/// Rebuilds nodes, of another `Diagrams` or of the same one, with their tests on other tracks.
 #[derive(Drop)]
 struct Relabelling<'a> {
     from: Option<&'a Diagrams>,
@@ -52,7 +52,7 @@ impl<'a> Rebuild for Relabelling<'a> {
     }
 }
 
-/// Whether each track takes its own bit.
+/// Returns whether each track takes its own bit.
 fn keeps_tracks(tracks: &[u8]) -> bool
     ensures { IsTrue result → KeepsTracks tracks.now }
 {
@@ -65,7 +65,7 @@ fn keeps_tracks(tracks: &[u8]) -> bool
 }
 
 impl Diagrams {
-    /// The map of `a` on the letter whose bit t is the bit of `tracks[t]`.
+    /// Returns the map whose value at a letter is that of `a` at the letter whose bit t is bit `tracks[t]` of the first.
     pub fn relabel(&mut self, a: Node, tracks: &[u8]) -> Result<Node, AllocError>
         requires known { a < length self.old }
         requires narrow { LooksBelow self.old a (length tracks.now) }
@@ -79,9 +79,8 @@ impl Diagrams {
         Ok(node)
     }
 
-    /// The nodes here that have the maps of nodes of `from` on the letter whose bit t is the bit of `tracks[t]`, in their
-    /// order: `bring` and `relabel` in one pass. Where no node is known here and each track takes its own bit, all nodes are
-    /// copied as they are.
+    /// Adds nodes with the maps of `nodes` of `from`, relabelled, and returns them in order: `bring` and `relabel` in one pass. If
+    /// there are no nodes yet and each track takes its own bit, all nodes of `from` are copied.
     pub fn bring_relabelled(
         &mut self,
         from: &Diagrams,

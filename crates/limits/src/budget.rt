@@ -1,11 +1,11 @@
-//! How far a step may spread.
+//! The state limit of a step.
 ghost use Rattle.std.specs.Prelude.{◌≡◌, IfSome, IfNone};
 ghost use Rattle.limits.specs.Budget.{IsBudget};
 
 use crate::numbers::MOST_STATES;
 use std::marker::Model;
 
-/// The greatest spread that a step of a computation may have, in states: from 1 to `MOST_STATES`.
+/// The maximum number of states that a step of a computation may need: 1 to `MOST_STATES`.
 #[derive(Clone, Copy, PartialEq, Eq)]
 pub struct Budget {
     states: u32,
@@ -25,7 +25,7 @@ impl Model for Budget {
 }
 
 impl Budget {
-    /// The budget of so many states.
+    /// Returns the budget of `states` states.
     pub fn new(states: u32) -> Budget
         requires { IsBudget states }
         ensures { result ≡ states }
@@ -33,7 +33,7 @@ impl Budget {
         Budget { states }
     }
 
-    /// The budget of so many states, where a budget can have so many.
+    /// Returns the budget of `states` states, or `None` if `states` is 0 or exceeds `MOST_STATES`.
     pub fn checked(states: u32) -> Option<Budget>
         ensures some { IfSome result (λ budget. budget ≡ states) }
         ensures none { IfNone result (IsBudget states → ⊥) }
@@ -45,7 +45,7 @@ impl Budget {
         }
     }
 
-    /// The greatest spread that a step may have, in states.
+    /// Returns the maximum number of states that a step may need.
     pub fn states(self) -> u32
         ensures is { result ≡ self }
         ensures within { IsBudget result }

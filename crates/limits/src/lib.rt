@@ -1,4 +1,4 @@
-//! What the program takes at most, each limit named once.
+//! Defines the limits of the program, each once: a type for budgets, and constants for the others.
 #![tactic(auto)]
 
 mod budget;

@@ -1,16 +1,16 @@
 //! The limits as numbers.
 
-/// How many tracks the words of an automaton have at most: two for each of eight men, and four beside.
+/// The maximum number of tracks of an automaton: two for each of eight men, and four more.
 pub const MOST_TRACKS: u8 = 20;
 
-/// The greatest spread that a budget lets a step of a computation have, in states.
+/// The greatest budget: the maximum number of states that a step of a computation may be allowed to need.
 pub const MOST_STATES: u32 = 16_777_216;
 
-/// Within how many moves of the winner a mate is asked for at most.
+/// The maximum number of moves of the winner within which a mate is searched.
 pub const MOST_MOVES: u8 = 20;
 
-/// How many bytes a strategy file has at most.
+/// The maximum length of a strategy file, in bytes.
 pub const MOST_FILE_BYTES: usize = 268_435_456;
 
-/// How many bytes a line has at most, its end aside.
+/// The maximum length of an input line without its end, in bytes.
 pub const MOST_LINE_BYTES: usize = 200;

@@ -6,34 +6,34 @@ use Rattle.std.specs.Int.{bit_at}
 use Rattle.track_word.specs.declared.tracks.Var.{Var}
 use Rattle.track_word.specs.Word.{val}
 
--- ascending tracks, without repeats
+-- tracks in ascending order, without repeats
 abbrev pub IsAscending : List Var → Type 0
 IsAscending tracks = IsStrictlyIncreasing (map (λ v. v.0) tracks)
 
--- ascending tracks with one more
+-- an ascending list of tracks with one more track
 abbrev pub with_var : Var → List Var → List Var
 with_var x [] = x ∷ []
 with_var x (y ∷ ys) = if nat_lt x.0 y.0 then x ∷ y ∷ ys else (if x.0 == y.0 then y ∷ ys else y ∷ with_var x ys)
 
--- ascending tracks with the tracks of another list
+-- an ascending list of tracks with the tracks of another list
 abbrev pub with_vars : List Var → List Var → List Var
 with_vars [] ys = ys
 with_vars (x ∷ xs) ys = with_var x (with_vars xs ys)
 
--- tracks but one
+-- a list of tracks without one track
 abbrev pub without_var : Var → List Var → List Var
 without_var x ys = filter (λ y. not (y.0 == x.0)) ys
 
--- the place of a track in a list of tracks
+-- the index of a track in a list of tracks, or the length of the list
 abbrev pub place : List Var → Var → ℕ
 place tracks var = position_or_len (λ other. nat_eq other.0 var.0) tracks
 
--- the letter over some tracks that has the bits of a letter over all
+-- the letter over the second list of tracks whose bits are those of a letter over the first
 abbrev pub restrict : List Var → List Var → ℕ → ℕ
 restrict all [] letter = 0
 restrict all (var ∷ vars) letter = bit_at letter (place all var) + 2 * restrict all vars letter
 
--- a word over some of its tracks
+-- a word over the first list of tracks, restricted to the second
 abbrev pub part_of : List Var → List Var → List ℕ → List ℕ
 part_of all some word = map (restrict all some) word
 
@@ -41,7 +41,7 @@ part_of all some word = map (restrict all some) word
 abbrev pub Values : Type 0
 Values = ℕ → ℤ
 
--- the value that a word over the tracks gives each of them
+-- the value that a word over the tracks spells on each track
 abbrev pub word_values : List Var → List ℕ → Values
 word_values tracks word x = val word (place tracks (record { 0 = x }))
 

@@ -1,10 +1,10 @@
-//! How a linear atom compares.
+//! Relations of linear atoms.
 
-/// How a sum compares with its bound.
+/// The relation between the sum and the bound of a linear atom.
 #[derive(Clone, Copy, PartialEq, Eq)]
 pub enum Rel {
-    /// At most.
+    /// The sum is at most the bound.
     Le,
-    /// Equal.
+    /// The sum equals the bound.
     Eq,
 }

@@ -3,7 +3,7 @@ ghost use Rattle.std.specs.Prelude.{◌≡◌, ◌≤◌};
 ghost use Rattle.std.specs.Int.{bit_at};
 ghost use Rattle.track_word.specs.Word.{integer_bit};
 
-/// The bit of a place in two's complement of any length, place 0 being the lowest.
+/// Returns bit `place` of `value` in two's complement of unlimited length; bit 0 is the lowest.
 pub fn bit_of(value: i128, place: u8) -> u32
     requires { place ≤ 127 }
     ensures { result ≡ integer_bit value place }

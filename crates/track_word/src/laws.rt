@@ -1,22 +1,22 @@
-//! Laws of words, each the contract of a function that does nothing.
+//! Laws of words, each the contract of a function without a body.
 ghost use Rattle.track_word.specs.Word.{RepeatKeepsValues, BitsSpell, TuplesHaveWords, EqualValuesEqualWords};
 
-/// Repeating the first letter of a word keeps the value of every track.
+/// States that repeating the first letter of a word (sign extension) keeps the value of every track.
 pub fn repeating_first_letter_keeps_values()
     ensures { RepeatKeepsValues }
 {}
 
-/// The bits of integers from a place on downwards, from which on each has its sign alone, spell the integers.
+/// States that the bits of integers from a high enough place downwards form a word that spells the integers.
 pub fn bits_spell_their_integers()
     ensures { BitsSpell }
 {}
 
-/// Each tuple of at most 32 integers has a word of each large enough length.
+/// States that each tuple of at most 32 integers has a word of every sufficiently large length.
 pub fn each_tuple_has_words()
     ensures { TuplesHaveWords }
 {}
 
-/// Words of equal tracks, length and values are equal.
+/// States that two words with equal track counts, lengths and values are equal.
 pub fn words_of_equal_values_are_equal()
     ensures { EqualValuesEqualWords }
 {}

@@ -1,6 +1,8 @@
-//! Words over tracks: lists of letters whose bits spell a list of integers in two's complement, the sign letter first (Büchi 1960).
-//! `specs/Word` says what a word is and which integers it spells, `specs/Tracks` how words over different tracks belong together,
-//! and `specs/Atom` what a linear comparison of the values says. Lists of tracks are put in order, searched and taken from here (`lists`).
+//! Defines words over tracks: lists of letters whose bits encode integers.
+//! Each track of a word spells one integer in two's complement, most significant bit first; the first letter is the sign letter
+//! (Büchi 1960).
+//! `specs/Word` defines words and the integers that they spell, `specs/Tracks` words over some of their tracks, and `specs/Atom`
+//! linear comparisons of values. `lists` has operations on lists of tracks.
 #![tactic(auto)]
 
 mod atoms;

@@ -1,11 +1,11 @@
-//! Lists of tracks.
+//! Operations on lists of tracks.
 ghost use Rattle.std.specs.Prelude.{◌≡◌, ◌≢◌, ◌↔◌, ◌≤◌, ◌<◌, length, map, AllPairs, IsTrue, IfOk, OnOk};
 ghost use Rattle.track_word.specs.Tracks.{with_var, with_vars, without_var, place};
 
 use crate::tracks::Var;
 use std::alloc::{AllocError, Global};
 
-/// Puts a track where it belongs among ascending ones, unless it is there.
+/// Inserts a track into a list in ascending order, unless the list contains it. Costs the length of the list.
 pub fn insert_track(tracks: &mut Vec<Var>, track: Var) -> Result<(), AllocError>
     ensures { OnOk result (tracks.new.items ≡ with_var track tracks.old.items) }
 {
@@ -22,7 +22,7 @@ pub fn insert_track(tracks: &mut Vec<Var>, track: Var) -> Result<(), AllocError>
     Ok(())
 }
 
-/// Puts tracks, in any order, where they belong among ascending ones, each unless it is there.
+/// Inserts tracks, given in any order, into a list in ascending order, each unless the list contains it.
 pub fn insert_tracks(tracks: &mut Vec<Var>, more: &[Var]) -> Result<(), AllocError>
     ensures { OnOk result (tracks.new.items ≡ with_vars more.now tracks.old.items) }
 {
@@ -32,14 +32,14 @@ pub fn insert_tracks(tracks: &mut Vec<Var>, more: &[Var]) -> Result<(), AllocErr
     Ok(())
 }
 
-/// Takes a track out.
+/// Removes a track from a list.
 pub fn remove_track(tracks: &mut Vec<Var>, track: Var)
     ensures { tracks.new.items ≡ without_var track tracks.old.items }
 {
     tracks.retain(|other| other.0 != track.0);
 }
 
-/// The place of a track in a list, or behind all of it.
+/// Returns the index of a track in a list, or the length of the list if it does not contain the track.
 pub fn place_of(tracks: &[Var], track: Var) -> usize
     ensures place { result ≡ place tracks.now track }
     ensures within { result ≤ length tracks.now }
@@ -52,7 +52,7 @@ pub fn place_of(tracks: &[Var], track: Var) -> usize
     tracks.len()
 }
 
-/// The places of tracks in a list, or behind all of it.
+/// Returns the index of each track of `some` in `tracks`, or the length of `tracks` for a track that it does not contain.
 pub fn places_of(alloc: Global, tracks: &[Var], some: &[Var]) -> Result<Vec<u8>, AllocError>
     requires { length tracks.now < 256 }
     ensures { IfOk result (λ places. places.items ≡ map (place tracks.now) some.now) }
@@ -65,7 +65,7 @@ pub fn places_of(alloc: Global, tracks: &[Var], some: &[Var]) -> Result<Vec<u8>,
     Ok(places)
 }
 
-/// Whether no track stands in two places.
+/// Returns whether no track occurs twice.
 pub fn are_distinct(tracks: &[Var]) -> bool
     ensures { IsTrue result ↔ AllPairs (λ x y. x ≢ y) tracks.now }
 {
