@@ -1,4 +1,4 @@
--- Products that are one of the two automata.
+-- Products that equal one of the two automata.
 use Rattle.std.specs.Prelude.{◌≡◌, ◌⊎◌, ◌≤◌, ◌*◌, ℕ, Bool, true, false, List, length}
 use Rattle.track_word.specs.Word.{IsWord}
 use Rattle.track_word.specs.Tracks.{with_vars}
@@ -11,17 +11,17 @@ use Rattle.auto_bool.specs.declared.operand.Operand.TheVariants.{Left, Right}
 use Rattle.auto_bool.specs.Sides.{AreAmong}
 use Rattle.auto_bool.specs.Words.{AcceptsBy, StepExceeds}
 
--- the one of two that is meant
+-- the value of the operand
 abbrev pub operand_of : {X : Type 0} → Operand → X → X → X
 operand_of Left a b = a
 operand_of Right a b = b
 
--- a single state, to which each word leads, of this flag: all words are accepted, or none
+-- one state with this flag, which each word reaches: all words are accepted, or none
 pub record IsConstant (a : Automaton) (flag : Bool) : Type 0 where
   pub single : length a.accept ≡ 1
   pub flagged : is_final a 0 ≡ flag
 
--- one of the two accepts all words or none, and by that the connective takes the words of the operand
+-- one of the two accepts all words or none, so that the connective accepts the words of the operand
 abbrev pub Yields : Connective → Operand → Automaton → Automaton → Type 0
 Yields And Left a b = IsConstant a false ⊎ IsConstant b true
 Yields And Right a b = IsConstant b false ⊎ IsConstant a true
@@ -30,30 +30,30 @@ Yields Or Right a b = IsConstant b true ⊎ IsConstant a false
 Yields AndNot Left a b = IsConstant a false ⊎ IsConstant b false
 Yields AndNot Right a b = ⊥
 
--- and the operand has the tracks of both, and the budget room for all pairs of states
+-- in addition, the operand has the tracks of both, and the budget has room for all pairs of states
 pub record IsAtHand (a b : Automaton) (connective : Connective) (budget : ℕ) (operand : Operand) : Type 0 where
   pub yields : Yields connective operand a b
   pub among : AreAmong (operand_of operand a b).tracks (operand_of operand b a).tracks
   pub room : length a.accept * length b.accept ≤ budget
 
--- over the tracks of the first automaton the second accepts no word, by a single state, to which words lead
+-- the second automaton accepts no word over the tracks of the first, and has one state, which words reach
 pub record IsNoneOf (a n : Automaton) : Type 0 where
   pub tracks : n.tracks ≡ a.tracks
   pub single : length n.accept ≡ 1
   pub reached : AllReached n
   pub words : (word : List ℕ) → IsWord (length n.tracks) word → ¬ Accepts n word
 
--- the automaton is the product of the two, and neither it nor the step on the two exceeds the budget
+-- the automaton is the product of the two; neither it nor the step exceeds the budget
 pub record IsProductWithin (a b : Automaton) (connective : Connective) (budget : ℕ) (m : Automaton) : Type 0 where
   pub tracks : m.tracks ≡ with_vars a.tracks b.tracks
   pub words : AcceptsBy connective a b m
   pub few : length m.accept ≤ budget
   pub within : ¬ StepExceeds a b budget
 
--- each automaton that accepts no word is the product of the automaton without itself
+-- each automaton that accepts no word is the difference of the automaton with itself
 abbrev pub IsNothingLeft : Automaton → ℕ → Type 0
 IsNothingLeft a budget = (n : Automaton) → IsNoneOf a n → IsProductWithin a a AndNot budget n
 
--- the operand is such an automaton
+-- the operand is such a product
 abbrev pub IsOperand : Automaton → Automaton → Connective → ℕ → Operand → Type 0
 IsOperand a b connective budget operand = IsProductWithin a b connective budget (operand_of operand a b)

@@ -16,7 +16,7 @@ use limits::MOST_TRACKS;
 use std::alloc::{AllocError, Global};
 use track_word::{Var, insert_tracks};
 
-/// The tracks of both lists, ascending as those of the second.
+/// Returns the tracks of both lists in ascending order; `right` is ascending. Errors: an allocation failed.
 pub fn both_tracks(alloc: Global, left: &[Var], right: &[Var]) -> Result<Vec<Var>, AllocError>
     ensures { IfOk result (λ tracks. tracks.items ≡ with_vars left.now right.now) }
 {
@@ -25,8 +25,8 @@ pub fn both_tracks(alloc: Global, left: &[Var], right: &[Var]) -> Result<Vec<Var
     Ok(tracks)
 }
 
-/// Two automata, whose rows are read over the tracks of both. The pairs of states are the pairs of the product: one stands
-/// for all that have an absorbing state.
+/// Two automata, whose rows are read over the tracks of both. The places are pairs of states; one pair represents all pairs with an
+/// absorbing state.
 #[derive(Drop)]
 pub struct Both<'a> {
     left: &'a Auto,
@@ -41,6 +41,7 @@ pub struct Both<'a> {
 }
 
 impl<'a> Both<'a> {
+    /// Creates the walk over the pairs of states of two automata. Errors: an allocation failed.
     pub fn new(
         alloc: Global,
         left: &'a Auto,

@@ -7,7 +7,8 @@ use auto_core::Auto;
 use letter_diagram::Node;
 use std::alloc::{AllocError, Global};
 
-/// The automaton of the nonempty words over the same tracks that `a` does not accept: the same rows, with each flag turned.
+/// Returns the complement: the automaton of the nonempty words over the same tracks that `a` does not accept. It has the same rows,
+/// with each flag negated.
 pub fn not(alloc: Global, a: &Auto) -> Result<Auto, AllocError>
     ensures tracks { IfOk result (λ n. n.tracks ≡ a.now.tracks) }
     ensures first { IfOk result (λ n. n.first ≡ a.now.first) }

@@ -1,17 +1,19 @@
-//! How a product combines the flags of its two sides.
+//! How a product combines the flags of its two operands.
 ghost use Rattle.std.specs.Prelude.{◌≡◌};
 ghost use Rattle.auto_bool.specs.Both.{combined};
 ghost use Rattle.auto_bool.specs.Absorbed.{left_deciding, right_deciding};
 
+/// A Boolean connective of two operands: and, or, and not.
 #[derive(Clone, Copy)]
 pub enum Connective {
     And,
     Or,
-    /// The left side and not the right one.
+    /// The left operand and not the right one.
     AndNot,
 }
 
 impl Connective {
+    /// Applies the connective to two flags.
     pub fn of(self, left: bool, right: bool) -> bool
         ensures { result ≡ combined self left right }
     {
@@ -22,7 +24,7 @@ impl Connective {
         }
     }
 
-    /// The flag of the left side at which the right side's does not matter.
+    /// Returns the flag of the left operand that decides the result alone.
     pub fn left_deciding(self) -> bool
         ensures { result ≡ left_deciding self }
     {
@@ -32,7 +34,7 @@ impl Connective {
         }
     }
 
-    /// The flag of the right side at which the left side's does not matter.
+    /// Returns the flag of the right operand that decides the result alone.
     pub fn right_deciding(self) -> bool
         ensures { result ≡ right_deciding self }
     {

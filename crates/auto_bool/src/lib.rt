@@ -1,7 +1,7 @@
-//! Boolean operations on automata: the product of two automata over the tracks of both, and the complement.
-//! `specs/Both` has the pairs of states that a product goes over, `specs/Absorbed` which of them are one where the budget has room
-//! for all; `auto_walk` numbers them, and `diagram_product` makes their rows. `specs/Operands` has the products that
-//! are one of the two automata.
+//! Computes intersection, union, difference and complement of automata.
+//! Binary operations are products over the tracks of both operands (Rabin and Scott 1959). `specs/Both` has the pairs of states of
+//! a product, and `specs/Absorbed` the pairs that are one state if the budget has room for all pairs. `auto_walk` numbers the
+//! pairs, and `diagram_product` computes their rows. `specs/Operands` has the products that equal one of the operands.
 #![tactic(auto)]
 
 mod both;

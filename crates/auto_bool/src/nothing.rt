@@ -6,7 +6,7 @@ use auto_core::Auto;
 use letter_diagram::Diagrams;
 use std::alloc::{AllocError, Global};
 
-/// The automaton over the tracks of `a` that accepts no word. It has a single state.
+/// Returns the automaton over the tracks of `a` that accepts no word. It has one state.
 pub fn none_of(alloc: Global, a: &Auto) -> Result<Auto, AllocError>
     ensures { IfOk result (IsNoneOf a.now) }
 {

@@ -1,4 +1,4 @@
-//! One side of a product: the rows of an automaton, read over the tracks of both.
+//! One operand of a product: the rows of an automaton, read over the tracks of both.
 ghost use Rattle.std.specs.Prelude.{◌≤◌, length, Some, IfOk};
 ghost use Rattle.track_word.specs.Tracks.{IsAscending};
 ghost use Rattle.auto_bool.specs.Sides.{IsSide, AreAmong};
@@ -9,7 +9,7 @@ use limits::MOST_TRACKS;
 use std::alloc::{AllocError, Global};
 use track_word::{Var, places_of};
 
-/// The nodes of an automaton, where they stand, read over more tracks.
+/// Returns a reader of the nodes of an automaton over the tracks `all`, which contain its own. No node is copied.
 pub fn side<'a>(alloc: Global, all: &[Var], a: &'a Auto) -> Result<LentReader<'a>, AllocError>
     requires all { length all.now ≤ MOST_TRACKS }
     requires ascending { IsAscending all.now }

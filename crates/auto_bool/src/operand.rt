@@ -1,4 +1,4 @@
-//! Products that are one of the two automata, so that none has to be made.
+//! Products that equal one of the operands, and need not be computed.
 ghost use Rattle.std.specs.Prelude.{◌≡◌, ◌≤◌, ◌↔◌, length, IsTrue, IsSome, IfSome};
 ghost use Rattle.auto_bool.specs.Sides.{AreAmong};
 ghost use Rattle.auto_bool.specs.Operands.{operand_of, IsConstant, Yields, IsAtHand, IsOperand, IsProductWithin, IsNothingLeft};
@@ -9,7 +9,7 @@ use auto_core::Auto;
 use limits::Budget;
 use track_word::{Var, place_of};
 
-/// One of the two automata of a product.
+/// One of the two operands of a product.
 #[derive(Clone, Copy, PartialEq, Eq)]
 pub enum Operand {
     Left,
@@ -17,7 +17,7 @@ pub enum Operand {
 }
 
 impl Operand {
-    /// The one of two values that is meant.
+    /// Returns the value of the operand.
     pub fn of<T: Drop>(self, left: T, right: T) -> T
         ensures { result ≡ operand_of self left right }
     {
@@ -28,10 +28,9 @@ impl Operand {
     }
 }
 
-/// Which of the two automata their bounded product by this connective would make again, if either: one of them accepts
-/// all words or none, by a single state, so that the product has the words of the other, or none, or all. What is
-/// answered has the tracks of both, and the budget has room for all pairs of states.
-/// Costs no more than comparing the tracks.
+/// Returns the operand, if any, that equals the bounded product of both by this connective.
+/// That is so if one of the two has one state and accepts all words or none, so that the product accepts the words of the operand;
+/// if the operand has the tracks of both; and if the budget has room for all pairs of states. Costs a comparison of the tracks.
 pub fn operand_by(a: &Auto, b: &Auto, connective: Connective, budget: Budget) -> Option<Operand>
     ensures is { IfSome result (IsOperand a.now b.now connective budget) }
     ensures found { (operand : Operand) → IsAtHand a.now b.now connective budget operand → IsSome result }
@@ -48,7 +47,7 @@ pub fn operand_by(a: &Auto, b: &Auto, connective: Connective, budget: Budget) ->
     None
 }
 
-/// Whether the words of the left automaton are those that the connective takes.
+/// Returns whether the connective accepts the words of the left automaton.
 fn yields_left(a: &Auto, b: &Auto, connective: Connective) -> bool
     ensures { IsTrue result ↔ Yields connective Operand.Left a.now b.now }
 {
@@ -59,7 +58,7 @@ fn yields_left(a: &Auto, b: &Auto, connective: Connective) -> bool
     }
 }
 
-/// Whether the words of the right automaton are those that the connective takes.
+/// Returns whether the connective accepts the words of the right automaton.
 fn yields_right(a: &Auto, b: &Auto, connective: Connective) -> bool
     ensures { IsTrue result ↔ Yields connective Operand.Right a.now b.now }
 {
@@ -70,7 +69,7 @@ fn yields_right(a: &Auto, b: &Auto, connective: Connective) -> bool
     }
 }
 
-/// Whether the automaton has a single state, and all words have this flag.
+/// Returns whether the automaton has one state with this flag, so that all words are accepted, or none.
 fn is_constant(a: &Auto, flag: bool) -> bool
     ensures { IsTrue result ↔ IsConstant a.now flag }
 {
@@ -88,9 +87,9 @@ fn are_among(all: &[Var], some: &[Var]) -> bool
     true
 }
 
-/// Whether the budget has room for the bounded products of the automaton with itself. And and Or of it with itself are
-/// the automaton, and it without itself is the automaton that accepts no word. A word leads to a pair of one state
-/// twice, so there are no more such pairs than states.
+/// Returns whether the budget has room for the bounded products of an automaton with itself.
+/// `And` and `Or` of it with itself are the automaton, and `AndNot` is the automaton that accepts no word. A word reaches the same
+/// state twice, so there are at most as many pairs as states.
 pub fn fits_with_itself(a: &Auto, budget: Budget) -> bool
     ensures room { IsTrue result ↔ (length a.now.accept ≤ budget) }
     ensures both { IsTrue result → IsProductWithin a.now a.now Connective.And budget a.now }

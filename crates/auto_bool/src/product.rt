@@ -16,12 +16,12 @@ use diagram_product::Absorbing;
 use limits::{Budget, MOST_TRACKS};
 use std::alloc::Global;
 
-/// The automaton of the words over the tracks of both that the connective takes, each word read on the argument's own tracks, of any
-/// two automata, reduced or not. Its states are the pairs of states that words lead to (Rabin and Scott 1959). Where the budget has
-/// room for all pairs of states, those in which a side decides for good are one. Some states may accept the same suffixes. `Over` where
-/// the pairs that words lead to are more than the budget. Only of reduced automata does that say how many words the step has to tell
-/// apart: on the reduced automata for the same words it may still be within. Costs the pairs of nodes that are met over all rows
-/// together.
+/// Returns the product of any two automata, minimal or not: the automaton over the tracks of both that accepts by the connective,
+/// each operand reading its own tracks.
+/// Its states are the pairs of states that words reach (Rabin and Scott 1959). If the budget has room for all pairs of states, the
+/// pairs in which one operand decides alone are one state. The result need not be minimal.
+/// Errors: `Over` if words reach more pairs than the budget. Only for minimal operands does this mean that the step needs more
+/// states than the budget. Costs the pairs of nodes that are visited over all rows.
 fn product_within(
     alloc: Global,
     a: &Auto,
@@ -49,7 +49,7 @@ fn product_within(
     Ok(m)
 }
 
-/// Whether the budget has room for all pairs of states.
+/// Returns whether the budget has room for all pairs of states.
 pub fn pairs_fit(a: &Auto, b: &Auto, budget: Budget) -> bool
     ensures room { IsTrue result ↔ (length a.now.accept * length b.now.accept ≤ budget) }
     ensures within { IsTrue result → ¬ StepExceeds a.now b.now budget }
@@ -57,7 +57,8 @@ pub fn pairs_fit(a: &Auto, b: &Auto, budget: Budget) -> bool
     u64::from(a.states()) * u64::from(b.states()) <= u64::from(budget.states())
 }
 
-/// With one state for all pairs in which one side decides for good: how many pairs words lead to is not seen.
+/// Returns the product with one state for all pairs in which one operand decides alone. The number of pairs that words reach is
+/// unknown.
 fn absorbed_product(
     alloc: Global,
     a: &Auto,
@@ -74,7 +75,7 @@ fn absorbed_product(
     Ok(m)
 }
 
-/// With a state for each pair of states that words lead to.
+/// Returns the product with one state for each pair of states that words reach.
 fn exact_product(
     alloc: Global,
     a: &Auto,
@@ -93,8 +94,9 @@ fn exact_product(
     explored(alloc, both, budget)
 }
 
-/// The automaton of the words over the tracks of both that both accept, each word read on the argument's own tracks: the product of
-/// reduced automata, of which `Over` says that the step has to tell apart more words than the budget.
+/// Returns the intersection: the automaton over the tracks of both of the words that both accept, each reading its own tracks.
+/// It is the product of minimal automata. Errors: `Over` if the step needs more states than the budget, `Memory` if an allocation
+/// fails.
 pub fn meet(alloc: Global, a: &Auto, b: &Auto, budget: Budget) -> Result<Auto, Grown>
     requires a_reduced { IsReduced a.now }
     requires b_reduced { IsReduced b.now }
@@ -109,8 +111,8 @@ pub fn meet(alloc: Global, a: &Auto, b: &Auto, budget: Budget) -> Result<Auto, G
     Ok(m)
 }
 
-/// The automaton of the words over the tracks of both that one of them accepts at least, each word read on the argument's own
-/// tracks. Otherwise as `meet`.
+/// Returns the union: the automaton over the tracks of both of the words that at least one of them accepts, each reading its own
+/// tracks. Otherwise it is as `meet`.
 pub fn join(alloc: Global, a: &Auto, b: &Auto, budget: Budget) -> Result<Auto, Grown>
     requires a_reduced { IsReduced a.now }
     requires b_reduced { IsReduced b.now }
@@ -125,8 +127,8 @@ pub fn join(alloc: Global, a: &Auto, b: &Auto, budget: Budget) -> Result<Auto, G
     Ok(m)
 }
 
-/// The automaton of the words over the tracks of both that `a` accepts and `b` does not, each word read on the argument's own
-/// tracks. Otherwise as `meet`; no complement is made.
+/// Returns the difference: the automaton over the tracks of both of the words that `a` accepts and `b` does not, each reading its
+/// own tracks. Otherwise it is as `meet`; no complement is computed.
 pub fn difference(alloc: Global, a: &Auto, b: &Auto, budget: Budget) -> Result<Auto, Grown>
     requires a_reduced { IsReduced a.now }
     requires b_reduced { IsReduced b.now }

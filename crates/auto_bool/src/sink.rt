@@ -1,4 +1,4 @@
-//! States that an automaton does not leave.
+//! Absorbing states.
 ghost use Rattle.std.specs.Prelude.{◌<◌, ◌↔◌, length, IsTrue};
 ghost use Rattle.auto_bool.specs.Absorbed.{IsSink, IsFirstSink, AreSinks, AreFirstSinks};
 
@@ -7,7 +7,7 @@ use auto_core::Auto;
 use diagram_product::Absorbing;
 use letter_diagram::Shape;
 
-/// The first state of either side, where there is such, that decides for good what the connective gives.
+/// Returns for each operand its first absorbing state, if any, at which it decides the connective alone.
 pub fn deciding_states(a: &Auto, b: &Auto, connective: Connective) -> Absorbing
     ensures deciding_states { AreSinks a.now b.now connective result }
     ensures first { AreFirstSinks a.now b.now connective result }
@@ -18,7 +18,7 @@ pub fn deciding_states(a: &Auto, b: &Auto, connective: Connective) -> Absorbing
     }
 }
 
-/// The first state of this flag whose row leads each letter to itself.
+/// Returns the first state with this flag whose row maps each letter to itself.
 fn sink(a: &Auto, flag: bool) -> Option<u32>
     ensures { IsFirstSink a.now flag result }
 {

@@ -1,8 +1,8 @@
--- Automata that differ in their nodes alone.
+-- Automata that differ only in their nodes.
 use Rattle.std.specs.Prelude.{◌≡◌}
 use Rattle.auto_core.specs.Automaton.{Automaton}
 
--- what is made has the tracks, the tables and the flags of the automaton
+-- the result has the tracks, tables and flags of the automaton
 pub record HasSameTables (of made : Automaton) : Type 0 where
   pub tracks : made.tracks ≡ of.tracks
   pub first : made.first ≡ of.first

@@ -1,4 +1,4 @@
-//! Tables with many nodes to which no row leads.
+//! Tables with many nodes that no row reaches.
 ghost use Rattle.std.specs.Prelude.{◌≡◌, ◌≢◌, ◌<◌, [], length, AllPairs, IfOk};
 ghost use Rattle.track_word.specs.Tracks.{with_vars};
 ghost use Rattle.auto_core.specs.Automaton.{IsAutomaton};
@@ -12,10 +12,10 @@ use letter_diagram::{Diagrams, Node, Shape};
 use std::alloc::{AllocError, Global};
 use track_word::Var;
 
-/// A table of so many times the nodes to which rows lead is made anew.
+/// A table is rebuilt if it has at least this many times the reachable nodes.
 const TIMES: usize = 3;
 
-/// Marks a node and those to which it leads, and counts down those that were not marked. Stops at 0.
+/// Marks the nodes reachable from a node, and decrements `left` for each new mark. Stops at 0.
 fn mark(diagrams: &Diagrams, node: Node, marks: &mut Vec<bool>, left: &mut usize)
     requires known { node < length diagrams.now }
     requires size { length marks.old.items ≡ length diagrams.now }
@@ -33,8 +33,8 @@ fn mark(diagrams: &Diagrams, node: Node, marks: &mut Vec<bool>, left: &mut usize
     }
 }
 
-/// Whether the table has at least three times as many nodes as the rows lead to. What is said of automata holds whatever this
-/// answers. Costs the nodes to which rows lead, and no more than a third of the table's.
+/// Returns whether the table has at least three times as many nodes as the rows reach. The contracts of automata do not depend on
+/// the result. Costs the reachable nodes, and at most a third of the table's.
 fn is_sparse(alloc: Global, a: &Auto) -> Result<bool, AllocError> {
     let diagrams = a.diagrams();
     let nodes = diagrams.len();
@@ -50,7 +50,7 @@ fn is_sparse(alloc: Global, a: &Auto) -> Result<bool, AllocError> {
     Ok(left > 0)
 }
 
-/// The same automaton, over a table of the nodes to which its rows lead.
+/// Returns the same automaton over a table of the nodes that its rows reach.
 fn over_led_nodes(alloc: Global, a: &Auto) -> Result<Auto, AllocError>
     ensures { IfOk result (HasSameTables a.now) }
 {
@@ -63,7 +63,8 @@ fn over_led_nodes(alloc: Global, a: &Auto) -> Result<Auto, AllocError>
     Ok(Auto::from_diagrams(tracks, diagrams, first, rows, accept))
 }
 
-/// The same automaton. Where its table has three times as many nodes as its rows lead to, or more, these alone are in the new one.
+/// Returns the same automaton, garbage collected: if its table has at least three times as many nodes as its rows reach, the new
+/// table has only the reachable nodes. Errors: an allocation failed.
 pub fn compact(alloc: Global, a: Auto) -> Result<Auto, AllocError>
     ensures tracks { IfOk result (λ made. made.tracks ≡ a.tracks) }
     ensures first { IfOk result (λ made. made.first ≡ a.first) }
@@ -84,7 +85,8 @@ pub fn compact(alloc: Global, a: Auto) -> Result<Auto, AllocError>
     Ok(compacted)
 }
 
-/// `Auto::rename`, and `compact` of what it makes: where the tracks get another order, nodes are made by which a track gets past others.
+/// Renames as `Auto::rename` does, and compacts the result: a reordering of tracks leaves unused nodes. Errors: an allocation
+/// failed.
 pub fn renamed(alloc: Global, a: &Auto, vars: &[Var]) -> Result<Auto, AllocError>
     requires { length vars.now ≡ length a.now.tracks }
     ensures tracks { IfOk result (λ made. made.tracks ≡ with_vars vars.now []) }

@@ -1,5 +1,5 @@
-//! Automata whose tables have many nodes to which no row leads. A step may leave such a table, since it makes nodes on the way that are
-//! not of its result. Here it is made anew of the nodes to which rows lead; nothing else of the automaton changes.
+//! Removes unreachable diagram nodes from automata whose tables have many of them.
+//! A step leaves unreachable nodes in the table, since it makes intermediate nodes. Nothing but the table changes.
 #![tactic(auto)]
 
 mod compacting;

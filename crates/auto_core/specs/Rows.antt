@@ -11,15 +11,15 @@ use Rattle.letter_diagram.specs.Listed.{EachAnswers}
 use Rattle.letter_diagram.specs.Relabelled.{relabelled}
 use Rattle.auto_core.specs.Automaton.{Automaton, width}
 
--- the values of a node's map at the letters below a width
+-- the values of a node's map at the letters below a width, as a list
 unfoldable pub row_of : List Shape → ℕ → ℕ → List ℕ
 row_of shapes width node = map (map_at shapes node) (range_with_len 0 width)
 
--- the rows of some nodes, one after another
+-- the rows of several nodes, concatenated
 unfoldable pub rows_of : List Shape → ℕ → List ℕ → List ℕ
 rows_of shapes width nodes = flat_map (row_of shapes width) nodes
 
--- the node's map leads each letter to the state that a row has for it
+-- the node's map has the value that the row has for each letter
 abbrev pub IsNodeOfRow : Automaton → (ℕ → ℕ) → ℕ → Type 0
 IsNodeOfRow a row node = (letter : ℕ) → letter < width a → map_at a.shapes node letter ≡ row letter
 
@@ -27,12 +27,12 @@ IsNodeOfRow a row node = (letter : ℕ) → letter < width a → map_at a.shapes
 abbrev pub all_nodes : Automaton → List ℕ
 all_nodes a = a.first_node ∷ a.row_nodes
 
--- nodes of other shapes, one for each of the automaton's, that read each letter by its bits at the places
+-- nodes of other shapes, one for each of the automaton's, that read the bits of a letter at the places
 abbrev pub AreReadAt : Automaton → List ℕ → List Shape → List ℕ → Type 0
 AreReadAt a places shapes nodes =
     EachAnswers (IsCarried a.shapes shapes (relabelled places) (λ value. value)) (all_nodes a) nodes
 
--- the automaton whose rows these nodes are
+-- the automaton with these nodes as its rows
 abbrev pub dense : List Var → List Shape → ℕ → List ℕ → List Bool → Automaton
 dense tracks shapes first rows accept = record {
   tracks = tracks;
@@ -44,7 +44,7 @@ dense tracks shapes first rows accept = record {
   row_nodes = rows;
 }
 
--- the nodes are rows of an automaton, and look at its tracks alone
+-- the nodes are rows of an automaton, and depend on its tracks only
 pub record AreRows (tracks : List Var) (shapes : List Shape) (first : ℕ) (rows : List ℕ) (accept : List Bool) : Type
     0 where
   pub ascending : IsAscending tracks
@@ -65,7 +65,7 @@ pub record IsOverNodes (a : Automaton) : Type 0 where
   pub first : a.first ≡ row_of a.shapes (2 ^ length a.tracks) a.first_node
   pub next : a.next ≡ rows_of a.shapes (2 ^ length a.tracks) a.row_nodes
 
--- dense tables: an entry for each sign letter, and for each state a row of entries and a flag
+-- dense tables: a state for each sign letter, and a row of states and a flag for each state
 pub record AreTables (tracks : List Var) (first next : List ℕ) (accept : List Bool) : Type 0 where
   pub ascending : IsAscending tracks
   pub few_tracks : length tracks ≤ MOST_TRACKS

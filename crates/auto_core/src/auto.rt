@@ -10,6 +10,8 @@ use std::marker::Model;
 use track_word::Var;
 
 /// A complete deterministic automaton that reads nonempty words, the sign letter first.
+/// Has at most 20 tracks. A row is a node of its diagrams: the first row maps sign letters to states, and each state's row maps
+/// further letters to states.
 pub struct Auto {
     tracks: Vec<Var>,
     diagrams: Diagrams,
@@ -19,7 +21,7 @@ pub struct Auto {
 }
 
 impl Drop for Auto {
-    /// Lets the tables go. Written out, so that a body that lets an automaton go has a call here in place of its fields' drops.
+    /// Drops the tables. Written by hand, so that a function that drops an automaton calls this instead of dropping each field.
     fn drop(self) {
         let Auto {
             tracks: _,
@@ -43,7 +45,7 @@ impl Model for Auto {
 }
 
 impl Auto {
-    /// The automaton whose first row and state rows are the maps of these nodes.
+    /// Returns the automaton whose first row and state rows are the maps of these nodes.
     pub fn from_diagrams(
         tracks: Vec<Var>,
         diagrams: Diagrams,
@@ -70,7 +72,7 @@ impl Auto {
         }
     }
 
-    /// The diagrams that the rows are nodes of.
+    /// Returns the diagrams whose nodes are the rows.
     pub fn diagrams(&self) -> &Diagrams
         ensures shapes { result.now ≡ self.now.shapes }
         ensures nodes { IsOverNodes self.now }
@@ -78,7 +80,7 @@ impl Auto {
         &self.diagrams
     }
 
-    /// The node of the first row, which leads each sign letter to a state.
+    /// Returns the node of the first row, which maps each sign letter to a state.
     pub fn first_node(&self) -> Node
         ensures is { result ≡ self.now.first_node }
         ensures known { result < length self.now.shapes }
@@ -89,7 +91,7 @@ impl Auto {
         self.first
     }
 
-    /// The node of a state's row, which leads each further letter to a state.
+    /// Returns the node of a state's row, which maps each further letter to a state.
     pub fn row_node(&self, state: u32) -> Node
         requires { state < length self.now.accept }
         ensures is { slice_get self.now.row_nodes state ≡ Some result }
@@ -101,14 +103,14 @@ impl Auto {
         self.rows[state as usize]
     }
 
-    /// The nodes of the states' rows, in order.
+    /// Returns the nodes of the states' rows, in the order of the states.
     pub fn row_nodes(&self) -> &[Node]
         ensures { result.now ≡ self.now.row_nodes }
     {
         self.rows.as_slice()
     }
 
-    /// The node of the first row, then the nodes of the states' rows.
+    /// Returns the node of the first row, followed by the nodes of the states' rows. Errors: an allocation failed.
     pub fn all_nodes(&self, alloc: Global) -> Result<Vec<Node>, AllocError>
         ensures nodes { IfOk result (λ nodes. nodes.items ≡ all_nodes self.now) }
         ensures over { IsOverNodes self.now }
@@ -118,7 +120,7 @@ impl Auto {
         Ok(nodes)
     }
 
-    /// The tracks, ascending.
+    /// Returns the tracks in ascending order.
     pub fn tracks(&self) -> &[Var]
         ensures tracks { result.now ≡ self.now.tracks }
         ensures valid { IsAutomaton self.now }
@@ -126,7 +128,7 @@ impl Auto {
         self.tracks.as_slice()
     }
 
-    /// The number of states.
+    /// Returns the number of states.
     pub fn states(&self) -> u32
         ensures states { result ≡ length self.now.accept }
         ensures valid { IsAutomaton self.now }
@@ -134,14 +136,14 @@ impl Auto {
         self.accept.len() as u32
     }
 
-    /// The accept flags of the states.
+    /// Returns the accept flags, in the order of the states.
     pub fn flags(&self) -> &[bool]
         ensures { result.now ≡ self.now.accept }
     {
         self.accept.as_slice()
     }
 
-    /// The same automaton, with the same nodes.
+    /// Copies the automaton with its nodes.
     pub fn copy(&self) -> Result<Self, AllocError>
         ensures { IfOk result (λ copy. copy ≡ self.now) }
     {

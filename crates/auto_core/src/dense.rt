@@ -13,8 +13,8 @@ use std::alloc::{AllocError, Global};
 use track_word::Var;
 
 impl Auto {
-    /// The automaton of these tables: `first` has a state for each sign letter, `next` a row of states for each state,
-    /// one after another, and `accept` a flag for each state.
+    /// Returns the automaton of dense tables. `first` has a state for each sign letter, `next` a row of states for each state, one
+    /// after another, and `accept` a flag for each state.
     pub fn from_rows(
         alloc: Global,
         tracks: Vec<Var>,
@@ -37,7 +37,7 @@ impl Auto {
     }
 }
 
-/// The nodes whose maps are rows that stand one after another.
+/// Returns the nodes of the rows of a table, in order.
 fn nodes_of_rows(
     alloc: Global,
     diagrams: &mut Diagrams,
@@ -61,7 +61,7 @@ fn nodes_of_rows(
     Ok(nodes)
 }
 
-/// The node whose map is a dense row: `table` has an entry for each letter over so many tracks, in the order of the letters.
+/// Returns the node of a dense row: `table` has an entry for each letter over `tracks` tracks, in the order of the letters.
 pub fn node_of_row(diagrams: &mut Diagrams, table: &[u32], tracks: u8) -> Result<Node, AllocError>
     requires few { tracks ≤ MOST_TRACKS }
     requires size { length table.now ≡ 2 ^ tracks }
@@ -75,7 +75,7 @@ pub fn node_of_row(diagrams: &mut Diagrams, table: &[u32], tracks: u8) -> Result
     Ok(node)
 }
 
-/// The node whose map is the entries of a dense row from an offset on, by the tracks from `track` on.
+/// Returns the node of the entries of a dense row from an offset on, by the tracks from `track` on.
 fn node_from(
     diagrams: &mut Diagrams,
     table: &[u32],

@@ -1,8 +1,8 @@
-//! Automata that decide linear atoms.
+//! Automata of linear atoms.
 //!
-//! After each letter the sum comes to twice what it was and the coefficients of the letter's bits, after the sign letter to
-//! minus these (Büchi 1960). A state stands for one value of the sum, the first and the last state also for all values beyond:
-//! from these no further letter leads back.
+//! After each letter the sum becomes twice its value plus the coefficients of the letter's bits; a sign letter counts negatively
+//! (Büchi 1960). A state represents one value of the sum; the first and the last state also represent all values beyond, from which
+//! no letter leads back.
 ghost use Rattle.std.specs.Prelude.{◌≡◌, ◌↔◌, ◌≤◌, ◌<◌, ◌+◌, ◌≤ℤ◌, ◌<ℤ◌, ℕ, pos, negsuc, length, map, neg_ℤ, ◌+ℤ◌, All, IfOk, IsTrue, unsigned_abs};
 ghost use Rattle.std.specs.List.{sum_by};
 ghost use Rattle.track_word.specs.Atom.{IsAtom, AtomHolds, Compares, atom_tracks, term_vars};
@@ -22,7 +22,8 @@ use track_word::laws::repeating_first_letter_keeps_values;
 use track_word::{Rel, Var};
 
 impl Auto {
-    /// Decides whether the sum of coefficient times variable is at most, or equal to, the bound.
+    /// Returns the automaton of a linear atom: the sum of coefficient times variable is at most, or equal to, the bound. It has at most
+    /// 3 states more than the sum of the absolute values of the coefficients and the bound. Errors: an allocation failed.
     pub fn lin(alloc: Global, terms: &[(i8, Var)], rel: Rel, bound: i32) -> Result<Auto, AllocError>
         requires { IsAtom terms.now bound }
         ensures tracks { IfOk result (λ a. a.tracks ≡ atom_tracks terms.now) }
@@ -48,7 +49,7 @@ impl Auto {
     }
 }
 
-/// The automaton that compares what the weights of a word's letters come to with the bound.
+/// Returns the automaton that compares the weighted sum of a word with the bound.
 fn sum_automaton(
     alloc: Global,
     tracks: Vec<Var>,
@@ -75,7 +76,7 @@ fn sum_automaton(
     Ok(decided)
 }
 
-/// The values that states stand for: beyond these the sum only grows away from the bound.
+/// Returns the values that states represent. Beyond these the sum only moves away from the bound.
 fn span_of(weights: &[i32], bound: i32) -> ValueRange
     requires few { length weights.now ≤ 8 }
     requires small { All IsSmall weights.now }
@@ -90,7 +91,7 @@ fn span_of(weights: &[i32], bound: i32) -> ValueRange
     }
 }
 
-/// The sum of the positive weights, and minus the sum of the negative ones.
+/// Returns the sum of the positive weights, and the negated sum of the negative ones.
 fn reach(weights: &[i32]) -> (i32, i32)
     requires few { length weights.now ≤ 8 }
     requires small { All IsSmall weights.now }
@@ -108,7 +109,7 @@ fn reach(weights: &[i32]) -> (i32, i32)
     (most, least)
 }
 
-/// What a weight can add.
+/// Returns the weight if it is positive, and 0 otherwise.
 fn gain_of(weight: i32) -> i32
     requires { IsSmall weight }
     ensures { result ≡ pos (gain weight) }
@@ -116,7 +117,7 @@ fn gain_of(weight: i32) -> i32
     if weight > 0 { weight } else { 0 }
 }
 
-/// What a weight can take away.
+/// Returns the negated weight if it is negative, and 0 otherwise.
 fn loss_of(weight: i32) -> i32
     requires { IsSmall weight }
     ensures { result ≡ pos (loss weight) }
@@ -124,7 +125,7 @@ fn loss_of(weight: i32) -> i32
     if weight < 0 { -weight } else { 0 }
 }
 
-/// The rows of the states, in order.
+/// Returns the rows of the states, in order.
 fn state_rows(
     alloc: Global,
     diagrams: &mut Diagrams,
@@ -148,7 +149,7 @@ fn state_rows(
     Ok(nodes)
 }
 
-/// Whether each state's value compares with the bound.
+/// Returns for each state whether its value compares with the bound.
 fn flags(alloc: Global, rel: Rel, bound: i32, span: ValueRange) -> Result<Vec<bool>, AllocError>
     requires { IsSpan span }
     ensures flags { IfOk result (λ flags. AreFlagsOf rel bound span flags.items) }
@@ -161,7 +162,7 @@ fn flags(alloc: Global, rel: Rel, bound: i32, span: ValueRange) -> Result<Vec<bo
     Ok(flags)
 }
 
-/// Whether a sum compares with a bound.
+/// Returns whether a sum compares with a bound.
 fn compares(rel: Rel, sum: i32, bound: i32) -> bool
     ensures { IsTrue result ↔ Compares rel sum bound }
 {

@@ -1,4 +1,4 @@
-//! Which tuples of integers an automaton accepts.
+//! Membership of tuples of integers.
 ghost use Rattle.std.specs.Prelude.{◌≡◌, ◌↔◌, ◌≤◌, ◌<◌, ◌^◌, ℕ, List, All, length, IsTrue};
 ghost use Rattle.track_word.specs.Word.{letter_of, FitsBelow};
 ghost use Rattle.auto_core.specs.Automaton.{state_of, Accepts};
@@ -12,7 +12,8 @@ use track_word::laws::{
 };
 
 impl Auto {
-    /// Whether the words of these values, in the order of the tracks, are accepted.
+    /// Returns whether the tuple is accepted; `values` has one value for each track, in the order of the tracks. Reads a word of 64
+    /// letters.
     pub fn member(&self, values: &[i64]) -> bool
         requires count { length values.now ≡ length self.now.tracks }
         requires decides { DecidesIntegers self.now }
@@ -27,7 +28,7 @@ impl Auto {
         self.accept_of(state)
     }
 
-    /// The state that the word of 64 letters of these values leads to.
+    /// Returns the state reached by the word of 64 letters of these values.
     fn state_of_values(&self, values: &[i64]) -> u32
         requires { length values.now ≡ length self.now.tracks }
         ensures state { result ≡ state_of self.now (word_of values.now) }
@@ -43,7 +44,7 @@ impl Auto {
     }
 }
 
-/// The letter of the bits of one place.
+/// Returns the letter of the bits at a place.
 fn letter_at(values: &[i64], place: u8) -> u32
     requires few { length values.now ≤ MOST_TRACKS }
     requires place { place ≤ 63 }

@@ -6,7 +6,7 @@ ghost use Rattle.auto_core.specs.Automaton.{first_state, next_state, is_final, A
 use crate::auto::Auto;
 
 impl Auto {
-    /// The state after a sign letter.
+    /// Returns the state reached by a sign letter.
     pub fn first_of(&self, letter: u32) -> u32
         requires { letter < 2 ^ length self.now.tracks }
         ensures state { result ≡ first_state self.now letter }
@@ -15,7 +15,7 @@ impl Auto {
         self.diagrams().read(self.first_node(), letter)
     }
 
-    /// The state after a further letter.
+    /// Returns the state reached from a state by a further letter.
     pub fn next_of(&self, state: u32, letter: u32) -> u32
         requires known { state < length self.now.accept }
         requires letter { letter < 2 ^ length self.now.tracks }
@@ -25,7 +25,7 @@ impl Auto {
         self.diagrams().read(self.row_node(state), letter)
     }
 
-    /// Whether a word that leads to this state is accepted.
+    /// Returns the accept flag of a state.
     pub fn accept_of(&self, state: u32) -> bool
         requires { state < length self.now.accept }
         ensures { result ≡ is_final self.now state }
@@ -33,7 +33,7 @@ impl Auto {
         self.flags()[state as usize]
     }
 
-    /// Whether a word is accepted.
+    /// Returns whether a nonempty word is accepted. Costs one lookup for each letter.
     pub fn accepts(&self, word: &[u32]) -> bool
         requires { IsWord (length self.now.tracks) word.now }
         ensures { IsTrue result ↔ Accepts self.now word.now }

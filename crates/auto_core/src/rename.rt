@@ -14,9 +14,10 @@ use std::alloc::{AllocError, Global};
 use track_word::{Var, insert_tracks, places_of};
 
 impl Auto {
-    /// The automaton over the variables that accepts a word where this one accepts what its tracks read of it:
-    /// the t-th track takes its bit from `vars[t]`. Two tracks may be given the same variable;
-    /// where none are, nothing is left to reduce.
+    /// Returns the automaton over the variables `vars` that accepts a word if and only if this one accepts the word it reads: its
+    /// t-th track takes its bit from `vars[t]`.
+    /// Two tracks may take the same variable. If the variables are distinct, the result is minimal if this automaton is. Errors: an
+    /// allocation failed.
     pub fn rename(&self, alloc: Global, vars: &[Var]) -> Result<Auto, AllocError>
         requires { length vars.now ≡ length self.now.tracks }
         ensures tracks { IfOk result (λ r. r.tracks ≡ with_vars vars.now []) }
@@ -35,8 +36,7 @@ impl Auto {
         Ok(renamed)
     }
 
-    /// The nodes of the first row and of the states' rows, for letters whose bits at the places are read, and the diagrams that
-    /// they are nodes of.
+    /// Returns the nodes of the first row and of the states' rows, which read the bits of a letter at `places`, and their diagrams.
     fn nodes_over(&self, alloc: Global, places: &[u8]) -> Result<(Diagrams, Vec<Node>), AllocError>
         requires count { length places.now ≡ length self.now.tracks }
         requires places { All (λ place. place < MOST_TRACKS) places.now }
@@ -49,7 +49,7 @@ impl Auto {
         Ok((diagrams, rows))
     }
 
-    /// The automaton over the tracks whose letters this one reads by the bits at the places.
+    /// Returns the automaton over `tracks`, whose letters this one reads by the bits at `places`.
     fn over_tracks(
         &self,
         alloc: Global,

@@ -1,4 +1,4 @@
-//! Rows that lead a letter to the state of a sum.
+//! Rows that map a letter to the state of a sum.
 ghost use Rattle.std.specs.Prelude.{◌≡◌, ◌≤◌, ◌<◌, ◌+ℤ◌, ◌≤ℤ◌, pos, ℕ, length, All, IfOk, OnOk};
 ghost use Rattle.letter_diagram.specs.Diagram.{Grows};
 ghost use Rattle.auto_core.specs.Sums.{IsSmall, IsNear, IsSpan, StandsFor, IsSumRow, RemembersSums};
@@ -7,7 +7,8 @@ use letter_diagram::{Diagrams, Node};
 use std::alloc::AllocError;
 use std::collections::HashMap;
 
-/// The values that states stand for, in order; the lowest one also for all below, the highest one for all above.
+/// A range of values, in ascending order, one for each state. The lowest one also represents all lower values, the highest one all
+/// higher values.
 #[derive(Clone, Copy)]
 pub struct ValueRange {
     pub low: i32,
@@ -15,7 +16,7 @@ pub struct ValueRange {
 }
 
 impl ValueRange {
-    /// The number of states.
+    /// Returns the number of states.
     pub fn states(self) -> u32
         requires { IsSpan self }
         ensures { pos result +ℤ self.low ≡ self.high +ℤ pos 1 }
@@ -23,7 +24,7 @@ impl ValueRange {
         (self.high - self.low + 1) as u32
     }
 
-    /// The value that a state stands for.
+    /// Returns the value that a state represents.
     pub fn value_of(self, state: u32) -> i32
         requires span { IsSpan self }
         requires state { (self.low +ℤ pos state) ≤ℤ self.high }
@@ -32,7 +33,7 @@ impl ValueRange {
         self.low + state as i32
     }
 
-    /// Twice the value that a state stands for.
+    /// Returns twice the value that a state represents.
     pub fn doubled(self, state: u32) -> i32
         requires span { IsSpan self }
         requires state { (self.low +ℤ pos state) ≤ℤ self.high }
@@ -42,7 +43,7 @@ impl ValueRange {
         2 * self.value_of(state)
     }
 
-    /// The state that stands for a sum.
+    /// Returns the state that represents a sum.
     pub fn state_of(self, sum: i32) -> u32
         requires { IsSpan self }
         ensures { StandsFor self sum result }
@@ -57,8 +58,8 @@ impl ValueRange {
     }
 }
 
-/// The node of the map from a letter to the state of a sum and the weights of the letter's bits, by the tracks from `track` on.
-/// What was made for a track and a sum is remembered.
+/// Returns the node of the map from a letter to the state of `sum` plus the weights of the letter's bits, by the tracks from
+/// `track` on. Results are cached by track and sum.
 pub fn row(
     diagrams: &mut Diagrams,
     memo: &mut HashMap<(u8, i32), Node>,

@@ -7,7 +7,7 @@ ghost use Rattle.auto_core.specs.Sums.{ordered_terms, with_term, IsSmall};
 use std::alloc::{AllocError, Global};
 use track_word::Var;
 
-/// The terms, ascending by their variables.
+/// Returns the terms, ascending by their variables. Errors: an allocation failed.
 pub fn ordered(alloc: Global, terms: &[(i8, Var)]) -> Result<Vec<(i8, Var)>, AllocError>
     ensures { IfOk result (λ sorted. sorted.items ≡ ordered_terms terms.now) }
 {
@@ -22,7 +22,7 @@ pub fn ordered(alloc: Global, terms: &[(i8, Var)]) -> Result<Vec<(i8, Var)>, All
     }
 }
 
-/// The place of the first term whose variable comes after a variable.
+/// Returns the index of the first term whose variable follows a variable.
 fn place_of(terms: &[(i8, Var)], var: Var) -> usize
     ensures place { result ≡ position_or_len (λ t. nat_lt var.0 t.1.0) terms.now }
     ensures within { result ≤ length terms.now }
@@ -35,7 +35,7 @@ fn place_of(terms: &[(i8, Var)], var: Var) -> usize
     terms.len()
 }
 
-/// The variables of terms, in order.
+/// Returns the variables of terms, in order.
 pub fn variables(alloc: Global, terms: &[(i8, Var)]) -> Result<Vec<Var>, AllocError>
     ensures { IfOk result (λ vars. vars.items ≡ map (λ t. t.1) terms.now) }
 {
@@ -46,7 +46,7 @@ pub fn variables(alloc: Global, terms: &[(i8, Var)]) -> Result<Vec<Var>, AllocEr
     Ok(vars)
 }
 
-/// The coefficients of terms, in order.
+/// Returns the coefficients of terms, in order.
 pub fn coefficients(alloc: Global, terms: &[(i8, Var)]) -> Result<Vec<i32>, AllocError>
     ensures { IfOk result (λ weights. weights.items ≡ map (λ t. t.0) terms.now) }
 {
@@ -57,7 +57,7 @@ pub fn coefficients(alloc: Global, terms: &[(i8, Var)]) -> Result<Vec<i32>, Allo
     Ok(weights)
 }
 
-/// The weights of a sign letter's bits.
+/// Returns the negated weights, which are those of a sign letter's bits.
 pub fn negated(alloc: Global, weights: &[i32]) -> Result<Vec<i32>, AllocError>
     requires { All IsSmall weights.now }
     ensures { IfOk result (λ opposite. opposite.items ≡ map neg_ℤ weights.now) }

@@ -1,4 +1,4 @@
-//! Automata that decide whether a variable has a value.
+//! Automata that accept one value of a variable.
 ghost use Rattle.std.specs.Prelude.{◌≡◌, ◌≤◌, ◌<◌, ◌+ℤ◌, pos, ◌∷◌, [], length, IfOk};
 ghost use Rattle.std.specs.Int.{int_shr};
 ghost use Rattle.track_word.specs.Atom.{ValueHolds};
@@ -12,11 +12,12 @@ use std::alloc::{AllocError, Global};
 use track_word::Var;
 use track_word::laws::repeating_first_letter_keeps_values;
 
-/// The number of bits of a value, and the state from which it is not reached any more.
+/// The number of bits of a value, and the state from which the value can no longer be reached.
 const BITS: u32 = 64;
 
 impl Auto {
-    /// Decides `var = value`. A state stands for what has been read so far, where that is the value without some of its last bits.
+    /// Returns the automaton of `var = value`. It has 65 states: state k < 64 means that the value read so far is `value` without
+    /// its last k bits, and state 64 rejects. Errors: an allocation failed.
     pub fn value(alloc: Global, var: Var, value: i64) -> Result<Auto, AllocError>
         ensures tracks { IfOk result (λ a. a.tracks ≡ var ∷ []) }
         ensures words { IfOk result (AcceptsWhere (var ∷ []) (ValueHolds var value)) }
@@ -34,7 +35,7 @@ impl Auto {
     }
 }
 
-/// The flags: what has been read is accepted where it is the value without its last 0 bits.
+/// Returns the flags: state 0 alone accepts.
 fn first_flag(alloc: Global) -> Result<Vec<bool>, AllocError>
     ensures { IfOk result (λ flags. IsFirstFlag flags.items) }
 {
@@ -43,7 +44,7 @@ fn first_flag(alloc: Global) -> Result<Vec<bool>, AllocError>
     Ok(flags)
 }
 
-/// The rows of the states, one after another.
+/// Returns the rows of the states, one after another.
 fn prefix_rows(alloc: Global, value: i64) -> Result<Vec<u32>, AllocError>
     ensures { IfOk result (λ rows. AreAllPrefixRows value rows.items) }
 {
@@ -57,7 +58,7 @@ fn prefix_rows(alloc: Global, value: i64) -> Result<Vec<u32>, AllocError>
     Ok(rows)
 }
 
-/// The state after one more bit, where the value without its last `left` bits has been read.
+/// Returns the state after one more bit from the state `left`.
 fn state_after_bit(value: i64, left: u32, bit: u32) -> u32
     requires left { left < 64 }
     requires bit { bit < 2 }
@@ -67,7 +68,7 @@ fn state_after_bit(value: i64, left: u32, bit: u32) -> u32
     state_after(value, 2 * read + bit as i128)
 }
 
-/// The least number of last bits without which the value is what has been read, or 64 if there is none.
+/// Returns the least k such that the value read so far is `value` without its last k bits, or 64 if there is none.
 fn state_after(value: i64, read: i128) -> u32
     ensures { IsPrefixState value read result }
 {

@@ -1,10 +1,10 @@
--- The words that two automata have in common: over the tracks of both, each reads a word on its own tracks.
+-- The words that two automata have in common. Each reads its own tracks of a word over the tracks of both.
 use Rattle.std.specs.Prelude.{ℕ, List, length}
 use Rattle.track_word.specs.Word.{IsWord}
 use Rattle.track_word.specs.Tracks.{with_vars, part_of}
 use Rattle.auto_core.specs.Automaton.{Automaton, Accepts}
 
--- no word is accepted by both
+-- disjoint: no word is accepted by both
 abbrev pub AreApart : Automaton → Automaton → Type 0
 AreApart a b =
     (word : List ℕ) → IsWord (length (with_vars a.tracks b.tracks)) word

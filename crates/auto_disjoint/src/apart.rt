@@ -1,4 +1,4 @@
-//! The walk.
+//! The traversal.
 ghost use Rattle.std.specs.Prelude.{◌≡◌, ◌≤◌, ◌∷◌, [], length, true, false, IsTrue, IfOk, OnOk};
 ghost use Rattle.track_word.specs.Tracks.{with_vars};
 ghost use Rattle.letter_diagram.specs.Numbering.{PairsKept};
@@ -14,8 +14,9 @@ use letter_diagram::Node;
 use limits::MOST_TRACKS;
 use std::alloc::{AllocError, Global};
 
-/// Whether no word over the tracks of both is accepted by both, each word read on the argument's own tracks.
-/// Stops at the first pair of states to which a common word leads. Costs the pairs of nodes that are met.
+/// Returns whether no word over the tracks of both is accepted by both, each reading its own tracks.
+/// Stops at the first pair of accepting states that a common word reaches. Costs the pairs of nodes that are visited. Errors: an
+/// allocation failed.
 pub fn are_disjoint(alloc: Global, a: &Auto, b: &Auto) -> Result<bool, AllocError>
     requires tracks { length (with_vars a.now.tracks b.now.tracks) ≤ MOST_TRACKS }
     ensures apart { IfOk result (λ apart. IsTrue apart → AreApart a.now b.now) }
@@ -26,7 +27,7 @@ pub fn are_disjoint(alloc: Global, a: &Auto, b: &Auto) -> Result<bool, AllocErro
     Ok(apart)
 }
 
-/// Whether no pair of states to which both automata are led accepts on both sides.
+/// Returns whether no pair of states that a word reaches is accepting on both sides.
 fn walk(alloc: Global, meeting: &Meeting) -> Result<bool, AllocError>
     ensures apart { IfOk result (λ apart. IsTrue apart → AreApart meeting.now.left.now meeting.now.right.now) }
     ensures common { result ≡ Ok false → HaveCommonWord meeting.now.left.now meeting.now.right.now }
@@ -43,7 +44,7 @@ fn walk(alloc: Global, meeting: &Meeting) -> Result<bool, AllocError>
     Ok(true)
 }
 
-/// Visits two nodes: false where they lead a letter to states that both accept, and else the nodes to which they lead are met.
+/// Visits two nodes. Returns false if a letter leads to states that both accept; otherwise adds the pairs of nodes that follow.
 fn settle(
     meeting: &Meeting,
     met: &mut PairWorklist,
@@ -66,7 +67,8 @@ fn settle(
     }
 }
 
-/// Whether not both of two states accept; then the nodes of their rows are met, unless one of them rejects for good.
+/// Returns whether at most one of two states accepts. If so, adds the nodes of their rows, unless one of the states rejects every
+/// continuation.
 fn settle_states(
     meeting: &Meeting,
     met: &mut PairWorklist,

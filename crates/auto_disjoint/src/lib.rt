@@ -1,6 +1,6 @@
-//! Whether two automata have a word in common, by a walk over the pairs of nodes of their diagrams that makes no
-//! automaton and no node, and stops at the first pair of states to which a common word leads.
-//! `specs/Apart` says what two automata have in common, `specs/Meetings` what holds of the pairs of nodes that are met.
+//! Decides whether two automata accept a common word.
+//! A traversal of pairs of nodes of their diagrams builds no automaton and no node, and stops at the first pair of accepting states
+//! that a common word reaches. `specs/Apart` defines disjointness, and `specs/Meetings` the invariant of the traversal.
 #![tactic(auto)]
 
 mod apart;

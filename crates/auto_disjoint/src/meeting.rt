@@ -1,4 +1,4 @@
-//! Two automata, whose nodes are looked at side by side.
+//! Two automata, whose nodes are read together.
 ghost use Rattle.std.specs.Prelude.{◌≡◌, ◌≤◌, ◌<◌, ◌↔◌, ◌⊎◌, ◌∷◌, [], length, Some, IsTrue, IfOk};
 ghost use Rattle.track_word.specs.Tracks.{with_vars};
 ghost use Rattle.diagram_product.specs.Sided.{CanBePaired};
@@ -18,7 +18,7 @@ use limits::MOST_TRACKS;
 use std::alloc::{AllocError, Global};
 use track_word::Var;
 
-/// Two automata, whose nodes are read where they stand, over the tracks of both. A state that rejects for good is absorbing.
+/// Two automata, whose nodes are read in place over the tracks of both. A state that rejects every continuation is absorbing.
 #[derive(Drop)]
 pub(crate) struct Meeting<'a> {
     left: &'a Auto,
@@ -54,7 +54,7 @@ impl<'a> Meeting<'a> {
         })
     }
 
-    /// What two nodes look at first.
+    /// Returns what two nodes test first.
     pub(crate) fn look(&self, nodes: (Node, Node)) -> PairShape
         requires { CanBePaired self.now.sides self.now.none nodes.0 nodes.1 }
         ensures { IsPairShape self.now.sides self.now.none nodes.0 nodes.1 result }
@@ -62,7 +62,7 @@ impl<'a> Meeting<'a> {
         self.sides.look(&self.none, nodes.0, nodes.1)
     }
 
-    /// The nodes of the first rows.
+    /// Returns the nodes of the first rows.
     pub(crate) fn first(&self) -> (Node, Node)
         ensures left { IsRowNode self.now.left.now (first_state self.now.left.now) result.0 }
         ensures right { IsRowNode self.now.right.now (first_state self.now.right.now) result.1 }
@@ -70,7 +70,7 @@ impl<'a> Meeting<'a> {
         (self.left.first_node(), self.right.first_node())
     }
 
-    /// The nodes of the rows of two states.
+    /// Returns the nodes of the rows of two states.
     pub(crate) fn rows(&self, left: u32, right: u32) -> (Node, Node)
         requires left { left < length self.now.left.now.accept }
         requires right { right < length self.now.right.now.accept }
@@ -80,14 +80,14 @@ impl<'a> Meeting<'a> {
         (self.left.row_node(left), self.right.row_node(right))
     }
 
-    /// Whether one of two states rejects for good.
+    /// Returns whether one of two states rejects every continuation.
     pub(crate) fn rejects(&self, left: u32, right: u32) -> bool
         ensures { IsTrue result ↔ ((self.now.absorbing.left ≡ Some left) ⊎ (self.now.absorbing.right ≡ Some right)) }
     {
         self.absorbing.left == Some(left) || self.absorbing.right == Some(right)
     }
 
-    /// Whether two states both accept.
+    /// Returns whether both states accept.
     pub(crate) fn accept(&self, left: u32, right: u32) -> bool
         requires left { left < length self.now.left.now.accept }
         requires right { right < length self.now.right.now.accept }

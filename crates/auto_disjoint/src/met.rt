@@ -1,4 +1,4 @@
-//! Pairs of nodes in the order in which they are met.
+//! Pairs of nodes in the order of discovery.
 ghost use Rattle.std.specs.Prelude.{◌≡◌, ◌<◌, ◌^◌, [], List, ℕ, length, slice_get, OnOk};
 ghost use Rattle.auto_disjoint.specs.Met.{Adds};
 
@@ -7,7 +7,7 @@ use letter_diagram::Node;
 use std::alloc::{AllocError, Global};
 use std::marker::Model;
 
-/// Pairs of nodes, each once, in the order in which they were met: what is to be visited, and what was.
+/// Distinct pairs of nodes in the order of discovery: those already visited, and those still to be visited.
 #[derive(Drop)]
 pub(crate) struct PairWorklist {
     seen: IndexSet<(Node, Node)>,
@@ -20,7 +20,7 @@ impl Model for PairWorklist {
 }
 
 impl PairWorklist {
-    /// No pair.
+    /// Returns an empty worklist.
     pub(crate) fn new(alloc: Global) -> Self
         ensures { result ≡ [] }
     {
@@ -29,7 +29,7 @@ impl PairWorklist {
         }
     }
 
-    /// The pair that was met after so many others.
+    /// Returns the pair with a number, if there is one.
     pub(crate) fn get(&self, number: usize) -> Option<(Node, Node)>
         ensures pair { result ≡ slice_get self.now number }
         ensures small { length self.now < 2 ^ 63 }
@@ -38,7 +38,7 @@ impl PairWorklist {
         self.seen.get_index(number).copied()
     }
 
-    /// Meets a pair. One that was met stays where it is.
+    /// Appends a pair, unless it is in the worklist.
     pub(crate) fn add(&mut self, pair: (Node, Node)) -> Result<(), AllocError>
         ensures { OnOk result (Adds self.old self.new pair) }
     {

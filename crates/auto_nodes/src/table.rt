@@ -2,7 +2,7 @@
 
 use std::alloc::AllocError;
 
-/// A node: the least track that it looks at, by the track's place, and what it refers to where the bit of that track is 0 and where it is 1.
+/// A node: the index of the least track that it tests, and the references of its branches at the bits 0 and 1 of that track.
 #[derive(Clone, Copy, PartialEq, Eq)]
 pub struct RowNode {
     pub track: u8,
@@ -10,8 +10,8 @@ pub struct RowNode {
     pub high: u32,
 }
 
-/// The nodes that rows share, and the rows: the first row, and a row for each state. A reference below the number of states is that
-/// state, and the number of states plus `i` is the `i`-th node.
+/// The nodes that rows share, and the rows: a reference for the first row, and one for each state. A reference below the number of
+/// states names that state; the number of states plus `i` names the `i`-th node.
 pub struct NodeTable {
     pub nodes: Vec<RowNode>,
     pub first: u32,
@@ -19,7 +19,7 @@ pub struct NodeTable {
 }
 
 impl Drop for NodeTable {
-    /// Lets the lists go. Written out, so that a body that lets a table go has a call here in place of its fields' drops.
+    /// Drops the lists. Written by hand, so that a function that drops a table calls this instead of dropping each field.
     fn drop(self) {
         let NodeTable {
             nodes: _,

@@ -1,4 +1,4 @@
--- The states to which an automaton is led by letters and words that read alike on some of its tracks.
+-- The states that an automaton reaches by letters and words with a given restriction to some of its tracks.
 use Rattle.std.specs.Prelude.{◌≡◌, ◌↔◌, ℕ, ◌+◌, ◌^◌, ◌<◌, List, length, All, AllPairs}
 use Rattle.track_word.specs.declared.tracks.Var.{Var}
 use Rattle.track_word.specs.Word.{IsWord}
@@ -6,30 +6,30 @@ use Rattle.track_word.specs.Tracks.{restrict}
 use Rattle.auto_core.specs.Automaton.{Automaton, first_state, next_state, state_of, Accepts}
 use Rattle.auto_core.specs.Spread.{IsLift, ExSpreadExceeds}
 
--- a letter over all tracks that is the other letter on some of them
+-- a letter over all tracks whose restriction to some of them is the other letter
 pub record ReadsAs (all some : List Var) (letter longer : ℕ) : Type 0 where
   pub below : longer < 2 ^ length all
   pub reads : restrict all some longer ≡ letter
 
--- a sign letter that reads as this one leads to the state
+-- a sign letter with this restriction leads to the state
 pub record Begins (a : Automaton) (some : List Var) (letter state : ℕ) : Type 0 where
   pub longer : ℕ
   pub is : ReadsAs a.tracks some letter longer
   pub leads : first_state a longer ≡ state
 
--- a further letter that reads as this one leads from the one state to the other
+-- a further letter with this restriction leads from the first state to the second
 pub record Follows (a : Automaton) (some : List Var) (from letter state : ℕ) : Type 0 where
   pub longer : ℕ
   pub is : ReadsAs a.tracks some letter longer
   pub leads : next_state a from longer ≡ state
 
--- a lift of the word leads to the state
+-- a lift of the word reaches the state
 pub record LiftLeads (a : Automaton) (some : List Var) (word : List ℕ) (state : ℕ) : Type 0 where
   pub lift : List ℕ
   pub is : IsLift some a.tracks word lift
   pub leads : state_of a lift ≡ state
 
--- one word more than the budget, no two of which have lifts that lead to the same states
+-- budget + 1 words, the lifts of each two of which reach different sets of states
 pub record MoreSets (a : Automaton) (some : List Var) (budget : ℕ) : Type 0 where
   pub words : List (List ℕ)
   pub count : length words ≡ budget + 1
@@ -42,6 +42,6 @@ AcceptsLifted a m =
     (word : List ℕ) → IsWord (length m.tracks) word
     → Accepts m word ↔ ((lift : List ℕ) × IsLift m.tracks a.tracks word lift × Accepts a lift)
 
--- forgetting the variable has to tell apart more words than the budget
+-- the projection of the variable needs more states than the budget
 abbrev pub ForgettingExceeds : Var → Automaton → ℕ → Type 0
 ForgettingExceeds var a budget = ExSpreadExceeds var a.tracks (Accepts a) budget

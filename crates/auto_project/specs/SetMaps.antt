@@ -1,4 +1,4 @@
--- Nodes whose maps lead letters to the numbers of sets of states.
+-- Nodes that map letters to the numbers of sets of states.
 use Rattle.std.specs.Prelude.{◌≡◌, ◌≢◌, ◌↔◌, ℕ, ◌^◌, ◌<◌, ◌≤◌, List, [], ◌∷◌, Some, length, slice_get, slice_index, All, Contains}
 use Rattle.std.specs.Int.{bit_at}
 use Rattle.std.specs.List.Sorted.{IsStrictlyIncreasing}
@@ -16,7 +16,7 @@ use Rattle.auto_project.specs.Subsets.{next_set}
 use Rattle.auto_project.specs.declared.closure.TrackRows.{TrackRows}
 use Rattle.auto_project.specs.declared.rows.SetRows.{SetRows}
 
--- each number below a bound is that of the set that has it alone
+-- each number below a bound is that of the set of this number alone
 pub record AreSingletons (sets : List (List ℕ)) (count : ℕ) : Type 0 where
   pub enough : count ≤ length sets
   pub single : (number : ℕ) → number < count → slice_get sets number ≡ Some (number ∷ [])
@@ -25,16 +25,16 @@ pub record AreSingletons (sets : List (List ℕ)) (count : ℕ) : Type 0 where
 abbrev pub set_of : List Shape → List (List ℕ) → ℕ → ℕ → List ℕ
 set_of shapes sets node letter = set_at sets (map_at shapes node letter)
 
--- letters that agree on so many tracks have sets with the same states
+-- letters that agree on this many tracks have sets with the same states
 pub record IsNarrow (shapes : List Shape) (sets : List (List ℕ)) (tracks node : ℕ) : Type 0 where
   pub same : (x y state : ℕ) → ((k : ℕ) → k < tracks → bit_at x k ≡ bit_at y k)
       → Contains (set_of shapes sets node x) state → Contains (set_of shapes sets node y) state
 
--- each letter over so many tracks is led to a set with some state
+-- each letter over this many tracks has a nonempty set
 abbrev pub HasSomeStates : List Shape → List (List ℕ) → ℕ → ℕ → Type 0
 HasSomeStates shapes sets tracks node = (letter : ℕ) → letter < 2 ^ tracks → set_of shapes sets node letter ≢ []
 
--- the node's map leads each letter over so many tracks to the set of the states for which this holds
+-- the node maps each letter over this many tracks to the set of the states with the property
 pub record IsSetRow (shapes : List Shape) (sets : List (List ℕ)) (tracks node : ℕ) (Holds : ℕ → ℕ → Type 0) : Type
     0 where
   pub is : HasSets shapes sets node
@@ -42,21 +42,21 @@ pub record IsSetRow (shapes : List Shape) (sets : List (List ℕ)) (tracks node 
   pub members : (letter state : ℕ) → letter < 2 ^ tracks
       → Contains (set_of shapes sets node letter) state ↔ Holds letter state
 
--- a node for each state, which leads each letter over some tracks to the set of the states that follow
+-- a node for each state, which maps each letter over some tracks to the set of the states that follow
 pub record AreSetRows (shapes : List Shape) (sets : List (List ℕ)) (a : Automaton) (some : List Var)
     (rows : List ℕ) : Type 0 where
   pub size : length rows ≡ length a.accept
   pub each : (state node : ℕ) → slice_get rows state ≡ Some node
       → IsSetRow shapes sets (length some) node (Follows a some state)
 
--- the rows of an automaton over some of its tracks, from the states to which a sign letter leads
+-- the rows of an automaton over some of its tracks, from the states that a sign letter reaches
 pub record HasSetRows (shapes : List Shape) (sets : List (List ℕ)) (a : Automaton) (some : List Var) (first : ℕ)
     (rows : List ℕ) : Type 0 where
   pub valid : IsAutomaton a
   pub first_row : IsSetRow shapes sets (length some) first (Begins a some)
   pub state_rows : AreSetRows shapes sets a some rows
 
--- the same, from the states to which the lifts of a sign letter lead
+-- the same, from the states that the lifts of a sign letter reach
 pub record HasClosedRows (shapes : List Shape) (sets : List (List ℕ)) (a : Automaton) (some : List Var) (first : ℕ)
     (rows : List ℕ) : Type 0 where
   pub valid : IsAutomaton a
@@ -64,7 +64,7 @@ pub record HasClosedRows (shapes : List Shape) (sets : List (List ℕ)) (a : Aut
   pub first_row : IsSetRow shapes sets (length some) first (λ letter state. LiftLeads a some (letter ∷ []) state)
   pub state_rows : AreSetRows shapes sets a some rows
 
--- the rows of the walk over sets of states: each state's row leads to the sets that follow on that state alone
+-- the rows of the walk over sets of states: each state's row maps to the sets of the states that follow it
 pub record HasPlaceRows (shapes : List Shape) (sets : List (List ℕ)) (a : Automaton) (some : List Var) (first : ℕ)
     (rows : List ℕ) : Type 0 where
   pub valid : IsAutomaton a
@@ -92,18 +92,18 @@ pub record AreWideRows (shapes : List Shape) (a : Automaton) (some : List Var) (
   pub size : length rows ≡ length a.accept
   pub each : (state node : ℕ) → slice_get rows state ≡ Some node → IsWideRow shapes a some node (next_state a state)
 
--- each row is that of the unions of what its node gives with either bit of the track
+-- each row is that of the unions of what its node gives at both bits of the track
 abbrev pub AreMergedAt : ℕ → MergerTables → List ℕ → List ℕ → Type 0
 AreMergedAt track merger nodes rows = EachAnswers (IsMerged merger.shapes merger.sets track) nodes rows
 
--- the rows of an automaton by the letters over all tracks
+-- the rows of an automaton by letters over all tracks
 pub record HasWideRows (shapes : List Shape) (a : Automaton) (some : List Var) (first : ℕ) (rows : List ℕ) : Type
     0 where
   pub valid : IsAutomaton a
   pub first_row : IsWideRow shapes a some first (first_state a)
   pub state_rows : AreWideRows shapes a some rows
 
--- the node's sets have some states, to each of which a lift of the letter leads
+-- the node's sets are nonempty, and a lift of the letter reaches each of their states
 pub record IsLedRow (shapes : List Shape) (sets : List (List ℕ)) (a : Automaton) (some : List Var) (node : ℕ) : Type
     0 where
   pub is : HasSets shapes sets node
@@ -112,14 +112,14 @@ pub record IsLedRow (shapes : List Shape) (sets : List (List ℕ)) (a : Automato
   pub led : (letter state : ℕ) → letter < 2 ^ length some → Contains (set_of shapes sets node letter) state
       → LiftLeads a some (letter ∷ []) state
 
--- the node's sets have just what the sets of some nodes have
+-- the node's sets are the unions of the sets of several nodes
 pub record IsUnionOf (shapes : List Shape) (sets : List (List ℕ)) (nodes : List ℕ) (node : ℕ) : Type 0 where
   pub is : HasSets shapes sets node
   pub members : (letter state : ℕ)
       → Contains (set_of shapes sets node letter) state
       ↔ ((one : ℕ) × Contains nodes one × Contains (set_of shapes sets one letter) state)
 
--- the swept node's sets have what the node's sets have, and what the rows of their states give
+-- the swept node's sets are the node's sets with what the rows of their states give
 pub record IsSwept (shapes : List Shape) (sets : List (List ℕ)) (rows : List ℕ) (node swept : ℕ) : Type 0 where
   pub is : HasSets shapes sets node
   pub wider : (letter state : ℕ) → Contains (set_of shapes sets node letter) state
@@ -128,20 +128,20 @@ pub record IsSwept (shapes : List Shape) (sets : List (List ℕ)) (rows : List �
       → Contains (set_of shapes sets node letter) from → Contains (set_of shapes sets row letter) state
       → Contains (set_of shapes sets swept letter) state
 
--- the node's sets have just what the sets of the rows of some states have
+-- the node's sets are the unions of the sets of the rows of several states
 pub record IsUnionRow (shapes : List Shape) (sets : List (List ℕ)) (rows set : List ℕ) (node : ℕ) : Type 0 where
   pub is : HasSets shapes sets node
   pub members : (letter state : ℕ)
       → Contains (set_of shapes sets node letter) state
       ↔ ((from : ℕ) × Contains set from × Contains (set_of shapes sets (slice_index rows from) letter) state)
 
--- each of the node's sets has some states, all of them below a count
+-- each of the node's sets is nonempty and contains only states below a count
 pub record HasStates (shapes : List Shape) (sets : List (List ℕ)) (count node : ℕ) : Type 0 where
   pub is : HasSets shapes sets node
   pub nonempty : (letter : ℕ) → set_of shapes sets node letter ≢ []
   pub within : (letter state : ℕ) → Contains (set_of shapes sets node letter) state → state < count
 
--- a table that has, at the number of each set that the node gives, the row of the states of that set
+-- a table that has, at the number of each set that the node gives, the row of that set
 pub record HasUnionRows (shapes : List Shape) (sets : List (List ℕ)) (rows : List ℕ) (node : ℕ) (table : List ℕ) : Type
     0 where
   pub known : All (λ row. row < length shapes) table
@@ -149,7 +149,7 @@ pub record HasUnionRows (shapes : List Shape) (sets : List (List ℕ)) (rows : L
   pub union : (letter : ℕ)
       → IsUnionRow shapes sets rows (set_of shapes sets node letter) (slice_index table (map_at shapes node letter))
 
--- ---- the same of nodes of a merger and of its sets
+-- ---- the same for nodes of a merger and its sets
 
 -- the rows of an automaton over some of its tracks
 abbrev pub HasSetRowsOf : Automaton → List Var → SetRows → Type 0
@@ -159,38 +159,38 @@ HasSetRowsOf a some made = HasSetRows made.merger.shapes made.merger.sets a some
 abbrev pub AreRowsIn : MergerTables → TrackRows → Type 0
 AreRowsIn merger rows = AreSetRows merger.shapes merger.sets rows.automaton.now rows.tracks.items rows.nodes.items
 
--- the node leads each letter to the set of the states to which sign letters lead that read as it
+-- the node maps each letter to the set of the states that sign letters with this restriction reach
 abbrev pub IsSignRowIn : MergerTables → TrackRows → ℕ → Type 0
 IsSignRowIn merger rows node =
     IsSetRow merger.shapes merger.sets (length rows.tracks.items) node (Begins rows.automaton.now rows.tracks.items)
 
--- the node leads each letter to the set of the states to which its lifts lead
+-- the node maps each letter to the set of the states that its lifts reach
 abbrev pub IsLiftRowIn : MergerTables → TrackRows → ℕ → Type 0
 IsLiftRowIn merger rows node =
     IsSetRow merger.shapes merger.sets (length rows.tracks.items) node
     (λ letter state. LiftLeads rows.automaton.now rows.tracks.items (letter ∷ []) state)
 
--- the node leads each letter to a set of states to which its lifts lead
+-- the node maps each letter to a set of states that its lifts reach
 abbrev pub IsLedRowIn : MergerTables → TrackRows → ℕ → Type 0
 IsLedRowIn merger rows node = IsLedRow merger.shapes merger.sets rows.automaton.now rows.tracks.items node
 
--- each letter is led to a set with some state
+-- each letter has a nonempty set
 abbrev pub HasSomeStatesIn : MergerTables → TrackRows → ℕ → Type 0
 HasSomeStatesIn merger rows node = HasSomeStates merger.shapes merger.sets (length rows.tracks.items) node
 
--- each of the node's sets has some states, all of which have rows
+-- each of the node's sets is nonempty, and all its states have rows
 abbrev pub HasStatesIn : MergerTables → TrackRows → ℕ → Type 0
 HasStatesIn merger rows node = HasStates merger.shapes merger.sets (length rows.nodes.items) node
 
--- a table that has, at the number of each set that the node gives, the row of the states of that set
+-- a table that has, at the number of each set that the node gives, the row of that set
 abbrev pub HasUnionRowsIn : MergerTables → TrackRows → ℕ → List ℕ → Type 0
 HasUnionRowsIn merger rows node table = HasUnionRows merger.shapes merger.sets rows.nodes.items node table
 
--- the swept node's sets have what the node's sets have, and what the rows of their states give
+-- the swept node's sets are the node's sets with what the rows of their states give
 abbrev pub IsSweptIn : MergerTables → TrackRows → ℕ → ℕ → Type 0
 IsSweptIn merger rows node swept = IsSwept merger.shapes merger.sets rows.nodes.items node swept
 
--- the rows with the first one closed: it leads each sign letter to the states to which its lifts lead
+-- the rows with the first one closed: it maps each sign letter to the states that its lifts reach
 abbrev pub HasClosedRowsIn : MergerTables → TrackRows → ℕ → Type 0
 HasClosedRowsIn merger rows first =
     HasClosedRows merger.shapes merger.sets rows.automaton.now rows.tracks.items first rows.nodes.items
@@ -200,6 +200,6 @@ abbrev pub HasPlaceRowsIn : MergerTables → TrackRows → ℕ → Type 0
 HasPlaceRowsIn merger rows first =
     HasPlaceRows merger.shapes merger.sets rows.automaton.now rows.tracks.items first rows.nodes.items
 
--- the node's sets have just what the sets of the rows of some states have
+-- the node's sets are the unions of the sets of the rows of several states
 abbrev pub IsUnionRowIn : MergerTables → List ℕ → List ℕ → ℕ → Type 0
 IsUnionRowIn merger rows set node = IsUnionRow merger.shapes merger.sets rows set node

@@ -1,4 +1,4 @@
-//! The first row, closed over repeated first letters.
+//! The first row, closed under sign extension.
 ghost use Rattle.std.specs.Prelude.{◌≡◌, ◌<◌, ◌≢◌, [], ℕ, length, All, IfOk, OnOk};
 ghost use Rattle.std.specs.List.Sorted.{IsStrictlyIncreasing};
 ghost use Rattle.letter_diagram.specs.Diagram.{Grows};
@@ -23,7 +23,7 @@ pub struct TrackRows<'a> {
 }
 
 impl<'a> TrackRows<'a> {
-    /// The node that leads each letter to the set of the states to which the states of a numbered set lead.
+    /// Returns the node that maps each letter to the set of the states that follow the states of a numbered set.
     fn row_of_set(&self, merger: &mut Merger, number: u32) -> Result<Node, AllocError>
         requires rows { All (HasSets merger.old.shapes merger.old.sets) self.now.nodes.items }
         requires known { number < length merger.old.sets }
@@ -38,7 +38,7 @@ impl<'a> TrackRows<'a> {
         Ok(row)
     }
 
-    /// At the number of each set that the node gives, the row of that set. Other entries are not read.
+    /// Returns a table that has, at the number of each set that the node gives, the row of that set. Other entries are unused.
     fn rows_of_sets(&self, merger: &mut Merger, node: Node) -> Result<Vec<Node>, AllocError>
         requires rows { All (HasSets merger.old.shapes merger.old.sets) self.now.nodes.items }
         requires states { HasStatesIn merger.old self.now node }
@@ -55,7 +55,7 @@ impl<'a> TrackRows<'a> {
         Ok(table)
     }
 
-    /// The node whose sets have besides what follows on one of their states by the same letter.
+    /// Returns the node whose sets also contain what follows their states by the same letter.
     fn swept(&self, merger: &mut Merger, node: Node) -> Result<Node, AllocError>
         requires valid { IsAutomaton self.now.automaton.now }
         requires rows { AreRowsIn merger.old self.now }
@@ -73,8 +73,8 @@ impl<'a> TrackRows<'a> {
         Ok(next)
     }
 
-    /// The first row closed over repeated first letters. Each round adds a state at least to each set that is not closed yet, so there
-    /// are at most as many rounds as states.
+    /// Returns the first row closed under repeated first letters. Each round adds at least one state to each set that is not
+    /// closed, so there are at most as many rounds as states.
     pub fn closed(&self, merger: &mut Merger, first: Node) -> Result<Node, AllocError>
         requires valid { IsAutomaton self.now.automaton.now }
         requires first { IsSignRowIn merger.old self.now first }

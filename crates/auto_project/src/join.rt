@@ -1,4 +1,4 @@
-//! United sets, letter by letter.
+//! Unions of sets, letter by letter.
 ghost use Rattle.std.specs.Prelude.{◌≡◌, ◌≢◌, ◌<◌, [], length, map, slice_index, All, IfOk};
 ghost use Rattle.letter_diagram.specs.Diagram.{Grows};
 ghost use Rattle.letter_diagram.specs.Sets.{SetsKept};
@@ -8,7 +8,7 @@ ghost use Rattle.auto_project.specs.SetMaps.{IsUnionOf, IsUnionRowIn};
 use letter_diagram::{Diagrams, Merger, Node, Sets};
 use std::alloc::{AllocError, Global};
 
-/// A merger to unite nodes alone. It must have a track, and any will do: no node is merged at it.
+/// Returns a merger for unions only. Its track is arbitrary, since no node is merged at it.
 pub fn uniter(diagrams: Diagrams, sets: Sets) -> Merger
     ensures shapes { result.shapes ≡ diagrams }
     ensures sets { result.sets ≡ sets }
@@ -16,8 +16,8 @@ pub fn uniter(diagrams: Diagrams, sets: Sets) -> Merger
     Merger::new(diagrams, sets, 0)
 }
 
-/// The node that leads each letter to what the sets of both nodes have together. Refused as want of memory where there are
-/// 2^31 sets already.
+/// Returns the node that maps each letter to the union of the sets of both nodes. Errors: an allocation failed, or there are 2^31
+/// sets.
 pub fn unite(merger: &mut Merger, a: Node, b: Node) -> Result<Node, AllocError>
     requires a_sets { HasSets merger.old.shapes merger.old.sets a }
     requires b_sets { HasSets merger.old.shapes merger.old.sets b }
@@ -32,8 +32,8 @@ pub fn unite(merger: &mut Merger, a: Node, b: Node) -> Result<Node, AllocError>
     Ok(node)
 }
 
-/// The node that leads each letter to what the sets of some nodes have together. They are united in halves, so that each set is
-/// read as often as halves are made at most.
+/// Returns the node that maps each letter to the union of the sets of several nodes. Unites them in halves, so that each set is
+/// read at most as often as the list is halved.
 pub fn united(merger: &mut Merger, nodes: &[Node]) -> Result<Node, AllocError>
     requires some { nodes.now ≢ [] }
     requires sets { All (HasSets merger.old.shapes merger.old.sets) nodes.now }
@@ -51,7 +51,7 @@ pub fn united(merger: &mut Merger, nodes: &[Node]) -> Result<Node, AllocError>
     Ok(node)
 }
 
-/// The rows of some states.
+/// Returns the rows of several states.
 fn rows_of(alloc: Global, rows: &[Node], set: &[u32]) -> Result<Vec<Node>, AllocError>
     requires { All (λ state. state < length rows.now) set.now }
     ensures { IfOk result (λ picked. picked.items ≡ map (slice_index rows.now) set.now) }
@@ -63,7 +63,7 @@ fn rows_of(alloc: Global, rows: &[Node], set: &[u32]) -> Result<Vec<Node>, Alloc
     Ok(picked)
 }
 
-/// The node that leads each letter to the states to which the states of a set lead.
+/// Returns the node that maps each letter to the set of the states that follow the states of a set.
 pub fn united_rows(merger: &mut Merger, rows: &[Node], set: &[u32]) -> Result<Node, AllocError>
     requires some { set.now ≢ [] }
     requires rows { All (HasSets merger.old.shapes merger.old.sets) rows.now }

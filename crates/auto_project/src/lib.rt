@@ -1,7 +1,9 @@
-//! Projection of automata: some integer of any size. A word is accepted where some lift of it is, a word over one track more which,
-//! without that track, is the word with its first letter repeated.
-//! `specs/Lifted` says where lifts lead, `specs/Subsets` which sets of states a walk goes over, `specs/SetMaps` what their rows are, `specs/Placed` how
-//! rows lead to sets that are numbered.
+//! Computes projections: existential quantification of one integer of any size.
+//! The result accepts a word if and only if the operand accepts a lift of it: a word with one more track that, without this track,
+//! is the word with its first letter repeated. States are sets of states (subset construction, Rabin and Scott 1959), and the first
+//! row is closed under sign extension.
+//! `specs/Lifted` defines the states that lifts reach, `specs/Subsets` the walk over sets, `specs/SetMaps` its rows, and
+//! `specs/Placed` how rows map to numbered sets.
 #![tactic(auto)]
 
 mod closure;

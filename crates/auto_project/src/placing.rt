@@ -1,4 +1,4 @@
-//! Sets that are numbered as places, and the rows that lead to them.
+//! Sets numbered as places, and the rows that map to them.
 ghost use Rattle.std.specs.Prelude.{◌≡◌, ◌≢◌, ◌<◌, [], ℕ, None, length, AllPairs, IfOk, OnOk};
 ghost use Rattle.letter_diagram.specs.Diagram.{Grows, top_track};
 ghost use Rattle.letter_diagram.specs.Sets.{SetsKept, set_at};
@@ -11,8 +11,8 @@ use letter_diagram::{Diagrams, Merger, Node, NodeMemo, Sets, Shape};
 use limits::MOST_TRACKS;
 use std::alloc::{AllocError, Global};
 
-/// The sets that are numbered as places, and nodes whose maps lead letters to places. Nodes of a merger are led to them, each once:
-/// what was led stays right while the merger and the places grow.
+/// The subset construction's numbering: sets numbered as places, and nodes that map letters to places. Each node of a merger is
+/// converted once; results stay valid while the merger and the numbering grow.
 #[derive(Drop)]
 pub struct SetNumbering {
     pub sets: Sets,
@@ -21,7 +21,7 @@ pub struct SetNumbering {
 }
 
 impl SetNumbering {
-    /// No place, and no row.
+    /// Returns an empty numbering.
     pub fn new(alloc: Global) -> Result<Self, AllocError>
         ensures fresh { IfOk result (λ places. places.sets ≡ []) }
         ensures none { IfOk result (λ places. (node : ℕ) → answer_of places.placed node ≡ None) }
@@ -33,14 +33,14 @@ impl SetNumbering {
         })
     }
 
-    /// The diagrams that the rows are nodes of.
+    /// Returns the diagrams whose nodes are the rows.
     pub fn into_rows(self) -> Diagrams
         ensures { result ≡ self.rows }
     {
         self.rows
     }
 
-    /// The node that leads each letter to the place of the set of a number.
+    /// Returns the node that maps each letter to the place of one numbered set.
     fn leaf(&mut self, sets: &Sets, number: u32) -> Result<Node, AllocError>
         requires { number < length sets.now }
         ensures known { IfOk result (λ row. row < length self.new.rows) }
@@ -62,7 +62,7 @@ impl SetNumbering {
         }
     }
 
-    /// `row`, where there is room for what is remembered.
+    /// Computes `row` if the cache has room for the node.
     fn led(&mut self, merger: &Merger, node: Node) -> Result<Node, AllocError>
         requires node { HasSets merger.now.shapes merger.now.sets node }
         requires remembered { RemembersRows merger.now self.old }
@@ -87,8 +87,8 @@ impl SetNumbering {
         Ok(row)
     }
 
-    /// The node that leads each letter to the place of the set to which `node` leads it. New places are numbered. Nodes that were led
-    /// before are not visited again.
+    /// Returns the node that maps each letter to the place of the set that `node` gives. Numbers new places. Nodes that were
+    /// converted before are not visited again. Errors: an allocation failed.
     pub fn row(&mut self, merger: &Merger, node: Node) -> Result<Node, AllocError>
         requires node { HasSets merger.now.shapes merger.now.sets node }
         requires remembered { RemembersRows merger.now self.old }

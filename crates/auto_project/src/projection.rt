@@ -11,8 +11,8 @@ use limits::Budget;
 use std::alloc::Global;
 use track_word::Var;
 
-/// The automaton over the sets of states to which the lifts of words lead, or `Over` where they are more than the budget. Words
-/// that lead to one set have lifts with the same residuals; in a reduced automaton words that lead to different sets have not.
+/// Returns the automaton over the sets of states that lifts of words reach, or `Over` if they are more than the budget. Words that
+/// reach one set have lifts with the same residuals; in a minimal automaton words that reach different sets do not.
 fn projected(alloc: Global, a: &Auto, var: Var, budget: Budget) -> Result<Auto, Grown>
     ensures tracks { IfOk result (λ m. m.tracks ≡ without_var var a.now.tracks) }
     ensures words { IfOk result (AcceptsLifted a.now) }
@@ -26,10 +26,10 @@ fn projected(alloc: Global, a: &Auto, var: Var, budget: Budget) -> Result<Auto, 
     explored(alloc, subsets, budget)
 }
 
-/// The automaton of the words that are accepted with some bits on the track of `var`, where their first letter may be repeated
-/// (a value may need more letters than the word has). A variable that is no track is allowed.
-/// Its states are the sets of states to which the lifts of words lead (Rabin and Scott 1959); some of them may accept the same
-/// suffixes. `Over` where they are more than the budget.
+/// Projects away a variable: returns the automaton of the words that are accepted with some bits on the track of `var`, after any
+/// number of repetitions of their first letter (a value may need more letters than the word has). `var` need not be a track.
+/// Its states are the sets of states that lifts reach (Rabin and Scott 1959); it need not be minimal. Errors: `Over` if they are
+/// more than the budget, which for a minimal automaton means that the step needs more states; `Memory` if an allocation fails.
 pub fn forget(alloc: Global, a: &Auto, var: Var, budget: Budget) -> Result<Auto, Grown>
     requires reduced { IsReduced a.now }
     ensures tracks { IfOk result (λ m. m.tracks ≡ without_var var a.now.tracks) }
@@ -41,9 +41,8 @@ pub fn forget(alloc: Global, a: &Auto, var: Var, budget: Budget) -> Result<Auto,
     Ok(forgotten)
 }
 
-/// `forget` of any automaton, reduced or not, that is within the budget where the sets of states to which the lifts of words lead
-/// are. `Over` where they are more, which says nothing of how many words the step has to tell apart: of the reduced automaton for
-/// the same words `forget` may still be within.
+/// Projects any automaton, minimal or not, as `forget` does. Errors: `Over` if lifts reach more sets of states than the budget; the
+/// step may still need fewer states on the minimal automaton of the same words.
 pub fn forget_within(alloc: Global, a: &Auto, var: Var, budget: Budget) -> Result<Auto, Grown>
     ensures tracks { IfOk result (λ m. m.tracks ≡ without_var var a.now.tracks) }
     ensures words { IfOk result (AcceptsLifted a.now) }

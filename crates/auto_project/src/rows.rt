@@ -1,4 +1,4 @@
-//! The rows of an automaton over the tracks that are left, as maps to sets of states.
+//! The rows of an automaton over the remaining tracks, as maps to sets of states.
 ghost use Rattle.std.specs.Prelude.{◌≡◌, ◌<◌, ◌≤◌, length, map, All, IfOk};
 ghost use Rattle.track_word.specs.Tracks.{without_var, place};
 ghost use Rattle.letter_diagram.specs.Diagram.{Grows};
@@ -14,7 +14,7 @@ use limits::MOST_TRACKS;
 use std::alloc::{AllocError, Global};
 use track_word::{Var, places_of};
 
-/// Nodes that lead letters to states: the first row, and a row for each state.
+/// Nodes that map letters to states: the first row, and a row for each state.
 #[derive(Drop)]
 pub struct StateRows {
     pub diagrams: Diagrams,
@@ -22,7 +22,7 @@ pub struct StateRows {
     pub rows: Vec<Node>,
 }
 
-/// Nodes that lead letters to numbers of sets of states: the first row, and a row for each state.
+/// Nodes that map letters to numbers of sets of states: the first row, and a row for each state.
 #[derive(Drop)]
 pub struct SetRows {
     pub merger: Merger,
@@ -30,7 +30,7 @@ pub struct SetRows {
     pub rows: Vec<Node>,
 }
 
-/// The rows over the tracks that are left, and after them the lost one.
+/// Returns the rows with the tracks reordered: the remaining tracks, followed by the projected one.
 fn wide_rows(alloc: Global, a: &Auto, tracks: &[Var]) -> Result<StateRows, AllocError>
     requires few { length tracks.now ≤ MOST_TRACKS }
     requires fit { All (λ place. place < MOST_TRACKS) (map (place tracks.now) a.now.tracks) }
@@ -48,7 +48,7 @@ fn wide_rows(alloc: Global, a: &Auto, tracks: &[Var]) -> Result<StateRows, Alloc
     })
 }
 
-/// The node of the unions over both bits of the merger's track.
+/// Returns the node of the unions over both bits of the merger's track.
 fn merged_row(merger: &mut Merger, node: Node) -> Result<Node, AllocError>
     requires { HasSets merger.old.shapes merger.old.sets node }
     ensures merged { IfOk result (λ row. IsMerged merger.new.shapes merger.new.sets merger.old.track node row) }
@@ -78,7 +78,7 @@ fn merged_rows(alloc: Global, merger: &mut Merger, nodes: &[Node]) -> Result<Vec
     Ok(rows)
 }
 
-/// TrackRows that do not look at a track: the unions over both its bits.
+/// Returns rows that do not depend on a track: the unions over both its bits.
 fn without_track(
     alloc: Global,
     wide: StateRows,
@@ -108,7 +108,8 @@ fn without_track(
     })
 }
 
-/// The rows over the tracks that are left, as maps to the sets of the states to which the letters lead that read alike.
+/// Returns the rows over the remaining tracks: each letter is mapped to the set of the states that follow by the letters that
+/// restrict to it.
 pub fn set_rows(alloc: Global, a: &Auto, var: Var, tracks: &[Var]) -> Result<SetRows, AllocError>
     requires { tracks.now ≡ without_var var a.now.tracks }
     ensures { IfOk result (HasSetRowsOf a.now tracks.now) }

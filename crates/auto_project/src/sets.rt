@@ -7,7 +7,7 @@ ghost use Rattle.auto_project.specs.SetMaps.{AreSingletons};
 use letter_diagram::Sets;
 use std::alloc::{AllocError, Global};
 
-/// The number of a set. No more than 2^32 - 1 sets are numbered: a further one counts as want of memory.
+/// Returns the number of a set, and adds the set if it is new. Errors: an allocation failed, or 2^32 - 1 sets are numbered.
 pub fn number_of(sets: &mut Sets, set: &[u32]) -> Result<u32, AllocError>
     requires { IsStrictlyIncreasing set.now }
     ensures number { IfOk result (λ number. slice_get sets.new number ≡ Some set.now) }
@@ -20,7 +20,7 @@ pub fn number_of(sets: &mut Sets, set: &[u32]) -> Result<u32, AllocError>
     }
 }
 
-/// The sets of one state each, numbered as the states.
+/// Returns the sets of one state each; the number of each set is its state.
 pub fn singletons(alloc: Global, states: u32) -> Result<Sets, AllocError>
     ensures { IfOk result (λ sets. AreSingletons sets states) }
 {
@@ -32,7 +32,7 @@ pub fn singletons(alloc: Global, states: u32) -> Result<Sets, AllocError>
     Ok(sets)
 }
 
-/// The set of a number.
+/// Returns a copy of the set with a number.
 pub fn copied_set(alloc: Global, sets: &Sets, number: u32) -> Result<Vec<u32>, AllocError>
     requires { number < length sets.now }
     ensures { IfOk result (λ set. slice_get sets.now number ≡ Some set.items) }

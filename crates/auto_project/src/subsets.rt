@@ -1,4 +1,4 @@
-//! The walk over the sets of states to which the lifts of words lead.
+//! The walk over the sets of states that lifts of words reach.
 ghost use Rattle.std.specs.Prelude.{◌≡◌, map, slice_index, ◌≢◌, AllPairs, ◌<◌, [], length, slice_get, Some, All, IfOk, OnOk, slice_index_or, false};
 ghost use Rattle.std.specs.List.{list_any};
 ghost use Rattle.std.specs.List.Sorted.{IsStrictlyIncreasing};
@@ -21,7 +21,7 @@ use letter_diagram::{Diagrams, Merger, Node};
 use std::alloc::{AllocError, Global};
 use track_word::{Var, remove_track};
 
-/// The tracks but one.
+/// Returns the tracks without one.
 fn tracks_without(alloc: Global, tracks: &[Var], var: Var) -> Result<Vec<Var>, AllocError>
     ensures { IfOk result (λ left. left.items ≡ without_var var tracks.now) }
 {
@@ -30,8 +30,8 @@ fn tracks_without(alloc: Global, tracks: &[Var], var: Var) -> Result<Vec<Var>, A
     Ok(left)
 }
 
-/// The rows of an automaton over the tracks that are left, and the sets that are numbered as places. One merger unites all rows, so
-/// that what two places have in common is united once.
+/// The rows of an automaton over the remaining tracks, and the sets numbered as places. One merger unites all rows, so that unions
+/// that two places share are computed once.
 #[derive(Drop)]
 pub struct Subsets<'a> {
     rows: TrackRows<'a>,
@@ -44,6 +44,7 @@ pub struct Subsets<'a> {
 }
 
 impl<'a> Subsets<'a> {
+    /// Creates the walk for the projection of `var`. Errors: an allocation failed.
     pub fn new(alloc: Global, a: &'a Auto, var: Var) -> Result<Self, AllocError>
         ensures automaton { IfOk result (λ subsets. subsets.rows.automaton.now ≡ a.now) }
         ensures tracks { IfOk result (λ subsets. subsets.rows.tracks.items ≡ without_var var a.now.tracks) }
@@ -71,7 +72,7 @@ impl<'a> Subsets<'a> {
         })
     }
 
-    /// The node that leads each letter to the set of the states to which the states of a set lead.
+    /// Returns the node that maps each letter to the set of the states that follow the states of a set.
     fn union_row(&mut self, set: &[u32]) -> Result<Node, AllocError>
         requires some { set.now ≢ [] }
         requires within { All (λ state. state < length self.old.rows.nodes.items) set.now }
@@ -88,7 +89,7 @@ impl<'a> Subsets<'a> {
         Ok(node)
     }
 
-    /// The node that leads each letter to the place of the set to which `node` leads it. New places are numbered.
+    /// Returns the node that maps each letter to the place of the set that `node` gives. Numbers new places.
     fn numbered(&mut self, node: Node) -> Result<Node, AllocError>
         requires { HasSets self.old.merger.shapes self.old.merger.sets node }
         ensures placed { IfOk result (LeadsToPlaces self.old.merger self.new.places node) }
@@ -105,7 +106,7 @@ impl<'a> Subsets<'a> {
     }
 }
 
-/// Whether one of the states is accepting.
+/// Returns whether one of the states accepts.
 fn some_final(flags: &[bool], set: &[u32]) -> bool
     requires { All (λ state. state < length flags.now) set.now }
     ensures { result ≡ list_any (λ state. slice_index_or flags.now state false) set.now }

@@ -1,4 +1,4 @@
-//! The row of the states of one more, or one less, after a sign letter.
+//! The row of shifted states after a sign letter.
 ghost use Rattle.std.specs.Prelude.{◌<◌, length, IfOk};
 ghost use Rattle.letter_diagram.specs.Diagram.{Grows};
 ghost use Rattle.auto_shift.specs.Shifting.{HasNodes, AreTurned, IsFirstMoved, IsByBit};
@@ -7,8 +7,7 @@ use auto_core::Auto;
 use letter_diagram::{Diagrams, Node};
 use std::alloc::AllocError;
 
-/// What is read at the bit 0 and at the bit 1, of what is read where one more (or one less) stays in the bit and where it
-/// goes on.
+/// Returns what is read at the bits 0 and 1, given what is read if the carry (or borrow) stops at the bit and if it passes on.
 pub fn by_bit(up: bool, stays: Node, goes_on: Node) -> (Node, Node)
     ensures { IsByBit up stays goes_on result.0 result.1 }
 {
@@ -19,8 +18,8 @@ pub fn by_bit(up: bool, stays: Node, goes_on: Node) -> (Node, Node)
     }
 }
 
-/// The node that leads each sign letter to the state of one more (or one less).
-/// `turned` are the rows of the states at the letters with the other bit.
+/// Returns the node that maps each sign letter to the shifted state. `turned` has the rows of the states at letters with the bit
+/// flipped.
 pub fn first_moved(
     diagrams: &mut Diagrams,
     auto: &Auto,

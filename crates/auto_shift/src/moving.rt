@@ -1,4 +1,4 @@
-//! The automaton of a set that is moved along a track.
+//! The automaton of a set that is shifted along a track.
 ghost use Rattle.std.specs.Prelude.{◌≡◌, ◌≢◌, ◌<◌, ◌≤◌, pos, length, IfOk, OnOk};
 ghost use Rattle.auto_core.specs.Integers.{DecidesIntegers};
 ghost use Rattle.auto_core.specs.Reduced.{AllReached};
@@ -13,7 +13,7 @@ use auto_walk::{Grown, explored};
 use limits::Budget;
 use std::alloc::Global;
 
-/// The automaton over the pairs of states that words lead to.
+/// Returns the automaton over the pairs of states that words reach.
 fn pairs_walked(alloc: Global, a: &Auto, track: u8, up: bool, budget: Budget) -> Result<Auto, Grown>
     requires { track < length a.now.tracks }
     ensures ok { IfOk result (IsWalked (shift_walker a.now track up)) }
@@ -25,9 +25,10 @@ fn pairs_walked(alloc: Global, a: &Auto, track: u8, up: bool, budget: Budget) ->
     explored(alloc, pairs, budget)
 }
 
-/// The automaton of the set that is moved by one: it accepts a word just if the argument accepts the words with one more (or
-/// one less) on the track. Its states are the pairs of states that words lead to; some of them may accept the same suffixes.
-/// `Over` where they are more than the budget. Costs the pairs of nodes that are met over all rows together.
+/// Shifts a set by one: the result accepts a word if and only if the argument accepts the words with one more (or one less) on the
+/// track.
+/// Its states are the pairs of states that words reach; it need not be minimal. Errors: `Over` if they are more than the budget,
+/// `Memory` if an allocation fails. Costs the pairs of nodes that are visited over all rows.
 pub fn shift_by_one(
     alloc: Global,
     a: &Auto,
@@ -50,7 +51,7 @@ pub fn shift_by_one(
     Ok(moved)
 }
 
-/// So many times one more, or one less.
+/// A number of shifts by one, up or down.
 #[derive(Clone, Copy)]
 struct UnitShifts {
     up: bool,
@@ -70,9 +71,10 @@ impl UnitShifts {
     }
 }
 
-/// The automaton of the set that is moved by a number: it accepts a word just if the argument accepts the words with so much
-/// more (or less) on the track. That is `shift_by_one` as many times, each within the budget; `Over` where one of them is not.
-/// By 0 there is nothing to make.
+/// Shifts a set by a constant: the result accepts a word if and only if the argument accepts the words with `by` added on the
+/// track.
+/// Repeats `shift_by_one`; `by` is not 0. Errors: `Over` if one of the shifts exceeds the budget, `Memory` if an
+/// allocation fails.
 pub fn shift_by(alloc: Global, a: &Auto, track: u8, by: i32, budget: Budget) -> Result<Auto, Grown>
     requires integers { DecidesIntegers a.now }
     requires track { track < length a.now.tracks }

@@ -1,4 +1,4 @@
--- Residues of a track's value as places, of which each has the residue for its only entry.
+-- Residues of a track's value as places: the only entry of each is the residue.
 use Rattle.std.specs.Prelude.{◌≡◌, ◌≢◌, ◌⊎◌, ℕ, ◌+◌, ◌-◌, ◌*◌, ◌%◌, ◌<◌, ◌≤◌, pos, List, [], ◌∷◌, length, slice_index, slice_get, Some, AllPairs, nat_eq, if◌then◌else◌}
 use Rattle.std.specs.Int.{bit_at, int_rem_euclid}
 use Rattle.track_word.specs.declared.tracks.Var.{Var}
@@ -7,11 +7,11 @@ use Rattle.letter_diagram.specs.declared.diagrams.Shape.{Shape}
 use Rattle.letter_diagram.specs.Diagram.{map_at}
 use Rattle.auto_walk.specs.Walker.{Walker}
 
--- the residue of what has been read, by the residue before the last bit
+-- the residue after one more bit
 abbrev pub next_residue : ℕ → List ℕ → ℕ → List ℕ
 next_residue modulus place letter = (2 * slice_index place 0 + bit_at letter 0) % modulus ∷ []
 
--- a sign letter with the bit 1 stands for -1
+-- the walk over residues; the bit 1 of a sign letter counts as -1
 abbrev pub residue_walker : List Var → ℕ → ℕ → Walker
 residue_walker tracks modulus residue = record {
   tracks = tracks;
@@ -20,11 +20,11 @@ residue_walker tracks modulus residue = record {
   final = λ place. nat_eq (slice_index place 0) residue;
 }
 
--- a word over the variable alone gives it a value that leaves this remainder, which is not negative
+-- the value of the variable has this nonnegative remainder
 abbrev pub ResidueHolds : Var → ℕ → ℕ → List ℕ → Type 0
 ResidueHolds var modulus residue word = int_rem_euclid (word_values (var ∷ []) word var.0) (pos modulus) ≡ pos residue
 
--- the node's map leads each letter by its bit to the number of one of two residues, which alone are new
+-- the node's map gives each letter, by its bit, the number of one of two residues; no other places are new
 pub record IsBitRow (shapes : List Shape) (old new : List (List ℕ)) (low high node : ℕ) : Type 0 where
   pub known : node < length shapes
   pub leads : (letter : ℕ)

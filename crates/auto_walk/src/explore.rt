@@ -1,4 +1,4 @@
-//! The worklist: rows until each numbered place has its own.
+//! The worklist: computes rows until each numbered place has one.
 ghost use Rattle.std.specs.Prelude.{◌≡◌, ◌<◌, ◌≤◌, ◌^◌, [], length, IfOk, OnOk, vec_len, map};
 ghost use Rattle.auto_walk.specs.Walker.{MoreThan, IsWalked};
 ghost use Rattle.auto_walk.specs.Rows.{AreNumbered, IsFirstRowIn, IsNextRowIn, Extends, AreRows};
@@ -11,7 +11,7 @@ use letter_diagram::Node;
 use limits::Budget;
 use std::alloc::{AllocError, Global};
 
-/// The first row, unless more places than the budget are numbered by it.
+/// Returns the first row. Errors: `Over` if it numbers more places than the budget.
 fn first_row<W: Walk>(walk: &mut W, budget: Budget) -> Result<Node, Grown>
     requires { W.places walk.old ≡ [] }
     ensures walker { W.walker walk.new ≡ W.walker walk.old }
@@ -27,7 +27,7 @@ fn first_row<W: Walk>(walk: &mut W, budget: Budget) -> Result<Node, Grown>
     Ok(node)
 }
 
-/// The row of a numbered place, unless more places than the budget are numbered by it.
+/// Returns the row of a numbered place. Errors: `Over` if it numbers more places than the budget.
 fn next_row<W: Walk>(walk: &mut W, number: u32, budget: Budget) -> Result<Node, Grown>
     requires numbered { AreNumbered (W.walker walk.old) (W.places walk.old) }
     requires known { number < length (W.places walk.old) }
@@ -47,7 +47,7 @@ fn next_row<W: Walk>(walk: &mut W, number: u32, budget: Budget) -> Result<Node, 
     Ok(node)
 }
 
-/// The rows of the places that are numbered, and of all that these lead to.
+/// Returns the rows of all places that are reachable from the numbered ones.
 fn all_rows<W: Walk>(alloc: Global, walk: &mut W, budget: Budget) -> Result<Vec<Node>, Grown>
     requires numbered { AreNumbered (W.walker walk.old) (W.places walk.old) }
     requires room { length (W.places walk.old) ≤ budget }
@@ -70,7 +70,7 @@ fn all_rows<W: Walk>(alloc: Global, walk: &mut W, budget: Budget) -> Result<Vec<
     Ok(rows)
 }
 
-/// Whether each place is accepting.
+/// Returns the accept flag of each place.
 fn flags<W: Walk>(alloc: Global, walk: &W) -> Result<Vec<bool>, AllocError>
     requires numbered { AreNumbered (W.walker walk.now) (W.places walk.now) }
     requires room { length (W.places walk.now) < 2 ^ 31 }
@@ -83,7 +83,8 @@ fn flags<W: Walk>(alloc: Global, walk: &W) -> Result<Vec<bool>, AllocError>
     Ok(flags)
 }
 
-/// The automaton whose states are the places to which words lead, or `Over` where they are more than the budget.
+/// Returns the automaton whose states are the places that words reach, numbered in the order of discovery.
+/// Errors: `Over` if they are more than the budget, `Memory` if an allocation fails.
 pub fn explored<W: Walk>(alloc: Global, walk: W, budget: Budget) -> Result<Auto, Grown>
     requires fresh { W.places walk ≡ [] }
     ensures ok { IfOk result (IsWalked (W.walker walk)) }

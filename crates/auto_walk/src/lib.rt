@@ -1,5 +1,7 @@
-//! A walk over the places that words lead to, by rows, and the automaton that it makes.
-//! `residue` is a small walk, as an example of one. `specs/Walker` says what places are and which automaton a walk makes of them, `specs/Rows` what a row of numbers is.
+//! Explores the places that words reach, with a worklist, and builds their automaton.
+//! A place is a discovered state, such as a pair or a set of states; the trait `Walk` computes its row. Product, projection and
+//! shift are such walks. `residue` is a small one and serves as an example.
+//! `specs/Walker` defines places and the automaton of a walk, and `specs/Rows` its rows.
 #![tactic(auto)]
 
 mod explore;

@@ -18,7 +18,7 @@ use std::alloc::{AllocError, Global};
 use track_word::Var;
 use track_word::laws::repeating_first_letter_keeps_values;
 
-/// The residues that a track's value leaves: after each bit the residue of what has been read is known by the one before.
+/// The residues of a track's value; the residue after a bit depends only on the residue before it.
 #[derive(Drop)]
 struct Residues {
     tracks: Vec<Var>,
@@ -49,7 +49,7 @@ impl Residues {
     }
 }
 
-/// The residue after one more bit.
+/// Returns the residue after one more bit.
 fn after(residue: u32, bit: u32, modulus: u32) -> u32
     requires bit { bit < 2 }
     requires positive { 0 < modulus }
@@ -58,7 +58,7 @@ fn after(residue: u32, bit: u32, modulus: u32) -> u32
     ((2 * u64::from(residue) + u64::from(bit)) % u64::from(modulus)) as u32
 }
 
-/// The residue of a numbered place.
+/// Returns the residue of a numbered place.
 fn residue_of(seen: &Sets, number: u32) -> u32
     requires { number < length seen.now }
     ensures { (place : List ℕ) × (slice_get seen.now number ≡ Some place) × (result ≡ slice_index place 0) }
@@ -69,7 +69,7 @@ fn residue_of(seen: &Sets, number: u32) -> u32
     }
 }
 
-/// The number of a residue's place.
+/// Returns the number of a residue's place.
 fn number_of(seen: &mut Sets, residue: u32) -> Result<u32, AllocError>
     requires { length seen.old < 2 ^ 32 - 1 }
     ensures number { IfOk result (λ number. slice_get seen.new number ≡ Some (residue ∷ [])) }
@@ -83,7 +83,7 @@ fn number_of(seen: &mut Sets, residue: u32) -> Result<u32, AllocError>
     }
 }
 
-/// The node that leads the bit 0 to the number of one residue, and the bit 1 to that of another.
+/// Returns the node that maps the bit 0 to the number of `low`, and the bit 1 to that of `high`.
 fn bit_row(
     diagrams: &mut Diagrams,
     seen: &mut Sets,
@@ -143,8 +143,8 @@ impl Walk for Residues {
     }
 }
 
-/// Decides whether the value of a variable leaves a residue after division by a modulus, as `rem_euclid` does. It has a state
-/// for each residue that words lead to. `Over` where they are more than the budget.
+/// Returns the automaton of "`var` leaves `residue` after division by `modulus`" (as `rem_euclid` does). It has one state for each
+/// residue that words reach. Errors: `Over` if they are more than the budget, `Memory` if an allocation fails.
 pub fn residue(
     alloc: Global,
     var: Var,
