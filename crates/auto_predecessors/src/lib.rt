@@ -1,5 +1,6 @@
-//! The states whose rows lead to some states, found by ways upwards from states through the nodes of diagrams that rows share.
-//! `specs/Ways` has what the ways are.
+//! Finds the predecessors of a set of states.
+//! Predecessor lists over the nodes that rows share lead from states back to the rows that reach them. `specs/Ways` defines these
+//! lists.
 #![tactic(auto)]
 
 mod rows;

@@ -4,7 +4,7 @@ ghost use Rattle.auto_predecessors.specs.RowNodes.{AreRowNodes};
 use auto_core::Auto;
 use letter_diagram::Node;
 
-/// The nodes of the rows, in the order of the states.
+/// Returns the nodes of the rows, in the order of the states.
 pub fn row_nodes(a: &Auto) -> &[Node]
     ensures { AreRowNodes a.now result.now }
 {

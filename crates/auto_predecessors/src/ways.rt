@@ -1,4 +1,4 @@
-//! The nodes of rows by places, each behind the places that it leads to, and the ways upwards from states to the rows that lead to them.
+//! Rows' nodes, numbered so that each follows the nodes that it maps to, and predecessor lists from states back to rows.
 ghost use Rattle.std.specs.Prelude.{◌≡◌, ◌<◌, ◌++◌, ◌∷◌, [], ℕ, true, false, length, All, Contains, slice_index_or, slice_set, Some, IfOk, OnOk};
 ghost use Rattle.letter_diagram.specs.Diagram.{map_at};
 ghost use Rattle.auto_predecessors.specs.RowNodes.{AreRowNodes};
@@ -9,33 +9,33 @@ use letter_diagram::{Diagrams, Node, Shape};
 use smallvec::SmallVec;
 use std::alloc::{AllocError, Global};
 
-/// Some places, few mostly.
+/// A list of node numbers, mostly short.
 type Places = SmallVec<usize, 2>;
 
-/// Some states, few mostly.
+/// A list of states, mostly short.
 type States = SmallVec<u32, 2>;
 
-/// What a place leads to.
+/// The successors of a node.
 #[derive(Clone, Copy)]
 enum PlaceTarget {
-    /// One state.
+    /// A state: the node is a leaf.
     State(u32),
-    /// What two earlier places lead to.
+    /// Two nodes with smaller numbers: the node is a test.
     Both(usize, usize),
 }
 
-/// The ways upwards from the states to the rows that lead to them, by the places of the rows' nodes.
+/// The predecessor lists from the states to the rows that reach them. The rows' nodes have numbers of their own (places).
 pub struct Predecessors {
-    /// For each place those that lead to it directly.
+    /// For each place, the places of its direct predecessors.
     pub above: Vec<Places>,
-    /// For each place the states whose row it is.
+    /// For each place, the states whose row it is.
     pub owners: Vec<States>,
-    /// For each state the places that lead to it directly.
+    /// For each state, the places of its leaves' direct predecessors.
     pub leaves: Vec<Places>,
 }
 
 impl Drop for Predecessors {
-    /// Lets the lists go. Written out, so that a body that lets ways go has a call here in place of their fields' drops.
+    /// Drops the lists. Written by hand, so that a function that drops predecessor lists calls this instead of dropping each field.
     fn drop(self) {
         let Predecessors {
             above: _,
@@ -45,7 +45,7 @@ impl Drop for Predecessors {
     }
 }
 
-/// Gives a node the next place. A place past 2^32 is refused as want of memory.
+/// Assigns the next place to a node. Errors: an allocation failed, or there are 2^32 places.
 fn place_next(
     node: Node,
     way: PlaceTarget,
@@ -66,7 +66,7 @@ fn place_next(
     Ok(place)
 }
 
-/// The place of a node, which is given one if it has none.
+/// Returns the place of a node, and assigns one if it has none.
 fn place_of(
     diagrams: &Diagrams,
     node: Node,
@@ -98,7 +98,7 @@ fn place_of(
     }
 }
 
-/// The place of each row, in the order of the states. What the rows share has one place.
+/// Returns the place of each row, in the order of the states. A shared node has one place.
 fn place_rows(
     alloc: Global,
     a: &Auto,
@@ -118,7 +118,7 @@ fn place_rows(
     Ok(found)
 }
 
-/// Empty lists.
+/// Returns empty lists.
 fn no_lists<T: Drop + Default>(
     alloc: Global,
     count: usize,
@@ -133,7 +133,7 @@ fn no_lists<T: Drop + Default>(
     Ok(lists)
 }
 
-/// Lists a place at what its way leads to.
+/// Adds a place to the lists of its successors.
 fn link(
     way: PlaceTarget,
     place: usize,
@@ -172,7 +172,7 @@ fn link_all(
     Ok(())
 }
 
-/// Lists each state at the place of its row.
+/// Adds each state to the list of its row's place.
 fn own_all(rows: &[usize], states: u32, owners: &mut [States]) -> Result<(), AllocError>
     requires within { All (λ place. place < length owners.old) rows.now }
     requires states { length rows.now ≡ states }
@@ -185,7 +185,8 @@ fn own_all(rows: &[usize], states: u32, owners: &mut [States]) -> Result<(), All
     Ok(())
 }
 
-/// The ways upwards through an automaton's rows. Costs the nodes of the rows, and room for each node of the automaton.
+/// Returns the predecessor lists of an automaton's rows. Costs the nodes reachable from the rows, and an entry for each node of the
+/// automaton. Errors: an allocation failed.
 pub fn row_predecessors(alloc: Global, a: &Auto, rows: &[Node]) -> Result<Predecessors, AllocError>
     requires { AreRowNodes a.now rows.now }
     ensures { IfOk result (AreRowWays a.now) }
@@ -204,7 +205,7 @@ pub fn row_predecessors(alloc: Global, a: &Auto, rows: &[Node]) -> Result<Predec
     })
 }
 
-/// Marks a place that has no mark, which then waits.
+/// Marks an unmarked place, and adds it to the worklist.
 fn mark(place: usize, marks: &mut [bool], waiting: &mut Vec<usize>) -> Result<(), AllocError>
     requires { place < length marks.old }
     ensures marked { OnOk result (slice_index_or marks.new place false ≡ true) }
@@ -232,7 +233,7 @@ fn mark_all(
     Ok(())
 }
 
-/// Marks the places that lead to some states directly.
+/// Marks the places that map directly to some states.
 fn mark_leaves(
     states: &[u32],
     leaves: &[Places],
@@ -250,7 +251,8 @@ fn mark_leaves(
     Ok(())
 }
 
-/// Marks what leads to the places that wait, and gives the states whose rows are marked. Each place waits once.
+/// Marks all predecessors of the places in the worklist, and returns the states whose rows are marked. Each place is in the
+/// worklist once.
 fn climb(
     alloc: Global,
     above: &[Places],
@@ -275,7 +277,7 @@ fn climb(
     Ok(found)
 }
 
-/// The states whose rows lead to one of some states, over marks that are off.
+/// Returns the states whose rows reach one of some states, given marks that are all unset.
 fn climb_from(
     alloc: Global,
     a: &Auto,
@@ -301,7 +303,8 @@ fn climb_from(
     Ok(found)
 }
 
-/// The states whose rows lead to one of some states. Costs the places that lead to these, and room for a mark of each place.
+/// Returns the states whose rows reach one of `states`, that is, their predecessors. Costs the predecessors' places, and a mark for
+/// each place. Errors: an allocation failed.
 pub fn predecessors_of(
     alloc: Global,
     a: &Auto,

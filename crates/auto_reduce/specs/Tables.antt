@@ -11,11 +11,11 @@ use Rattle.auto_reduce.specs.Numbering.{IsNumberedBreadthFirst}
 abbrev pub AcceptsNoWord : Automaton → Type 0
 AcceptsNoWord a = (word : List ℕ) → IsWord (length a.tracks) word → ¬ Accepts a word
 
--- the same words over the tracks of the first are accepted by both
+-- each word over the tracks of the first is accepted by both or by neither
 pub record AcceptSameWords (a b : Automaton) : Type 0 where
   pub same : (word : List ℕ) → IsWord (length a.tracks) word → Accepts a word ↔ Accepts b word
 
--- no state too many, and the states numbered in the order in which a breadth-first walk in ascending letters meets them
+-- minimal, with its states numbered in breadth-first order by ascending letters
 pub record IsInOrder (a : Automaton) : Type 0 where
   pub valid : IsAutomaton a
   pub reduced : IsReduced a
@@ -26,12 +26,12 @@ pub record HaveEqualTables (a b : Automaton) : Type 0 where
   pub next : a.next ≡ b.next
   pub accept : a.accept ≡ b.accept
 
--- with equal tracks, the tables of such automata are equal where they accept the same words
+-- such automata with equal tracks have equal tables if they accept the same words
 abbrev pub EqualWordsEqualTables : Type 0
 EqualWordsEqualTables =
     (a b : Automaton) → IsInOrder a → IsInOrder b → a.tracks ≡ b.tracks → AcceptSameWords a b → HaveEqualTables a b
 
--- nodes of equal maps, place by place
+-- nodes of equal maps, index by index
 pub record HaveEqualMaps (shapes : List Shape) (nodes others : List ℕ) : Type 0 where
   pub at : (place letter : ℕ) → place < length nodes → letter < 2 ^ MOST_TRACKS
       → map_at shapes (slice_index nodes place) letter ≡ map_at shapes (slice_index others place) letter

@@ -6,7 +6,8 @@ use auto_core::Auto;
 use auto_refine::{coarsest, members};
 use std::alloc::{AllocError, Global};
 
-/// For each state one of the states that nothing tells apart from it, the same for all of these.
+/// Returns for each state a canonical state: one indistinguishable from it, the same for all of its class. Errors: an allocation
+/// failed.
 pub fn canonical(alloc: Global, a: &Auto) -> Result<Vec<u32>, AllocError>
     ensures { IfOk result (λ canon. IsCanonical a.now canon.items) }
 {

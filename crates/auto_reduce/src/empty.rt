@@ -1,11 +1,11 @@
-//! Whether an automaton accepts a word.
+//! Emptiness of an automaton.
 ghost use Rattle.std.specs.Prelude.{◌↔◌, IsTrue};
 ghost use Rattle.auto_core.specs.Reduced.{AllReached};
 ghost use Rattle.auto_reduce.specs.Tables.{AcceptsNoWord};
 
 use auto_core::Auto;
 
-/// Whether an automaton accepts no word: where each of its states is reached, that is whether no flag is set.
+/// Returns whether an automaton, each of whose states is reached, accepts no word: no flag is set. Costs the number of states.
 pub fn is_empty(a: &Auto) -> bool
     requires { AllReached a.now }
     ensures { IsTrue result ↔ AcceptsNoWord a.now }

@@ -1,6 +1,6 @@
-//! Reduction of automata, and the questions that a reduced automaton answers: whether it accepts no word, whether two accept the
-//! same words, and whether a repeated first letter ever matters.
-//! `auto_refine` has the partition of the states that nothing tells apart, `specs/Quotient` the automaton over one state of each class.
+//! Minimizes automata, and decides emptiness, equality and closure under sign extension.
+//! "Reduced" means minimal: each state is reached, and each two are distinguished (Moore 1956). `auto_refine` computes the
+//! partition into indistinguishable states, and `specs/Quotient` defines the automaton over one state of each class.
 #![tactic(auto)]
 
 mod canonical;

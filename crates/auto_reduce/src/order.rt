@@ -1,4 +1,4 @@
-//! States in the order in which they are met.
+//! States in the order of discovery.
 ghost use Rattle.std.specs.Prelude.{◌≡◌, ◌≢◌, [], ◌∷◌, ◌↔◌, List, ℕ, OnOk, AllPairs, Contains, IsTrue};
 ghost use Rattle.auto_reduce.specs.Quotient.{AddsAll};
 
@@ -6,7 +6,7 @@ use indexmap::IndexSet;
 use std::alloc::{AllocError, Global};
 use std::marker::Model;
 
-/// Different states, in the order in which they were added.
+/// Distinct states, in the order in which they were added.
 #[derive(Drop)]
 pub struct StateOrder {
     seen: IndexSet<u32>,
@@ -21,7 +21,7 @@ impl Model for StateOrder {
 }
 
 impl StateOrder {
-    /// No state.
+    /// Returns an empty order.
     pub fn new(alloc: Global) -> Self
         ensures { result ≡ [] }
     {
@@ -30,7 +30,7 @@ impl StateOrder {
         }
     }
 
-    /// The states, in the order in which they were added.
+    /// Returns the states in order.
     pub fn as_slice(&self) -> &[u32]
         ensures states { result.now ≡ self.now }
         ensures different { AllPairs (λ x y. x ≢ y) self.now }
@@ -38,14 +38,14 @@ impl StateOrder {
         self.seen.as_slice()
     }
 
-    /// Whether a state was added.
+    /// Returns whether a state was added.
     pub fn has(&self, state: u32) -> bool
         ensures { IsTrue result ↔ Contains self.now state }
     {
         self.seen.contains(&state)
     }
 
-    /// Adds a state that was not added before. Another one stays where it is.
+    /// Appends a state, unless it was added before.
     pub fn add(&mut self, state: u32) -> Result<(), AllocError>
         ensures adds { OnOk result (AddsAll self.old self.new (state ∷ [])) }
         ensures different { AllPairs (λ x y. x ≢ y) self.new }
@@ -54,7 +54,7 @@ impl StateOrder {
         Ok(())
     }
 
-    /// Adds states, one after another.
+    /// Appends states, each unless it was added before.
     pub fn add_all(&mut self, states: &[u32]) -> Result<(), AllocError>
         ensures adds { OnOk result (AddsAll self.old self.new states.now) }
         ensures different { AllPairs (λ x y. x ≢ y) self.new }

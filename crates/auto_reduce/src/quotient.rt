@@ -14,7 +14,7 @@ use auto_refine::{RoundMemo, flags, mapped_nodes, picked};
 use letter_diagram::{Diagrams, Node};
 use std::alloc::{AllocError, Global};
 
-/// The canonical states that words lead to, in the order in which a breadth-first walk in ascending letters meets them.
+/// Returns the canonical states that words reach, in the order of a breadth-first traversal by ascending letters.
 fn breadth_first(
     alloc: Global,
     a: &Auto,
@@ -38,7 +38,7 @@ fn breadth_first(
     Ok(order)
 }
 
-/// The automaton whose states are the places in an order of canonical states.
+/// Returns the automaton whose states are the indices in an order of canonical states.
 fn over_places(
     alloc: Global,
     a: &Auto,
@@ -67,7 +67,7 @@ fn over_places(
     Ok(m)
 }
 
-/// For each state the place of its canonical state in an order.
+/// Returns for each state the index of its canonical state in an order.
 fn place_table(
     alloc: Global,
     canon: &[u32],
@@ -86,7 +86,7 @@ fn place_table(
     Ok(table)
 }
 
-/// The automaton over the first of some rows and those behind it, with the flags of an order's states.
+/// Builds the automaton whose first row is `rows[0]` and whose state rows are `rows[1..]`, with the flags of an order's states.
 fn over_rows(
     alloc: Global,
     a: &Auto,
@@ -105,7 +105,7 @@ fn over_rows(
     Ok(Auto::from_diagrams(tracks, diagrams, first, rows, accept))
 }
 
-/// About how many nodes stay where so many of the states stay: the same share of them, and never more than there are.
+/// Estimates the number of nodes that remain if this many states remain: the same proportion, and at most all.
 fn nodes_left(nodes: usize, states: u32, states_left: usize) -> usize
     requires { 0 < states }
     ensures { result ≤ nodes }
@@ -114,7 +114,7 @@ fn nodes_left(nodes: usize, states: u32, states_left: usize) -> usize
     share.min(nodes)
 }
 
-/// The node of the first row, and behind it those of the rows of some states, in their order.
+/// Returns the node of the first row, followed by those of the rows of some states.
 fn first_and_picked(alloc: Global, a: &Auto, order: &[u32]) -> Result<Vec<Node>, AllocError>
     requires { All (λ state. state < length a.now.row_nodes) order.now }
     ensures { IfOk result (λ nodes. AreFirstAndPicked a.now order.now nodes.items) }
@@ -125,7 +125,7 @@ fn first_and_picked(alloc: Global, a: &Auto, order: &[u32]) -> Result<Vec<Node>,
     Ok(nodes)
 }
 
-/// For each state its place in an order, and 0 where it has none.
+/// Returns for each state its index in an order, or 0 if it has none.
 fn numbers(alloc: Global, order: &[u32], states: u32) -> Result<Vec<u32>, AllocError>
     requires below { All (λ state. state < states) order.now }
     requires different { AllPairs (λ j k. j ≢ k) order.now }
@@ -140,7 +140,7 @@ fn numbers(alloc: Global, order: &[u32], states: u32) -> Result<Vec<u32>, AllocE
     Ok(numbers)
 }
 
-/// For each state the number of its canonical state.
+/// Returns for each state the number of its canonical state.
 fn class_numbers(alloc: Global, canon: &[u32], numbers: &[u32]) -> Result<Vec<u32>, AllocError>
     requires { All (λ state. state < length numbers.now) canon.now }
     ensures { IfOk result (λ table. AreClassNumbers canon.now numbers.now table.items) }
@@ -152,11 +152,12 @@ fn class_numbers(alloc: Global, canon: &[u32], numbers: &[u32]) -> Result<Vec<u3
     Ok(table)
 }
 
-/// The automaton of the same words with no state too many (Moore 1956), whose states are numbered in the order in which
-/// a breadth-first walk in ascending letters meets them. While more than an eighth of the states move, a round of the refinement
-/// costs the nodes of the rows of all states that share their class. After that it costs the nodes of the rows of those among them that
-/// lead to a state that moved in the round before, and a mark for each state and for each node. The numbering costs the nodes of one
-/// row of each class. The answer has no node that its rows don't reach.
+/// Returns the minimal automaton of the same words (Moore 1956), with its states numbered in breadth-first order by ascending
+/// letters.
+/// While more than an eighth of the states move, a round of the refinement costs the nodes of the rows of all states that share
+/// their class. After that it costs the nodes of the rows of those among them that are predecessors of a state that moved in the
+/// round before, and a mark for each state and each node. The numbering costs the nodes of one row of each class. The result has no
+/// unreachable nodes. Errors: an allocation failed.
 pub fn reduce(alloc: Global, a: &Auto) -> Result<Auto, AllocError>
     ensures tracks { IfOk result (λ m. m.tracks ≡ a.now.tracks) }
     ensures words { IfOk result (HasSameWords a.now) }
@@ -169,7 +170,7 @@ pub fn reduce(alloc: Global, a: &Auto) -> Result<Auto, AllocError>
     Ok(m)
 }
 
-/// The automaton whose states are the canonical states, in breadth-first order.
+/// Returns the automaton whose states are the canonical states, in breadth-first order.
 fn quotient(alloc: Global, a: &Auto) -> Result<Auto, AllocError>
     ensures { IfOk result (IsQuotient a.now) }
 {

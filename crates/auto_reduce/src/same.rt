@@ -1,4 +1,4 @@
-//! Whether two automata accept the same words.
+//! Equality of the accepted words.
 ghost use Rattle.std.specs.Prelude.{◌≡◌, ◌↔◌, ◌<◌, length, All, IfOk, IsTrue};
 ghost use Rattle.auto_core.specs.Automaton.{IsAutomaton};
 ghost use Rattle.auto_reduce.specs.Tables.{AcceptSameWords, HaveEqualTables, HaveEqualMaps};
@@ -8,8 +8,8 @@ use auto_core::Auto;
 use letter_diagram::{Diagrams, Node};
 use std::alloc::{AllocError, Global};
 
-/// Whether two automata over the same tracks accept the same words. Costs a reduction of each: reduced automata of the same words
-/// have equal tables.
+/// Returns whether two automata over the same tracks accept the same words. Minimizes both: minimal automata of the same words have
+/// equal tables. Errors: an allocation failed.
 pub fn same_set(alloc: Global, a: &Auto, b: &Auto) -> Result<bool, AllocError>
     requires { a.now.tracks ≡ b.now.tracks }
     ensures { IfOk result (λ same. IsTrue same ↔ AcceptSameWords a.now b.now) }
@@ -20,7 +20,7 @@ pub fn same_set(alloc: Global, a: &Auto, b: &Auto) -> Result<bool, AllocError>
     Ok(same)
 }
 
-/// Whether the tables of two automata are equal. Equal rows are equal nodes of one `Diagrams`.
+/// Returns whether the tables of two automata are equal. Equal rows are equal nodes of one `Diagrams`.
 fn have_equal_tables(alloc: Global, a: &Auto, b: &Auto) -> Result<bool, AllocError>
     requires a_valid { IsAutomaton a.now }
     requires b_valid { IsAutomaton b.now }

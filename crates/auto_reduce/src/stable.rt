@@ -1,4 +1,4 @@
-//! Whether a repeated first letter ever matters.
+//! Closure under sign extension.
 ghost use Rattle.std.specs.Prelude.{◌≡◌, ◌↔◌, ◌<◌, length, All, IfOk, IsTrue};
 ghost use Rattle.letter_diagram.specs.Diagram.{Grows};
 ghost use Rattle.auto_core.specs.Automaton.{IsAutomaton};
@@ -12,8 +12,10 @@ use diagram_product::{Pairs, apply2};
 use letter_diagram::{Diagrams, Node};
 use std::alloc::{AllocError, Global};
 
-/// Whether each word is accepted just if it is accepted with its first letter once more, so that the automaton decides a set of integers.
-/// Costs a reduction, and the pairs of nodes of the first row and of the rows of the states that sign letters lead to.
+/// Returns whether the automaton accepts each word if and only if it accepts the word with its first letter repeated, so that it
+/// decides a set of integer tuples.
+/// Costs a minimization, and the pairs of nodes of the first row and the rows of the states that sign letters reach. Errors: an
+/// allocation failed.
 pub fn sign_stable(alloc: Global, a: &Auto) -> Result<bool, AllocError>
     ensures { IfOk result (λ stable. IsTrue stable ↔ DecidesIntegers a.now) }
 {
@@ -22,7 +24,7 @@ pub fn sign_stable(alloc: Global, a: &Auto) -> Result<bool, AllocError>
     Ok(stable)
 }
 
-/// Whether each sign letter of a reduced automaton, read once more, leads to the same state.
+/// Returns whether each sign letter of a minimal automaton, repeated, reaches the same state.
 fn signs_stay(m: &Auto) -> Result<bool, AllocError>
     requires valid { IsAutomaton m.now }
     requires reduced { IsReduced m.now }
@@ -40,7 +42,7 @@ fn signs_stay(m: &Auto) -> Result<bool, AllocError>
     Ok(true)
 }
 
-/// Whether a row gives a state wherever the first row does.
+/// Returns whether a row gives a state at each letter at which the first row does.
 fn keeps(diagrams: &mut Diagrams, first: Node, row: Node, state: u32) -> Result<bool, AllocError>
     requires first_known { first < length diagrams.old }
     requires row_known { row < length diagrams.old }
@@ -52,7 +54,7 @@ fn keeps(diagrams: &mut Diagrams, first: Node, row: Node, state: u32) -> Result<
     Ok(each_keeps(pairs.as_slice(), state))
 }
 
-/// Whether no pair leaves a state.
+/// Returns whether the second entry of each pair is the state if the first one is.
 fn each_keeps(pairs: &[(u32, u32)], state: u32) -> bool
     ensures { IsTrue result ↔ All (λ pair. pair.0 ≡ state → pair.1 ≡ state) pairs.now }
 {

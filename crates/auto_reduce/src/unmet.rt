@@ -1,4 +1,4 @@
-//! The canonical states to which a row leads and that were not met before it.
+//! The canonical states that a row maps to and that no earlier row maps to.
 ghost use Rattle.std.specs.Prelude.{[], ◌≡◌, ◌≢◌, ◌<◌, ℕ, true, false, length, slice_index_or, slice_set, IfOk, OnOk, AllPairs};
 ghost use Rattle.letter_diagram.specs.Diagram.{map_at, top_track, Grows};
 ghost use Rattle.auto_refine.specs.Leading.{entry_at};
@@ -11,7 +11,7 @@ use limits::MOST_TRACKS;
 use std::alloc::{AllocError, Global};
 use std::marker::Model;
 
-/// For each node of one `Diagrams`, by its number, whether it is done: it leads to canonical states that are in the order and to no others.
+/// For each node of one `Diagrams`, by its number, whether it is done: it maps only to canonical states that are in the order.
 #[derive(Drop)]
 pub struct Done {
     nodes: Vec<bool>,
@@ -26,7 +26,7 @@ impl Model for Done {
 }
 
 impl Done {
-    /// None of so many nodes is done.
+    /// Returns no done nodes, with room for `nodes`.
     pub fn new(alloc: Global, nodes: usize) -> Result<Self, AllocError>
         ensures { IfOk result (λ done. (node : ℕ) → slice_index_or done node false ≡ false) }
     {
@@ -41,7 +41,7 @@ impl Done {
         self.nodes.get(node.number()).copied().unwrap_or(false)
     }
 
-    /// A node past those that this was made for is not noted.
+    /// Marks a node as done, or drops it if it is at or above the capacity.
     fn add(&mut self, node: Node)
         ensures { self.new ≡ slice_set self.old node true }
     {
@@ -68,14 +68,14 @@ impl Done {
     }
 }
 
-/// Nodes of one `Diagrams` whose values stand for canonical states.
+/// Nodes of one `Diagrams` whose values are replaced by canonical states.
 #[derive(Drop)]
 pub struct CanonicalRows<'a> {
     pub from: &'a Diagrams,
     pub canon: &'a [u32],
 }
 
-/// What one row leaves to the next: which nodes are done, and room for the nodes that it passes and for answers.
+/// The tables that one row passes to the next: the done nodes, a list of visited nodes, and a cache.
 pub struct Kept {
     done: Done,
     passed: Vec<Node>,
@@ -83,7 +83,7 @@ pub struct Kept {
 }
 
 impl Drop for Kept {
-    /// Lets the tables go. Written out, so that a body that lets what is kept go has a call here in place of its fields' drops.
+    /// Drops the tables. Written by hand, so that a function that drops them calls this instead of dropping each field.
     fn drop(self) {
         let Kept {
             done: _,
@@ -94,7 +94,7 @@ impl Drop for Kept {
 }
 
 impl Kept {
-    /// None of so many nodes is done.
+    /// Returns empty tables with room for `nodes`.
     pub fn new(alloc: Global, nodes: usize) -> Result<Self, AllocError>
         ensures { IfOk result (λ kept. (node : ℕ) → slice_index_or kept.done node false ≡ false) }
     {
@@ -106,14 +106,14 @@ impl Kept {
     }
 }
 
-/// States that were met, and a leaf that stands for all of them.
+/// States already in the order, and a leaf that represents all of them.
 #[derive(Drop)]
 struct VisitedStates<'a> {
     order: &'a StateOrder,
     leaf: Node,
 }
 
-/// The canonical states that were found beside the order.
+/// The canonical states found that are not in the order.
 #[derive(Clone, Copy)]
 pub enum Unmet {
     Nothing,
@@ -121,7 +121,7 @@ pub enum Unmet {
     Several,
 }
 
-/// What was found, with one more state.
+/// Returns what was found together with one more state.
 fn with_state(order: &StateOrder, found: Unmet, state: u32) -> Unmet
     ensures { Finds order.now found (λ letter. state) result }
 {
@@ -135,8 +135,8 @@ fn with_state(order: &StateOrder, found: Unmet, state: u32) -> Unmet
     }
 }
 
-/// What was found, with the canonical states to which a node leads. Stops where several were found. The nodes that it passes are noted
-/// as done, and as passed: where several were found they aren't done. Costs the nodes that are not done.
+/// Returns what was found together with the canonical states that a node maps to. Stops if several are found. Visited nodes are
+/// listed and marked as done; if several are found they are not done. Costs the nodes that are not done.
 fn unmet_states(
     rows: &CanonicalRows,
     node: Node,
@@ -170,7 +170,7 @@ fn unmet_states(
     Ok(unmet)
 }
 
-/// The leaf of a state, or where it was met that of a state that was met.
+/// Returns the leaf of a state, or the representing leaf if the state is in the order.
 fn pruned_leaf(met: &VisitedStates, to: &mut Diagrams, state: u32) -> Result<Node, AllocError>
     requires { IsMetLeaf to.old met.now.order.now met.now.leaf }
     ensures known { IfOk result (λ leaf. leaf < length to.new) }
@@ -185,8 +185,8 @@ fn pruned_leaf(met: &VisitedStates, to: &mut Diagrams, state: u32) -> Result<Nod
     Ok(leaf)
 }
 
-/// The node in `to` of a row, led to canonical states, where states that were met may stand for one another. Nodes that lead to such
-/// states alone are noted as done, and passed over from then on: the leaf of such a state stands for them.
+/// Returns the node in `to` of a row mapped to canonical states, where one state of the order may replace another. Nodes that map
+/// only to such states are marked as done, and are represented by the leaf of such a state from then on.
 fn pruned(
     rows: &CanonicalRows,
     node: Node,
@@ -226,7 +226,7 @@ fn pruned(
     Ok(made)
 }
 
-/// The same as `add_row`, by a diagram in which the states of the order stand for one another.
+/// Does the same as `add_row`, with a diagram in which the states of the order may replace one another.
 fn add_several(
     alloc: Global,
     rows: &CanonicalRows,
@@ -251,8 +251,8 @@ fn add_several(
     Ok(())
 }
 
-/// Puts the canonical states to which a row leads and that are not in the order at its end, by the least letters that lead to them.
-/// Makes a diagram only where there are several. Costs the nodes of the row that are not done.
+/// Appends the canonical states that a row maps to and that are not in the order, by their least letters. Builds a diagram only if
+/// there are several. Costs the nodes of the row that are not done.
 pub fn add_row(
     alloc: Global,
     rows: &CanonicalRows,
@@ -285,7 +285,7 @@ pub fn add_row(
     }
 }
 
-/// The canonical states to which the first row leads, by the least letters that lead to them.
+/// Returns the canonical states that the first row maps to, by their least letters.
 pub fn first_met(
     alloc: Global,
     from: &Diagrams,

@@ -10,13 +10,13 @@ pub record IsAttained (classes : List ℕ) (class : ℕ) : Type 0 where
   pub within : state < length classes
   pub has : slice_index classes state ≡ class
 
--- the classes of so many states, each of them attained
+-- the class of each of this many states; no class is empty
 pub record IsPartition (size : ℕ) (classes : List ℕ) (count : ℕ) : Type 0 where
   pub states : length classes ≡ size
   pub within : All (λ class. class < count) classes
   pub attained : (class : ℕ) → class < count → IsAttained classes class
 
--- a partition of the states that it has classes for
+-- a partition of the states for which it has classes
 abbrev pub AreClasses : Partition → Type 0
 AreClasses p = IsPartition (length p.classes.items) p.classes.items p.count
 
@@ -31,7 +31,7 @@ pub record AreFirstMembers (classes : List ℕ) (count : ℕ) (members : List �
   pub of_each : AreMembers classes count members
   pub first : (state : ℕ) → state < length classes → slice_index members (slice_index classes state) ≤ state
 
--- states of one class have one flag, and each letter leads them to one class
+-- two states of a class have equal flags, and each letter leads them to one class
 pub record Respects (a : Automaton) (classes : List ℕ) : Type 0 where
   pub flags : (j k : ℕ) → j < length a.accept → k < length a.accept → slice_index classes j ≡ slice_index classes k
       → is_final a j ≡ is_final a k
@@ -39,14 +39,14 @@ pub record Respects (a : Automaton) (classes : List ℕ) : Type 0 where
       → slice_index classes j ≡ slice_index classes k
       → slice_index classes (next_state a j letter) ≡ slice_index classes (next_state a k letter)
 
--- a partition that respects flags and rows, whose classes are told apart by words: each other such partition is finer
+-- a partition that respects flags and rows, whose classes are distinguished by words; so each other such partition is finer
 pub record IsCoarsest (a : Automaton) (classes : List ℕ) (count : ℕ) : Type 0 where
   pub partition : IsPartition (length a.accept) classes count
   pub respects : Respects a classes
   pub apart : (j k : ℕ) → j < length a.accept → k < length a.accept → slice_index classes j ≢ slice_index classes k
       → ToldApart a j k
 
--- states that share a class of some partition that respects flags and rows share one of the coarsest
+-- two states in one class of some partition that respects flags and rows are in one class of the coarsest
 abbrev pub CoarsestIsCoarser : Type 0
 CoarsestIsCoarser =
     (a : Automaton) (classes other : List ℕ) (count : ℕ) → IsAutomaton a → IsCoarsest a classes count → Respects a other

@@ -1,4 +1,4 @@
--- Nodes that have the maps of other nodes, led through a table.
+-- Nodes with the maps of other nodes, whose values are replaced by table entries.
 use Rattle.std.specs.Prelude.{ℕ, List, Some, slice_index}
 use Rattle.limits.specs.declared.numbers.TheConstants.{MOST_TRACKS}
 use Rattle.letter_diagram.specs.declared.diagrams.Shape.{Shape}
@@ -9,11 +9,11 @@ use Rattle.letter_diagram.specs.Carried.{Carrier, IsCarried}
 abbrev pub entry_at : List ℕ → List Shape → ℕ → ℕ → ℕ
 entry_at table shapes node letter = slice_index table (map_at shapes node letter)
 
--- r gives the entry of the table at each value that a has among other shapes
+-- r gives the entry of the table at each value of a, a node of other shapes
 abbrev pub IsLedFrom : List Shape → List Shape → List ℕ → ℕ → ℕ → Type 0
 IsLedFrom from shapes table = IsCarried from shapes (λ letter. letter) (slice_index table)
 
--- nodes of other shapes are carried to the entries of a table at their values
+-- nodes of other shapes are rebuilt with table entries as values
 abbrev pub by_table : List Shape → List ℕ → Carrier
 by_table from table = record {
   from = Some from;

@@ -7,34 +7,33 @@ use Rattle.auto_refine.specs.declared.classes.Partition.{Partition}
 use Rattle.auto_refine.specs.declared.listing.Listing.{Listing}
 use Rattle.auto_refine.specs.declared.moves.Moves.{Moves}
 
--- the node of the state that stands for the class of a state
+-- the node of the representative of a state's class
 abbrev pub chosen_node : List ℕ → List ℕ → List ℕ → ℕ → ℕ
 chosen_node classes representatives nodes state =
     slice_index nodes (slice_index representatives (slice_index classes state))
 
--- each state has the node of the one that stands for its class, if neither of them is among some states
+-- each state has the node of its class's representative, if neither of them is among the stale states
 pub record AreSettled (classes representatives nodes stale : List ℕ) : Type 0 where
   pub at : (state : ℕ) → state < length classes → ¬ Contains stale state
       → ¬ Contains stale (slice_index representatives (slice_index classes state))
       → slice_index nodes state ≡ chosen_node classes representatives nodes state
 
--- the states of a partition do
+-- the same, for the states of a partition
 abbrev pub IsSettled : Partition → Listing → List ℕ → List ℕ → Type 0
 IsSettled p listing nodes stale = AreSettled p.classes.items listing.representatives.items nodes stale
 
--- some states, and all of a class for which one of these stands
+-- some states, and all states of a class whose representative is one of them
 pub record AreCandidates (p : Partition) (representatives stale candidates : List ℕ) : Type 0 where
   pub within : All (λ state. state < length p.classes.items) candidates
   pub each : (state : ℕ) → Contains stale state → Contains candidates state
   pub led : (state : ℕ) → state < length p.classes.items
       → Contains stale (slice_index representatives (slice_index p.classes.items state)) → Contains candidates state
 
--- a state whose node is not that of the one that stands for its class
+-- a state whose node differs from that of its class's representative
 abbrev pub IsOther : List ℕ → List ℕ → List ℕ → ℕ → Type 0
 IsOther classes representatives nodes state = slice_index nodes state ≢ chosen_node classes representatives nodes state
 
--- the number, after all classes, of the signature of a state whose node is not that of the one that stands for its
--- class
+-- the number, after all classes, of the signature of a state whose node differs from that of its class's representative
 pub record IsMove (classes representatives nodes : List ℕ) (count : ℕ) (signatures : List (ℕ × ℕ))
     (state number : ℕ) : Type 0 where
   pub within : state < length classes
@@ -42,7 +41,7 @@ pub record IsMove (classes representatives nodes : List ℕ) (count : ℕ) (sign
   pub least : count ≤ number
   pub is : slice_get signatures (number - count) ≡ Some (slice_index classes state, slice_index nodes state)
 
--- states with the numbers of their signatures, and a state of each signature
+-- states with the numbers of their signatures, and one state of each signature
 pub record AreMoves (classes representatives nodes : List ℕ) (count : ℕ) (signatures : List (ℕ × ℕ))
     (states numbers firsts : List ℕ) : Type 0 where
   pub unrepeated : AllPairs (λ p q. p ≢ q) signatures
@@ -58,24 +57,24 @@ abbrev pub AreFound : Partition → List ℕ → List ℕ → Moves → Type 0
 AreFound p representatives nodes m =
     AreMoves p.classes.items representatives nodes p.count m.signatures m.states.items m.numbers.items m.firsts.items
 
--- what moves before still does
+-- states that moved before still move
 abbrev pub KeepsMoves : Moves → Moves → Type 0
 KeepsMoves old new = (state : ℕ) → Contains old.states.items state → Contains new.states.items state
 
--- a state moves if its node is not that of the one that stands for its class
+-- a state moves if its node differs from that of its class's representative
 abbrev pub MovesIfOther : Partition → Listing → List ℕ → Moves → ℕ → Type 0
 MovesIfOther p listing nodes m state =
     IsOther p.classes.items listing.representatives.items nodes state → Contains m.states.items state
 
--- each of some states does
+-- each of some states moves if so
 abbrev pub MovesOthers : Partition → Listing → List ℕ → Moves → List ℕ → Type 0
 MovesOthers p listing nodes m states = (state : ℕ) → Contains states state → MovesIfOther p listing nodes m state
 
--- how many classes a partition has once states moved
+-- the number of classes of a partition after the moves
 abbrev pub count_with : Partition → Moves → ℕ
 count_with p m = p.count + length m.firsts.items
 
--- what moves make of a partition and its lists: each signature is a class, and one of its states stands for it
+-- the moves applied to a partition and its lists: each signature is a class, with one of its states as representative
 pub record AreMoved (m : Moves) (old new : Partition) (was listing : Listing) : Type 0 where
   pub classes : IsPut old.classes.items m.states.items m.numbers.items new.classes.items
   pub count : new.count ≡ count_with old m
@@ -83,22 +82,22 @@ pub record AreMoved (m : Moves) (old new : Partition) (was listing : Listing) : 
   pub lists : AreListed (lists_of was.lists.items ++ replicate (length m.firsts.items) []) m.states.items
       m.numbers.items (lists_of listing.lists.items)
 
--- no class is lost, and there are more where some states moved
+-- no class is lost, and some are added if some states moved
 pub record CountGrows (old new : Partition) (moved : List ℕ) : Type 0 where
   pub kept : old.count ≤ new.count
   pub grown : 0 < length moved → old.count < new.count
 
--- the other states have the classes that they had
+-- the other states keep their classes
 pub record KeepsOthers (old new : Partition) (moved : List ℕ) : Type 0 where
   pub kept : (state : ℕ) → state < length old.classes.items → ¬ Contains moved state
       → slice_index new.classes.items state ≡ slice_index old.classes.items state
 
--- states of one class were in one class
+-- states of one class were in one class before
 pub record IsFiner (old new : List ℕ) : Type 0 where
   pub same : (j k : ℕ) → j < length new → k < length new → slice_index new j ≡ slice_index new k
       → slice_index old j ≡ slice_index old k
 
--- states are in one class exactly where they were in one class before and have one node
+-- states are in one class if and only if they were in one class before and have one node
 pub record IsSplit (current nodes classes : List ℕ) (count : ℕ) : Type 0 where
   pub partition : IsPartition (length current) classes count
   pub same : (j k : ℕ) → j < length current → k < length current

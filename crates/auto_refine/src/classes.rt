@@ -11,7 +11,8 @@ pub struct Partition {
     pub count: usize,
 }
 
-/// The first state of each class, to which short words lead. The states that are told apart from it are mostly fewer than the others.
+/// Returns the first state of each class, which short words reach. Mostly fewer states are split off from it than stay with it.
+/// Errors: an allocation failed.
 pub fn members(alloc: Global, partition: &Partition) -> Result<Vec<u32>, AllocError>
     requires partition { AreClasses partition.now }
     requires few { length partition.now.classes.items < 2 ^ 31 }

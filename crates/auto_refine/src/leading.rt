@@ -1,4 +1,4 @@
-//! Nodes of one `Diagrams` with the maps of nodes of another, led through a table.
+//! Nodes with the maps of nodes of another `Diagrams`, whose values are replaced by table entries.
 ghost use Rattle.std.specs.Prelude.{◌<◌, ℕ, All, length, IfOk};
 ghost use Rattle.letter_diagram.specs.Diagram.{map_at, Grows};
 ghost use Rattle.letter_diagram.specs.Listed.{EachAnswers};
@@ -8,7 +8,7 @@ use crate::round_memo::RoundMemo;
 use letter_diagram::{Diagrams, Node, Rebuild, Shape, rebuilt_all};
 use std::alloc::AllocError;
 
-/// Carries nodes of another `Diagrams` to the entries of a table at their values.
+/// Rebuilds nodes of another `Diagrams` with each value replaced by its entry in a table.
 #[derive(Drop)]
 pub struct ByTable<'a> {
     pub from: &'a Diagrams,
@@ -41,9 +41,9 @@ impl<'a> Rebuild for ByTable<'a> {
     }
 }
 
-/// For each of several nodes of `from`, in their order, the node in `to` that gives the entry of `table` at each of its values.
-/// What they share is done once. `memo` serves one call after another, for which it has room for each node of `from`.
-/// Costs the nodes that are led, and those that were led before.
+/// Returns for each of several nodes of `from`, in order, the node in `to` that gives the entry of `table` at each of its values.
+/// Shared nodes are rebuilt once. `memo` has room for each node of `from`, and is reused by later calls. Costs the nodes that are
+/// rebuilt, and the entries that the call before left in `memo`.
 pub fn mapped_nodes(
     from: &Diagrams,
     nodes: &[Node],

@@ -1,7 +1,7 @@
-//! The coarsest partition of an automaton's states that respects flags and rows, by rounds of splits (Moore 1956).
-//! `specs/Coarsest` says what it is. `partition` has the rounds. A round leads rows of diagrams to classes (`leading`, `stale`), and
-//! moves the states whose rows differ from that of the state that stands for their class (`moves`, `signatures`), of which lists are
-//! kept (`listing`).
+//! Computes the coarsest partition of an automaton's states that respects flags and rows.
+//! This is partition refinement by rounds of splits (Moore 1956); `specs/Coarsest` defines the result and `partition` has the
+//! rounds. A round maps rows to classes (`leading`, `stale`), and moves the states whose rows differ from the row of their class's
+//! representative (`moves`, `signatures`). Lists of the states of each class are kept (`listing`).
 #![tactic(auto)]
 
 mod classes;

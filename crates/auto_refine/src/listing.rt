@@ -1,4 +1,4 @@
-//! For each class a list in which all its states are, kept while states move to new classes.
+//! For each class a list that contains all its states, kept while states move to new classes.
 ghost use Rattle.std.specs.Prelude.{◌≡◌, ◌<◌, ◌^◌, ◌+◌, ◌++◌, [], ℕ, All, length, replicate, slice_index, IfOk, OnOk, vec_len};
 ghost use Rattle.auto_refine.specs.Coarsest.{AreClasses};
 ghost use Rattle.auto_refine.specs.Listing.{AreBelow, AreLists, AreListed, AreStillIn, IsPutInto, ListsOnly, WerePruned, lists_of};
@@ -6,15 +6,15 @@ ghost use Rattle.auto_refine.specs.Listing.{AreBelow, AreLists, AreListed, AreSt
 use crate::classes::{Partition, members};
 use std::alloc::{AllocError, Global};
 
-/// For each class a state that stands for it, and states among which are all of the class: also some that have left it since the
-/// list was last pruned.
+/// For each class a representative state, and a list that contains all states of the class; it may also contain states that left
+/// the class since the list was last pruned.
 pub struct Listing {
     pub representatives: Vec<u32>,
     pub lists: Vec<Vec<u32>>,
 }
 
 impl Drop for Listing {
-    /// Lets the lists go. Written out, so that a body that lets a listing go has a call here in place of its fields' drops.
+    /// Drops the lists. Written by hand, so that a function that drops a listing calls this instead of dropping each field.
     fn drop(self) {
         let Listing {
             representatives: _,
@@ -23,7 +23,7 @@ impl Drop for Listing {
     }
 }
 
-/// All states, in their order.
+/// Returns the states below `count` in order.
 pub fn all_states(alloc: Global, count: usize) -> Result<Vec<u32>, AllocError>
     requires few { count < 2 ^ 31 }
     ensures size { IfOk result (λ states. length states.items ≡ count) }
@@ -36,7 +36,7 @@ pub fn all_states(alloc: Global, count: usize) -> Result<Vec<u32>, AllocError>
     Ok(states)
 }
 
-/// Adds some empty lists.
+/// Appends `more` empty lists.
 pub fn add_lists(alloc: Global, lists: &mut Vec<Vec<u32>>, more: usize) -> Result<(), AllocError>
     ensures { OnOk result (lists_of lists.new.items ≡ lists_of lists.old.items ++ replicate more []) }
 {
@@ -46,7 +46,7 @@ pub fn add_lists(alloc: Global, lists: &mut Vec<Vec<u32>>, more: usize) -> Resul
     Ok(())
 }
 
-/// Puts a state into the list of a class.
+/// Appends a state to the list of a class.
 fn list(lists: &mut Vec<Vec<u32>>, class: usize, state: u32) -> Result<(), AllocError>
     requires { class < vec_len lists.old }
     ensures lists { OnOk result (IsPutInto (lists_of lists.old.items) class state (lists_of lists.new.items)) }
@@ -56,7 +56,7 @@ fn list(lists: &mut Vec<Vec<u32>>, class: usize, state: u32) -> Result<(), Alloc
     Ok(())
 }
 
-/// Puts states into the lists of their classes.
+/// Appends states to the lists of their classes.
 pub fn list_each(
     lists: &mut Vec<Vec<u32>>,
     states: &[u32],
@@ -72,7 +72,7 @@ pub fn list_each(
     Ok(())
 }
 
-/// The states of each class of a partition, and one of them that stands for it.
+/// Returns the list of states of each class of a partition, and a representative for each class. Errors: an allocation failed.
 pub fn list_states(alloc: Global, partition: &Partition) -> Result<Listing, AllocError>
     requires partition { AreClasses partition.now }
     requires few { length partition.now.classes.items < 2 ^ 31 }
@@ -89,7 +89,7 @@ pub fn list_states(alloc: Global, partition: &Partition) -> Result<Listing, Allo
     })
 }
 
-/// The states among some that have a class: those that a list of this class is to keep.
+/// Returns those of `states` that are in a class.
 fn still_in(
     alloc: Global,
     partition: &Partition,
@@ -108,8 +108,8 @@ fn still_in(
     Ok(kept)
 }
 
-/// Drops from the list of a class the states that have left it, so that looking through the list costs the states of the class. A state
-/// that moves stays in the list of its old class until this list is looked through.
+/// Removes from the list of a class the states that left it, so that iterating over the list costs the states of the class. A state
+/// that moves stays in the list of its old class until that list is pruned.
 pub fn prune(
     alloc: Global,
     partition: &Partition,

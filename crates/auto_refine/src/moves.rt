@@ -1,4 +1,4 @@
-//! States that move to new classes, as their nodes differ from those of the states that stand for their classes.
+//! States that move to new classes, since their nodes differ from those of their classes' representatives.
 ghost use Rattle.std.specs.Prelude.{◌<◌, ◌^◌, ℕ, All, Contains, length, IfOk, OnOk};
 ghost use Rattle.auto_refine.specs.Coarsest.{AreClasses, IsPartition};
 ghost use Rattle.auto_refine.specs.Listing.{AreLists};
@@ -10,7 +10,8 @@ use crate::signatures::Signatures;
 use letter_diagram::Node;
 use std::alloc::{AllocError, Global};
 
-/// States with their new classes: each signature has one, after all classes, and `firsts` has a state of each.
+/// States with their new classes. Each signature has one new class, numbered after the existing ones; `firsts` has one state of
+/// each.
 #[derive(Drop)]
 pub struct Moves {
     pub signatures: Signatures,
@@ -19,7 +20,7 @@ pub struct Moves {
     pub firsts: Vec<u32>,
 }
 
-/// The states among some, each once: a state may be stale itself and stand in the list of its class too, and is looked at once.
+/// Returns the distinct states among `states`: a state may be stale itself and also be in the list of its class.
 fn each_once(alloc: Global, count: usize, states: &[u32]) -> Result<Vec<u32>, AllocError>
     requires { All (λ state. state < count) states.now }
     ensures within { IfOk result (λ once. All (λ state. state < count) once.items) }
@@ -36,7 +37,7 @@ fn each_once(alloc: Global, count: usize, states: &[u32]) -> Result<Vec<u32>, Al
     Ok(once)
 }
 
-/// The same as `candidates`, where a state may stand more than once.
+/// Returns the states of `candidates`, possibly with repeats.
 fn with_repeats(
     alloc: Global,
     partition: &Partition,
@@ -63,8 +64,8 @@ fn with_repeats(
     Ok(found)
 }
 
-/// The states that are to be looked at where some states have new nodes: these, and all of a class for which one of these stands.
-/// The lists in which these are found are pruned. Costs these, and a mark for each state.
+/// Returns the states to be examined if some states have new nodes: these, and all states of a class whose representative is one of
+/// them. Prunes the lists of these classes. Costs the result, and a mark for each state.
 pub fn candidates(
     alloc: Global,
     partition: &Partition,
@@ -83,7 +84,7 @@ pub fn candidates(
     Ok(once)
 }
 
-/// Gives a state a new class where its node isn't that of the state that stands for its class.
+/// Assigns a state to a new class if its node differs from that of its class's representative.
 fn sort_state(
     partition: &Partition,
     listing: &Listing,
@@ -115,7 +116,7 @@ fn sort_state(
     Ok(())
 }
 
-/// The states among some whose nodes aren't those of the states that stand for their classes, with their new classes.
+/// Returns those of `states` whose nodes differ from those of their classes' representatives, with their new classes.
 pub fn find_moves(
     alloc: Global,
     partition: &Partition,

@@ -1,4 +1,4 @@
-//! The coarsest partition of the states that keeps flags and next states apart.
+//! The coarsest partition of the states that respects flags and next states.
 ghost use Rattle.std.specs.Prelude.{◌≡◌, ◌<◌, ◌^◌, [], All, Contains, length, IfOk, OnOk};
 ghost use Rattle.auto_core.specs.Automaton.{IsAutomaton};
 ghost use Rattle.auto_refine.specs.Coarsest.{IsPartition, IsCoarsest};
@@ -17,7 +17,7 @@ use auto_predecessors::{row_nodes, row_predecessors};
 use letter_diagram::{Diagrams, Node};
 use std::alloc::{AllocError, Global};
 
-/// Moves states to their new classes: each of these takes one of its states to stand for it.
+/// Moves states to their new classes, each of which gets one of its states as its representative.
 fn move_states(
     alloc: Global,
     moves: &Moves,
@@ -49,8 +49,8 @@ fn move_states(
     Ok(())
 }
 
-/// Splits the classes of a partition by the nodes of their states. The states with the node of the one that stands for their class
-/// keep its number. Only states that may have another node are looked at. Gives the states that got a new class.
+/// Splits the classes of a partition by the nodes of their states. States with their representative's node keep their class number.
+/// Examines only states that may have another node, and returns the states that moved to a new class.
 fn split(
     alloc: Global,
     nodes: &[Node],
@@ -82,7 +82,7 @@ fn split(
     Ok(moves.states)
 }
 
-/// The flag of each state as a class, that of the first state as class 0.
+/// Returns the flag of each state as a class; that of the first state is class 0.
 fn flag_classes(alloc: Global, a: &Auto) -> Result<Vec<u32>, AllocError>
     ensures flags { IfOk result (λ classes. IsFlag a.now classes.items) }
     ensures valid { IsAutomaton a.now }
@@ -96,7 +96,7 @@ fn flag_classes(alloc: Global, a: &Auto) -> Result<Vec<u32>, AllocError>
     Ok(classes)
 }
 
-/// The partition by flags.
+/// Returns the partition by flags.
 fn by_flags(alloc: Global, a: &Auto) -> Result<Partition, AllocError>
     ensures sound { IfOk result (λ p. IsSound a.now p.classes.items p.count) }
     ensures valid { IsAutomaton a.now }
@@ -109,19 +109,19 @@ fn by_flags(alloc: Global, a: &Auto) -> Result<Partition, AllocError>
     })
 }
 
-/// All that a round of refinement changes.
+/// The state of a refinement.
 #[derive(Drop)]
 struct Refining {
     diagrams: Diagrams,
     partition: Partition,
     listing: Listing,
-    /// For each state its row, led to classes.
+    /// For each state its row, mapped to classes.
     led: Vec<Node>,
-    /// For the rows that a round leads.
+    /// The cache for mapping rows in a round.
     memo: RoundMemo,
 }
 
-/// The partition by flags, to whose classes the rows are led.
+/// Returns the partition by flags, with rows mapped to its classes.
 fn start(alloc: Global, a: &Auto) -> Result<Refining, AllocError>
     ensures led { IfOk result (λ refining. IsLedTo a.now refining) }
     ensures valid { IsAutomaton a.now }
@@ -140,8 +140,8 @@ fn start(alloc: Global, a: &Auto) -> Result<Refining, AllocError>
     })
 }
 
-/// Splits the classes by the classes of the next states. Equal nodes are equal maps, so the rows, led to classes, are compared as
-/// nodes. Gives the states that got a new class.
+/// Splits the classes by the classes of the next states. Rows mapped to classes are compared as nodes, since equal maps are equal
+/// nodes. Returns the states that moved to a new class.
 fn round(a: &Auto, refining: &mut Refining, stale: &[u32]) -> Result<Vec<u32>, AllocError>
     requires led { IsLedTo a.now refining.old }
     requires stale { All (λ state. state < length a.now.accept) stale.now }
@@ -161,7 +161,7 @@ fn round(a: &Auto, refining: &mut Refining, stale: &[u32]) -> Result<Vec<u32>, A
     Ok(moved)
 }
 
-/// Leads the rows of some states again, and splits the classes. Gives the states that got a new class.
+/// Maps the rows of some states again, and splits the classes. Returns the states that moved to a new class.
 fn next_round(a: &Auto, refining: &mut Refining, stale: &[u32]) -> Result<Vec<u32>, AllocError>
     requires refined { IsRefined a.now refining.old (Contains stale.now) }
     requires stale { All (λ state. state < length a.now.accept) stale.now }
@@ -182,7 +182,7 @@ fn next_round(a: &Auto, refining: &mut Refining, stale: &[u32]) -> Result<Vec<u3
     Ok(moved)
 }
 
-/// The first rounds, while many states move: these look at all states that share their class. Gives the states that moved last.
+/// The first rounds, while many states move: each examines all states that share their class. Returns the states that moved last.
 fn wide_rounds(alloc: Global, a: &Auto, refining: &mut Refining) -> Result<Vec<u32>, AllocError>
     requires { IsLedTo a.now refining.old }
     ensures refined { IfOk result (λ moved. IsRefined a.now refining.new (LeadsInto a.now moved.items)) }
@@ -198,7 +198,7 @@ fn wide_rounds(alloc: Global, a: &Auto, refining: &mut Refining) -> Result<Vec<u
     Ok(moved)
 }
 
-/// The rounds from then on, until no state moves: these look at the states that lead to one that moved in the round before.
+/// The later rounds, until no state moves: each examines the predecessors of the states that moved in the round before.
 fn narrow_rounds(
     alloc: Global,
     a: &Auto,
@@ -227,7 +227,7 @@ fn narrow_rounds(
     Ok(())
 }
 
-/// The rounds, until no state moves.
+/// All rounds, until no state moves.
 fn refine(alloc: Global, a: &Auto, refining: &mut Refining) -> Result<(), AllocError>
     requires { IsLedTo a.now refining.old }
     ensures { OnOk result (IsRefined a.now refining.new (LeadsInto a.now [])) }
@@ -237,18 +237,18 @@ fn refine(alloc: Global, a: &Auto, refining: &mut Refining) -> Result<(), AllocE
     Ok(())
 }
 
-/// The partition, without what only the rounds need.
+/// Returns the partition, and drops what only the rounds need.
 fn partition_of(refining: Refining) -> Partition
     ensures { result ≡ refining.partition }
 {
     refining.partition
 }
 
-/// The partition whose classes are the states that nothing tells apart: it starts with the flags, and splits classes
-/// by the classes of the next states until no class is split (Moore 1956). The first round leads all rows and looks at all states. A
-/// later one leads the rows of states that share their class, and looks at these states, and at all of a class if one of these stands
-/// for it: at all that share their class while many states move, then only at those that lead to a state that got a new class in the
-/// round before. Only states that get a new class are hashed.
+/// Returns the partition whose classes are the sets of indistinguishable states (Moore 1956). Starts with the flags, and splits
+/// classes by the classes of the next states until no class is split.
+/// The first round maps all rows and examines all states. Later rounds examine states that share their class, and all states of a
+/// class whose representative is one of them: while many states move, all that share their class, and then only the predecessors of
+/// the states that moved in the round before. Only states that move are hashed. Errors: an allocation failed.
 pub fn coarsest(alloc: Global, a: &Auto) -> Result<Partition, AllocError>
     ensures coarsest { IfOk result (λ p. IsCoarsest a.now p.classes.items p.count) }
     ensures valid { IsAutomaton a.now }

@@ -1,8 +1,8 @@
-//! Values put at places of a list.
+//! Values written at indices of a list.
 ghost use Rattle.std.specs.Prelude.{◌≡◌, ◌<◌, All, length};
 ghost use Rattle.auto_refine.specs.Put.{IsPut};
 
-/// Puts values at some places.
+/// Writes `values[i]` at index `places[i]` of a list, for each i.
 pub fn put<T: Copy>(list: &mut [T], places: &[u32], values: &[T])
     requires within { All (λ place. place < length list.old) places.now }
     requires same { length places.now ≡ length values.now }

@@ -1,4 +1,4 @@
-//! Answers for nodes that serve one round of a refinement after another, and one row of a numbering after another.
+//! A cache by node that is cleared after each round of a refinement, or each row of a numbering.
 ghost use Rattle.std.specs.Prelude.{◌≡◌, ℕ, None, IfOk};
 ghost use Rattle.letter_diagram.specs.NodeMemo.{answer_of};
 
@@ -6,15 +6,15 @@ use letter_diagram::{Node, NodeCache, NodeMemo};
 use std::alloc::{AllocError, Global};
 use std::marker::Model;
 
-/// Answers for the nodes of one `Diagrams`, by the nodes' numbers. The nodes that got one are listed, so that to forget them all costs
-/// no more than to answer them.
+/// A cache from nodes of one `Diagrams` to nodes, as a list indexed by node number. The nodes with an entry are listed, so that
+/// clearing costs the number of entries.
 pub struct RoundMemo {
     answers: NodeMemo,
     answered: Vec<Node>,
 }
 
 impl Drop for RoundMemo {
-    /// Lets the answers go. Written out, so that a body that lets a memo go has a call here in place of its fields' drops.
+    /// Drops the entries. Written by hand, so that a function that drops a cache calls this instead of dropping each field.
     fn drop(self) {
         let RoundMemo {
             answers: _,
@@ -35,7 +35,7 @@ impl Model for RoundMemo {
 }
 
 impl RoundMemo {
-    /// No node has an answer, and there is room for those below `nodes`.
+    /// Returns an empty cache with room for the nodes below `nodes`.
     pub fn new(alloc: Global, nodes: usize) -> Result<Self, AllocError>
         ensures none { IfOk result (λ memo. (node : ℕ) → answer_of memo node ≡ None) }
     {
@@ -45,7 +45,7 @@ impl RoundMemo {
         })
     }
 
-    /// Forgets all answers.
+    /// Removes all entries.
     pub fn clear(&mut self)
         ensures none { (node : ℕ) → answer_of self.new node ≡ None }
     {
@@ -56,7 +56,7 @@ impl RoundMemo {
     }
 }
 
-/// A node past those that the memo has room for is not remembered.
+/// Drops entries for nodes at or above the capacity.
 impl NodeCache for RoundMemo {
     ghost answers = { answer_of };
 

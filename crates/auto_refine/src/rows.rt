@@ -6,7 +6,7 @@ use auto_core::Auto;
 use letter_diagram::Node;
 use std::alloc::{AllocError, Global};
 
-/// The nodes of some states, in their order.
+/// Returns the rows' nodes of the states in `order`.
 pub fn picked(alloc: Global, rows: &[Node], order: &[u32]) -> Result<Vec<Node>, AllocError>
     requires { All (λ state. state < length rows.now) order.now }
     ensures { IfOk result (λ picked. ArePicked rows.now order.now picked.items) }
@@ -18,7 +18,7 @@ pub fn picked(alloc: Global, rows: &[Node], order: &[u32]) -> Result<Vec<Node>, 
     Ok(picked)
 }
 
-/// The flags of some states, in their order.
+/// Returns the flags of the states in `order`.
 pub fn flags(alloc: Global, a: &Auto, order: &[u32]) -> Result<Vec<bool>, AllocError>
     requires { All (λ state. state < length a.now.accept) order.now }
     ensures { IfOk result (λ flags. AreFlags a.now order.now flags.items) }

@@ -1,4 +1,4 @@
-//! Signatures of states, numbered in the order in which they were first seen.
+//! Signatures of states, numbered in the order of their first occurrence.
 ghost use Rattle.std.specs.Prelude.{◌≡◌, ◌≢◌, ◌≤◌, ◌<◌, ◌^◌, ◌+◌, ◌-◌, [], List, ℕ, length, slice_get, Some, IfOk, OnOk, AllPairs};
 ghost use Rattle.letter_diagram.specs.Numbering.{Numbers, PairsKept};
 
@@ -7,7 +7,7 @@ use letter_diagram::Node;
 use std::alloc::{AllocError, Global};
 use std::marker::Model;
 
-/// Signatures: the class of a state, and the node that leads letters to the classes of its next states.
+/// Signatures: the class of a state, and the node that maps letters to the classes of its next states.
 #[derive(Drop)]
 pub struct Signatures {
     seen: IndexSet<(u32, Node)>,
@@ -22,7 +22,7 @@ impl Model for Signatures {
 }
 
 impl Signatures {
-    /// No signature.
+    /// Returns an empty numbering.
     pub fn new(alloc: Global) -> Self
         ensures { result ≡ [] }
     {
@@ -31,7 +31,7 @@ impl Signatures {
         }
     }
 
-    /// How many signatures are numbered.
+    /// Returns the number of signatures.
     pub fn len(&self) -> usize
         ensures len { result ≡ length self.now }
         ensures unrepeated { AllPairs (λ x y. x ≢ y) self.now }
@@ -39,7 +39,7 @@ impl Signatures {
         self.seen.len()
     }
 
-    /// The number of a signature, where there is room for one more.
+    /// Returns the number of a signature, and adds it if it is new; a number is known to be free.
     pub fn add(&mut self, class: u32, node: Node) -> Result<u32, AllocError>
         requires { length self.old < 2 ^ 32 - 1 }
         ensures number { IfOk result (λ number. slice_get self.new number ≡ Some (class, node)) }

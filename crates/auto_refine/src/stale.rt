@@ -1,4 +1,4 @@
-//! Nodes that lead the rows to the classes of a partition, kept while no state to which a row leads moves to another class.
+//! Nodes that map the rows to the classes of a partition, kept while no next state changes its class.
 ghost use Rattle.std.specs.Prelude.{◌≡◌, ◌<◌, ◌^◌, All, length, IfOk, OnOk};
 ghost use Rattle.letter_diagram.specs.Diagram.{Grows};
 ghost use Rattle.auto_refine.specs.Coarsest.{AreClasses, IsPartition};
@@ -18,7 +18,7 @@ use auto_predecessors::{Predecessors, predecessors_of};
 use letter_diagram::{Diagrams, Node};
 use std::alloc::{AllocError, Global};
 
-/// The states among some in whose class's list there are others.
+/// Returns those of `states` whose class's list has other states.
 fn sharing(
     alloc: Global,
     partition: &Partition,
@@ -41,7 +41,7 @@ fn sharing(
     Ok(sharing)
 }
 
-/// The states that share their class.
+/// Returns the states that share their class.
 pub fn sharing_states(
     alloc: Global,
     partition: &Partition,
@@ -58,7 +58,7 @@ pub fn sharing_states(
     Ok(sharing)
 }
 
-/// The states that share their class and lead to one of some states.
+/// Returns the states that share their class and have one of `moved` as a next state.
 pub fn stale_states(
     alloc: Global,
     a: &Auto,
@@ -78,7 +78,7 @@ pub fn stale_states(
     Ok(stale)
 }
 
-/// Leads the rows of some states to classes. The other states keep their nodes.
+/// Maps the rows of some states to classes again. The other states keep their nodes.
 pub fn remap_rows(
     diagrams: &mut Diagrams,
     a: &Auto,
@@ -101,7 +101,7 @@ pub fn remap_rows(
     Ok(())
 }
 
-/// Leads the rows to the classes of a partition.
+/// Maps all rows to the classes of a partition.
 pub fn lead(
     diagrams: &mut Diagrams,
     a: &Auto,
