@@ -1,4 +1,4 @@
--- Where rows come from: spots that lead letters to places, and the places that have a number so far.
+-- The source of rows: spots map letters to places, and some places are numbered.
 use Rattle.std.specs.Prelude.{◌≡◌, ◌≢◌, ◌⊎◌, ℕ, ◌<◌, ◌≤◌, ◌^◌, Bool, true, false, List, length, All, AllPairs, Option, Some, None, slice_get, nat_eq, if◌then◌else◌}
 use Rattle.std.specs.Int.{bit_at}
 use Rattle.limits.specs.declared.numbers.TheConstants.{MOST_TRACKS}
@@ -6,8 +6,8 @@ use Rattle.auto_walk.specs.Walker.{Walker}
 use Rattle.auto_merge.specs.declared.rows.Look.{Look}
 use Rattle.auto_merge.specs.declared.rows.Look.TheVariants.{Place, Test}
 
--- the places that there are, and how many may be; the spots that can be read, the place to which a spot leads a letter, the
--- least track that it looks at, or 20, and a size that is less for what it looks at
+-- the places and their limit; the spots that can be read; the place to which a spot maps a letter; the least track that it tests,
+-- or 20; and a size that decreases for its branches
 pub record Graph (Spot : Type 0) : Type 1 where
   pub walker : Walker
   pub most : ℕ
@@ -17,21 +17,21 @@ pub record Graph (Spot : Type 0) : Type 1 where
   pub top : Spot → ℕ
   pub size : Spot → ℕ
 
--- different places, and no more than may be
+-- distinct places, at most as many as the limit
 pub record AreSeen {Spot : Type 0} (g : Graph Spot) (places : List (List ℕ)) : Type 0 where
   pub are_places : All g.is_place places
   pub different : AllPairs (λ p q. p ≢ q) places
   pub few : length places ≤ g.most
   pub most_few : g.most < 2 ^ 31
 
--- a spot that leads each letter to the place of a number
+-- a spot that maps each letter to the place with a number
 pub record LeadsToOne {Spot : Type 0} (g : Graph Spot) (places : List (List ℕ)) (spot : Spot) (number : ℕ) : Type 0 where
   pub place : List ℕ
   pub is : slice_get places number ≡ Some place
   pub leads : (letter : ℕ) → g.leads spot letter ≡ place
   pub top : g.top spot ≤ MOST_TRACKS
 
--- a spot that leads a letter as one of two does, by the bit of a track
+-- a spot that maps a letter as one of two spots does, by the bit of a track
 pub record LeadsByTrack {Spot : Type 0} (g : Graph Spot) (spot : Spot) (track : ℕ) (low high : Spot) : Type 0 where
   pub track_low : track < MOST_TRACKS
   pub low_read : g.can_read low
@@ -44,12 +44,12 @@ pub record LeadsByTrack {Spot : Type 0} (g : Graph Spot) (spot : Spot) (track : 
   pub low_smaller : g.size low < g.size spot
   pub high_smaller : g.size high < g.size spot
 
--- what a spot looks at first
+-- what a spot tests first
 abbrev pub IsLook : {Spot : Type 0} → Graph Spot → List (List ℕ) → Spot → Look Spot → Type 0
 IsLook g places spot (Place number) = LeadsToOne g places spot number
 IsLook g places spot (Test track low high) = LeadsByTrack g spot track low high
 
--- a spot that leads each letter over the tracks to a given place
+-- a spot that maps each letter over the tracks to a given place
 pub record IsRowSpot {Spot : Type 0} (g : Graph Spot) (lead : ℕ → List ℕ) (spot : Spot) : Type 0 where
   pub read : g.can_read spot
   pub narrow : (a b : ℕ) → ((k : ℕ) → k < length g.walker.tracks → bit_at a k ≡ bit_at b k)
@@ -62,16 +62,16 @@ pub record IsRowAt {Spot : Type 0} (g : Graph Spot) (places : List (List ℕ)) (
   pub is : slice_get places number ≡ Some place
   pub row : IsRowSpot g (g.walker.next place) spot
 
--- under which number a key is remembered: none if it is whole
+-- the number under which a key is cached: none if it is whole
 abbrev pub mark_of : Bool → Option ℕ → Option ℕ
 mark_of true own = None
 mark_of false own = own
 
--- no key is remembered
+-- no key is cached
 abbrev pub AnswersNothing : {Spot : Type 0} → (Option ℕ → Spot → ℕ → Type 0) → Type 0
 AnswersNothing {Spot} answers = (own : Option ℕ) (spot : Spot) (node : ℕ) → ¬ answers own spot node
 
--- at most one key more is remembered
+-- at most one more key is cached
 pub record AddsKey {Spot : Type 0} (old new : Option ℕ → Spot → ℕ → Type 0) (own : Option ℕ) (spot : Spot) (node : ℕ) : Type
     0 where
   pub only : (o : Option ℕ) (s : Spot) (n : ℕ) → new o s n → old o s n ⊎ ((o ≡ own) × (s ≡ spot) × (n ≡ node))

@@ -16,7 +16,7 @@ pub record GivesClass (places : List (List ℕ)) (table : List ℕ) (shapes : Li
   pub place : List ℕ
   pub class_is : HasClass places table place (map_at shapes node letter)
 
--- a node that leads each letter over the tracks to the class of a given place
+-- a node that maps each letter over the tracks to the class of a given place
 pub record IsRowTo (w : Walker) (places : List (List ℕ)) (table : List ℕ) (shapes : List Shape) (lead : ℕ → List ℕ)
     (node : ℕ) : Type 0 where
   pub known : node < length shapes
@@ -24,7 +24,7 @@ pub record IsRowTo (w : Walker) (places : List (List ℕ)) (table : List ℕ) (s
   pub given : (letter : ℕ) → GivesClass places table shapes node letter
   pub leads : (letter : ℕ) → letter < 2 ^ length w.tracks → HasClass places table (lead letter) (map_at shapes node letter)
 
--- the row of the place that got a class first
+-- the row of the first place of a class
 pub record IsClassRow (w : Walker) (places : List (List ℕ)) (table owners : List ℕ) (shapes : List Shape)
     (class node : ℕ) : Type 0 where
   pub owner : List ℕ
@@ -36,14 +36,13 @@ pub record AreClassRows (w : Walker) (places : List (List ℕ)) (table owners : 
     (rows : List ℕ) : Type 0 where
   pub at : (class node : ℕ) → slice_get rows class ≡ Some node → IsClassRow w places table owners shapes class node
 
--- whether the places that got the classes first are accepting
+-- the accept flags of the classes' first places
 pub record AreClassFlags (w : Walker) (places : List (List ℕ)) (owners : List ℕ) (flags : List Bool) : Type 0 where
   pub size : length flags ≡ length owners
   pub at : (class : ℕ) (owner : List ℕ) → HasOwner places owners class owner
       → slice_index_or flags class false ≡ w.final owner
 
--- the automaton accepts the words that lead to accepting places. It has no more states, and words lead to no more places,
--- than may be
+-- the automaton accepts the words that reach accepting places; neither its states nor the places that words reach exceed the limit
 pub record IsMerged {Spot : Type 0} (g : Graph Spot) (m : Automaton) : Type 0 where
   pub tracks : m.tracks ≡ g.walker.tracks
   pub words : AcceptsWhere g.walker.tracks (λ word. IsTrue (g.walker.final (place_of g.walker word))) m
@@ -51,7 +50,7 @@ pub record IsMerged {Spot : Type 0} (g : Graph Spot) (m : Automaton) : Type 0 wh
   pub few : length m.accept ≤ g.most
   pub within : ¬ MoreThan g.walker g.most
 
--- the node of a spot, each place of which has a class
+-- the node of a spot, each of whose places has a class
 abbrev pub IsSettledIn : {R Spot Seen Memo : Type 0} → Graph Spot → (Seen → List (List ℕ))
     → Merging R Spot Seen Memo → Spot → ℕ → Type 0
 IsSettledIn g places m spot node = IsLedBy g (places m.led.seen) m.table.items m.led.to None spot node

@@ -15,7 +15,7 @@ place_of_state state = state ∷ []
 abbrev pub places_of_states : ℕ → List (List ℕ)
 places_of_states count = map place_of_state (range_with_len 0 count)
 
--- the places to which words lead are their states
+-- the place that a word reaches is its state
 abbrev pub state_walker : Automaton → Walker
 state_walker a = record {
   tracks = a.tracks;
@@ -35,7 +35,7 @@ pub record IsNodeOf (a : Automaton) (node : ℕ) : Type 0 where
   pub known : node < length a.shapes
   pub within : (letter : ℕ) → map_at a.shapes node letter < length a.accept
 
--- nodes lead letters to the places of states
+-- nodes map letters to the places of states
 abbrev pub state_graph : Automaton → Graph ℕ
 state_graph a = record {
   walker = state_walker a;
@@ -47,6 +47,6 @@ state_graph a = record {
   size = λ node. node;
 }
 
--- the key that is remembered of a node
+-- the cached key of a node
 pub record RemembersState (keys : List (Option NodeKey)) (own : Option ℕ) (spot node : ℕ) : Type 0 where
   pub held : slice_get keys spot ≡ Some (Some (record { node = node; own = own }))

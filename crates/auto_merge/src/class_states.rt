@@ -1,4 +1,4 @@
-//! The automaton over classes of places that lead to the same classes.
+//! The automaton over classes of places whose rows lead to the same classes.
 ghost use Rattle.std.specs.Prelude.{◌≡◌, ◌<◌, ◌≤◌, Err, length, IfOk, OnOk};
 ghost use Rattle.auto_core.specs.Reduced.{AllReached};
 ghost use Rattle.auto_core.specs.Words.{HasSameWords};
@@ -19,7 +19,7 @@ use auto_walk::Grown;
 use letter_diagram::Node;
 use std::alloc::{AllocError, Global};
 
-/// The node that leads a spot to classes. Its places that have none get one.
+/// Returns the node that maps a spot to classes. Places without a class get one.
 fn settled_node<R: RowSource>(
     rows: &R,
     spot: R::Spot,
@@ -45,7 +45,7 @@ fn settled_node<R: RowSource>(
     }
 }
 
-/// The row of a class: that of the place that got it first.
+/// Returns the row of a class: that of its first place.
 fn class_row<R: RowSource>(
     rows: &R,
     class: u32,
@@ -67,7 +67,7 @@ fn class_row<R: RowSource>(
     Ok(node)
 }
 
-/// The rows of all classes, those that get their first place on the way among them.
+/// Returns the rows of all classes, including those that get their first place meanwhile.
 fn class_rows<R: RowSource>(
     alloc: Global,
     rows: &R,
@@ -90,7 +90,7 @@ fn class_rows<R: RowSource>(
     Ok(nodes)
 }
 
-/// Whether the places that got the classes first are accepting.
+/// Returns the accept flags of the classes' first places.
 fn class_flags<R: RowSource>(
     alloc: Global,
     rows: &R,

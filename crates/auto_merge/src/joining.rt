@@ -1,4 +1,4 @@
-//! Whether a place may get the class of a place to which its row leads.
+//! Whether a place may get the class of a place that its row leads to.
 ghost use Rattle.std.specs.Prelude.{◌≡◌, ◌<◌, ◌≤◌, ℕ, None, length, IsTrue, IfSome};
 ghost use Rattle.letter_diagram.specs.Diagram.{map_at};
 ghost use Rattle.auto_merge.specs.declared.keys.TheConstants.{NO_CLASS};
@@ -8,8 +8,8 @@ use crate::keys::NO_CLASS;
 use letter_diagram::{Diagrams, Node, Shape};
 use limits::MOST_TRACKS;
 
-/// Whether the map of `key` is that of `row`, but for letters at which it is `NO_CLASS` and that of `row` is a class.
-/// Says no after so many steps.
+/// Returns whether the map of `key` equals that of `row`, except that `key` is `NO_CLASS` at letters where `row` has the class.
+/// Returns false after `steps` steps.
 pub fn agrees(shapes: &Diagrams, key: Node, row: Node, class: u32, steps: &mut u32) -> bool
     requires key_known { key < length shapes.now }
     requires row_known { row < length shapes.now }
@@ -35,7 +35,7 @@ pub fn agrees(shapes: &Diagrams, key: Node, row: Node, class: u32, steps: &mut u
     agrees(shapes, key_high, row_high, class, steps)
 }
 
-/// A class to which a key leads, where there is one.
+/// Returns a class that a key maps to, if there is one.
 pub fn first_class(shapes: &Diagrams, key: Node) -> Option<u32>
     requires { key < length shapes.now }
     ensures some { IfSome result (LeadsToClass shapes.now key) }

@@ -1,4 +1,4 @@
-//! The keys of spots that are led to the classes of places, of which some have none yet.
+//! The keys of spots that are mapped to the classes of places, some of which have no class yet.
 ghost use Rattle.std.specs.Prelude.{◌≡◌, IfErr, IfOk};
 ghost use Rattle.letter_diagram.specs.Diagram.{Grows};
 ghost use Rattle.auto_merge.specs.Keys.{class_in, IsLeafKey, IsLeafRefused, IsTestKey};
@@ -8,15 +8,15 @@ use auto_walk::Grown;
 use letter_diagram::{Diagrams, Node};
 use std::alloc::AllocError;
 
-/// Stands in place of the class of a place that has none yet. No class is so great, since no automaton has so many states.
+/// The entry of a place without a class. No class is this great, since no automaton has so many states.
 pub const NO_CLASS: u32 = 4_294_967_295;
 
 /// Why a spot has no key.
 #[derive(Drop)]
 pub enum NoKey {
-    /// It leads to the place of this number, which has no class.
+    /// It leads to the place with this number, which has no class.
     Unclassed(u32),
-    /// Words lead to more places than may be.
+    /// Words reach more places than the limit.
     Over,
     Memory,
 }
@@ -46,24 +46,24 @@ impl From<Grown> for NoKey {
     }
 }
 
-/// What grows as spots are led.
+/// The tables that grow as spots are mapped.
 #[derive(Drop)]
 pub struct Led<R: RowSource> {
-    /// The places that have a number.
+    /// The numbered places.
     pub seen: R::Seen,
-    /// The diagrams that keys are nodes of.
+    /// The diagrams whose nodes are keys.
     pub to: Diagrams,
     pub memo: R::Memo,
 }
 
-/// The class of a number. Past the table there is none.
+/// Returns the class of a number, or `NO_CLASS` if the table is too short.
 pub fn class_of(table: &[u32], number: u32) -> u32
     ensures { result ≡ class_in table.now number }
 {
     table.get(number as usize).copied().unwrap_or(NO_CLASS)
 }
 
-/// The key of a spot that leads to one place.
+/// Returns the key of a spot that leads to one place.
 pub fn leaf_key(
     table: &[u32],
     number: u32,
@@ -85,7 +85,7 @@ pub fn leaf_key(
     })
 }
 
-/// The key of a test of two keys.
+/// Returns the key of a test of two keys.
 pub fn test_key(node: Node, low: &Key, high: &Key) -> Key
     ensures { IsTestKey node low.now high.now result }
 {

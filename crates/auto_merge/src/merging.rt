@@ -1,4 +1,4 @@
-//! Classes that are given to places one by one.
+//! Classes that are assigned to places one by one.
 ghost use Rattle.std.specs.Prelude.{◌≡◌, ◌↔◌, ◌<◌, ◌≤◌, ◌^◌, ◌++◌, ◌∷◌, [], ℕ, Err, length, IfErr, IfOk, IfSome, OnOk, IsTrue, true, false};
 ghost use Rattle.auto_merge.specs.declared.keys.TheConstants.{NO_CLASS};
 ghost use Rattle.auto_merge.specs.Keys.{class_in};
@@ -10,29 +10,29 @@ use crate::rows::{Key, RowSource};
 use letter_diagram::{Diagrams, Node};
 use std::alloc::{AllocError, Global};
 
-/// How many pairs of nodes are compared at most before a place is taken to differ from another.
+/// The maximum number of pairs of nodes compared before two places are taken to differ.
 const MOST_STEPS: u32 = 1000;
 
-/// The classes of places that have one, and what was led to them.
+/// The classes assigned so far, and the keys of rows.
 #[derive(Drop)]
 pub struct Merging<R: RowSource> {
-    /// The class of each place that has a number, as far as the table goes, `NO_CLASS` where it has none yet.
+    /// The class of each numbered place, or `NO_CLASS`; places after the end of the table have none.
     pub table: Vec<u32>,
-    /// For each class the number of the place that got it first.
+    /// For each class, the number of its first place.
     pub owners: Vec<u32>,
-    /// The class of each key of the row of an accepting place, by the key's number, as far as the list goes; `NO_CLASS` where it has none.
+    /// The class of each key of an accepting place's row, by the key's number, or `NO_CLASS`; keys after the end have none.
     keyed_final: Vec<u32>,
-    /// The same of places that are not accepting.
+    /// The same for places that do not accept.
     keyed: Vec<u32>,
-    /// Whether some place got a class of its own without a key. What is said of the classes holds whatever this is: where it is wrongly
-    /// false, places that are alike may stay apart, and where it is wrongly true, a reduction is made for nothing.
+    /// Whether some place got a class of its own without a key. The contracts do not depend on it: if it is wrongly false,
+    /// equivalent places may stay separate; if it is wrongly true, a minimization is done for nothing.
     pub has_own: bool,
     pub led: Led<R>,
-    /// Whether each place is being visited, as far as the list goes. One past it is not.
+    /// Whether each place is being visited; places after the end are not.
     pub visited: Vec<bool>,
 }
 
-/// No place has a class.
+/// Returns tables in which no place has a class.
 pub fn no_classes<R: RowSource>(alloc: Global, rows: &R) -> Result<Merging<R>, AllocError>
     ensures { IfOk result (IsMerging (R.graph rows.now) (R.places rows.now) R.answers) }
 {
@@ -51,7 +51,7 @@ pub fn no_classes<R: RowSource>(alloc: Global, rows: &R) -> Result<Merging<R>, A
     })
 }
 
-/// The diagrams that spots were led to nodes of.
+/// Returns the diagrams whose nodes are the keys.
 pub fn into_diagrams<R: RowSource>(merging: Merging<R>) -> Diagrams
     ensures { result ≡ merging.led.to }
 {
@@ -60,7 +60,7 @@ pub fn into_diagrams<R: RowSource>(merging: Merging<R>) -> Diagrams
     to
 }
 
-/// Makes room for the classes of the numbers below `count`.
+/// Extends the table to the numbers below `count`.
 fn make_room(table: &mut Vec<u32>, count: usize) -> Result<(), AllocError>
     ensures same { (number : ℕ) → class_in table.new.items number ≡ class_in table.old.items number }
     ensures room { OnOk result (IsRoomMade table.old.items table.new.items count) }
@@ -71,7 +71,7 @@ fn make_room(table: &mut Vec<u32>, count: usize) -> Result<(), AllocError>
     Ok(())
 }
 
-/// Gives a number a class.
+/// Assigns a class to a number.
 fn give(table: &mut Vec<u32>, number: u32, class: u32) -> Result<(), AllocError>
     requires new { class_in table.old.items number ≡ NO_CLASS }
     requires class { class < 2 ^ 31 }
@@ -82,7 +82,7 @@ fn give(table: &mut Vec<u32>, number: u32, class: u32) -> Result<(), AllocError>
     Ok(())
 }
 
-/// A new class, that a number is the first to get.
+/// Creates a class whose first place has this number.
 fn new_class(owners: &mut Vec<u32>, number: u32) -> Result<u32, AllocError>
     requires { length owners.old.items < 2 ^ 31 }
     ensures class { IfOk result (λ class. class ≡ length owners.old.items) }
@@ -93,7 +93,7 @@ fn new_class(owners: &mut Vec<u32>, number: u32) -> Result<u32, AllocError>
     Ok(class)
 }
 
-/// Gives a number a class of its own.
+/// Assigns a new class to a number.
 pub fn assign_new_class<R: RowSource>(
     rows: &R,
     number: u32,
@@ -112,7 +112,7 @@ pub fn assign_new_class<R: RowSource>(
     Ok(())
 }
 
-/// The class of a key, or a new one where it has none, that a number is the first to get.
+/// Returns the class of a key, or a new one, whose first place has this number, if the key has none.
 fn class_of_key(
     keyed: &mut Vec<u32>,
     key: Node,
@@ -132,7 +132,7 @@ fn class_of_key(
     Ok(class)
 }
 
-/// Gives a number the class that has its key, or one of its own where the key is new.
+/// Assigns to a number the class of its key, or a new one if the key is new.
 fn give_by_key<R: RowSource>(
     rows: &R,
     number: u32,
@@ -156,7 +156,7 @@ fn give_by_key<R: RowSource>(
     Ok(())
 }
 
-/// The node that leads the row of a number to classes, where it is remembered that each of its places has one.
+/// Returns the node that maps the row of a number to classes, if the cache says that each of its places has one.
 fn whole_row<R: RowSource>(rows: &R, number: u32, merging: &Merging<R>) -> Option<Node>
     requires merging { IsMerging (R.graph rows.now) (R.places rows.now) R.answers merging.now }
     requires known { number < length (R.places rows.now merging.now.led.seen) }
@@ -167,7 +167,7 @@ fn whole_row<R: RowSource>(rows: &R, number: u32, merging: &Merging<R>) -> Optio
     Some(key.node)
 }
 
-/// Whether a number may get a class to which its key leads.
+/// Returns whether a number may get a class that its key maps to.
 fn can_join<R: RowSource>(
     rows: &R,
     number: u32,
@@ -194,7 +194,7 @@ fn can_join<R: RowSource>(
     agrees(&merging.led.to, key.node, row, class, &mut steps)
 }
 
-/// Gives a number the class of another with the same row.
+/// Assigns to a number the class of another number with the same row.
 fn give_shared<R: RowSource>(
     rows: &R,
     number: u32,
@@ -212,7 +212,7 @@ fn give_shared<R: RowSource>(
     Ok(())
 }
 
-/// Gives a number a class to which its key leads, if it may have that of the first. Whether it may.
+/// Assigns to a number a class that its key maps to, if it may have that of the first such class. Returns whether it may.
 fn give_led<R: RowSource>(
     rows: &R,
     number: u32,
@@ -237,7 +237,7 @@ fn give_led<R: RowSource>(
     Ok(true)
 }
 
-/// Gives a number whose row has a key a class: one to which the row leads, the class of the key, or one of its own.
+/// Assigns a class to a number whose row has a key: one that the row maps to, the class of the key, or a new one.
 pub fn assign_class<R: RowSource>(
     rows: &R,
     number: u32,

@@ -1,4 +1,4 @@
-//! Where rows come from: spots that lead letters to places, as the nodes of an automaton lead them to states.
+//! The source of rows: spots map letters to places, as the nodes of an automaton map them to states.
 ghost use Rattle.std.specs.Prelude.{◌≡◌, ◌<◌, List, ℕ, Option, length, IfOk, IfSome};
 ghost use Rattle.auto_walk.specs.Walker.{AreTracks, MoreThan};
 ghost use Rattle.auto_walk.specs.Rows.{Extends, IsFlagOf};
@@ -9,16 +9,16 @@ use letter_diagram::Node;
 use std::alloc::{AllocError, Global};
 use track_word::Var;
 
-/// What a spot looks at first.
+/// What a spot tests first.
 #[derive(Clone, Copy)]
 pub enum Look<Spot> {
-    /// It leads each letter to the place of this number.
+    /// It maps each letter to the place with this number.
     Place(u32),
-    /// A track, and the spots at its bit 0 and bit 1.
+    /// A track, and the spots at its bits 0 and 1.
     Test { track: u8, low: Spot, high: Spot },
 }
 
-/// A node that leads to classes, and to `NO_CLASS` where a row leads to the place whose row it is.
+/// A node that maps letters to classes, and to `NO_CLASS` where a row leads to its own place.
 #[derive(Clone, Copy)]
 pub struct Key {
     pub node: Node,
@@ -26,18 +26,18 @@ pub struct Key {
     pub whole: bool,
 }
 
-/// The rows of places: a first row, which leads sign letters, and one for each place, which leads further letters. A row is a spot, which
-/// leads each letter to a place by the bits that it looks at.
-/// What grows as spots are looked at stands apart: the places that have a number so far, and the keys that spots were led to.
-/// Clauses see a place as a list of numbers: one state, or a pair of states.
+/// The rows of places: a first row for sign letters, and a row for each place for further letters. A row is a spot, which maps
+/// letters to places by the bits that it tests.
+/// The tables that grow are separate: the numbered places, and the cache of keys. Contracts see a place as a list of numbers, such
+/// as one state or a pair of states.
 pub trait RowSource {
     /// A node, or a pair of nodes.
     type Spot: Copy;
 
-    /// Places, numbered in the order in which they were first seen.
+    /// Places, numbered in the order of discovery.
     type Seen: Drop;
 
-    /// Keys of spots. A memo may forget some.
+    /// A lossy cache of keys by spot.
     type Memo: Drop;
 
     ghost graph: { Self → Graph Self.Spot };
@@ -46,43 +46,44 @@ pub trait RowSource {
 
     ghost answers: { Self.Memo → Option ℕ → Self.Spot → ℕ → Type 0 };
 
-    /// The tracks of the words, ascending.
+    /// Returns the tracks of the words in ascending order.
     fn tracks(&self) -> &[Var]
         ensures tracks { result.now ≡ (graph self.now).walker.tracks }
         ensures valid { AreTracks (graph self.now).walker.tracks };
 
-    /// The places that have a number from the start.
+    /// Returns the places that are numbered at the start. Errors: an allocation failed.
     fn new_seen(&self, alloc: Global) -> Result<Self::Seen, AllocError>
         ensures { IfOk result (λ seen. AreSeen (graph self.now) (places self.now seen)) };
 
-    /// No spot has a key.
+    /// Returns an empty cache. Errors: an allocation failed.
     fn new_memo(&self, alloc: Global) -> Result<Self::Memo, AllocError>
         ensures { IfOk result (λ memo. AnswersNothing (answers memo)) };
 
-    /// About how many nodes they are led to, so that there is room for them: any number will do.
+    /// Estimates the number of nodes of the result, to reserve room; any number is correct.
     fn nodes(&self) -> usize;
 
-    /// How many places are numbered.
+    /// Returns the number of numbered places.
     fn count(&self, seen: &Self::Seen) -> usize
         ensures { result ≡ length (places self.now seen.now) };
 
-    /// The row of sign letters.
+    /// Returns the row of sign letters.
     fn first(&self) -> Self::Spot
         ensures { IsRowSpot (graph self.now) (graph self.now).walker.first result };
 
-    /// The row of a numbered place.
+    /// Returns the row of a numbered place.
     fn row(&self, seen: &Self::Seen, number: u32) -> Self::Spot
         requires seen { AreSeen (graph self.now) (places self.now seen.now) }
         requires known { number < length (places self.now seen.now) }
         ensures { IsRowAt (graph self.now) (places self.now seen.now) number result };
 
-    /// Whether a numbered place is accepting.
+    /// Returns whether a numbered place accepts.
     fn is_final(&self, seen: &Self::Seen, number: u32) -> bool
         requires seen { AreSeen (graph self.now) (places self.now seen.now) }
         requires known { number < length (places self.now seen.now) }
         ensures { IsFlagOf (graph self.now).walker (places self.now seen.now) number result };
 
-    /// What a spot looks at first. A place that is new gets a number. `Over` where words lead to more places than may be.
+    /// Returns what a spot tests first. Numbers a new place. Errors: `Over` if words reach more places than the limit, `Memory` if
+    /// an allocation fails.
     fn look(&self, spot: Self::Spot, seen: &mut Self::Seen) -> Result<Look<Self::Spot>, Grown>
         requires read { (graph self.now).can_read spot }
         requires seen { AreSeen (graph self.now) (places self.now seen.old) }
@@ -91,11 +92,11 @@ pub trait RowSource {
         ensures kept { Extends (places self.now seen.old) (places self.now seen.new) }
         ensures over { result ≡ Err Grown.Over → MoreThan (graph self.now).walker (graph self.now).most };
 
-    /// The key of a spot, as it is remembered in the row of a place, or where each place has a class.
+    /// Returns the cached key of a spot, in the row of a place or valid in each row.
     fn recall(&self, memo: &Self::Memo, spot: Self::Spot, own: Option<u32>) -> Option<Key>
         ensures { IfSome result (λ key. answers memo.now (mark_of key.whole own) spot key.node) };
 
-    /// One more key: for good if it is whole, else in the row of a place.
+    /// Stores a key, for each row if it is whole, and for the row of a place otherwise.
     fn remember(
         &self,
         memo: &mut Self::Memo,

@@ -17,18 +17,18 @@ pub struct AutomatonRows<'a> {
     pub a: &'a Auto,
 }
 
-/// All states are numbered from the start, each by itself.
+/// All states, numbered from the start by themselves.
 #[derive(Drop)]
 pub struct AllStates;
 
-/// The key of a node. One that is not whole serves in the row of one state.
+/// The key of a node. One that is not whole is valid in the row of one state only.
 #[derive(Clone, Copy)]
 struct NodeKey {
     node: Node,
     own: Option<u32>,
 }
 
-/// Keys of the nodes of one `Diagrams`, by the nodes' numbers: for each node the last that it was led to.
+/// A cache of keys by the numbers of the nodes of one `Diagrams`: for each node its last key.
 #[derive(Drop)]
 pub struct NodeKeys {
     keys: Vec<Option<NodeKey>>,

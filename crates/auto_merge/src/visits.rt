@@ -1,4 +1,4 @@
-//! RowSource that are led to classes. Places on the way that have none are visited first: each gets one behind those to which its row leads.
+//! Rows mapped to classes. Places without a class are visited first: each gets one after the places that its row leads to.
 ghost use Rattle.std.specs.Prelude.{◌≡◌, ◌<◌, length, None, IfErr, IfOk, OnOk};
 ghost use Rattle.auto_merge.specs.Keys.{IsLeafKey};
 ghost use Rattle.auto_merge.specs.Merging.{IsMerging, Keeps, IsUnclassedIn, IsSpotKeyIn, IsNoSpotKeyIn, IsRowKeyIn};
@@ -9,25 +9,25 @@ use crate::merging::{Merging, assign_class, assign_new_class};
 use crate::rows::{Key, Look, RowSource};
 use std::alloc::AllocError;
 
-/// How many places are visited at most, each within the visit of the one before.
+/// The maximum depth of nested visits.
 const DEPTH: u32 = 200;
 
-/// How a row is led.
+/// The parameters of mapping a row.
 #[derive(Drop)]
 struct Visit<'a, R: RowSource> {
     rows: &'a R,
-    /// The number of the place whose row it is. It may have no class; with none, each place must have one.
+    /// The number of the place whose row it is, which may have no class; if none, each place must have a class.
     own: Option<u32>,
-    /// How many places may be visited yet, each within the visit of the one before.
+    /// The remaining depth of nested visits.
     depth: u32,
 }
 
-/// Whether a place is being visited.
+/// Returns whether a place is being visited.
 fn is_visited(visited: &[bool], number: u32) -> bool {
     visited.get(number as usize).copied().unwrap_or(false)
 }
 
-/// Says whether a place is being visited.
+/// Sets whether a place is being visited.
 fn mark(visited: &mut Vec<bool>, number: u32, is_visited: bool) -> Result<(), AllocError> {
     let place = number as usize;
     if place >= visited.len() {
@@ -37,9 +37,9 @@ fn mark(visited: &mut Vec<bool>, number: u32, is_visited: bool) -> Result<(), Al
     Ok(())
 }
 
-/// The key of a spot: it leads to the class of each place, of which only the visit's own may have none. Other places on the way that
-/// have none get one first. There is no key where a way leads back to a place that is being visited, or through more places than may be.
-/// Costs the spots that are not remembered.
+/// Returns the key of a spot: it maps to the class of each place, of which only the visit's own may have none. Other places without
+/// a class get one first. There is no key if a path leads back to a place that is being visited, or through more places than the
+/// limit. Costs the spots that are not cached.
 #[cycle(key_of)]
 #[inline(always)]
 fn key_of<R: RowSource>(
@@ -60,7 +60,7 @@ fn key_of<R: RowSource>(
     }
 }
 
-/// The key of a spot that is not remembered. It is from now on.
+/// Returns the key of a spot that is not cached, and caches it.
 #[cycle(key_of)]
 fn made_key<R: RowSource>(
     visit: &Visit<R>,
@@ -81,7 +81,7 @@ fn made_key<R: RowSource>(
     Ok(key)
 }
 
-/// The key of a spot by what it looks at first.
+/// Returns the key of a spot by what it tests first.
 #[cycle(key_of)]
 fn fresh_key<R: RowSource>(
     visit: &Visit<R>,
@@ -106,7 +106,7 @@ fn fresh_key<R: RowSource>(
     }
 }
 
-/// The key of a spot that leads to the place of this number.
+/// Returns the key of a spot that leads to the place with this number.
 #[cycle(key_of)]
 fn place_key<R: RowSource>(
     visit: &Visit<R>,
@@ -131,8 +131,8 @@ fn place_key<R: RowSource>(
     )
 }
 
-/// Gives a place a class behind those to which its row leads, within the visit of another. Where a way from it leads back to a place
-/// that is being visited, it gets one of its own.
+/// Assigns a class to a place after those that its row leads to, within the visit of another. If a path from it leads back to a
+/// place that is being visited, it gets a class of its own.
 #[cycle(key_of)]
 fn visit_within<R: RowSource>(
     visit: &Visit<R>,
@@ -165,7 +165,7 @@ fn visit_within<R: RowSource>(
     }
 }
 
-/// Leads the row of a place once more that was the first to get its class by a key that is not whole: it is remembered so.
+/// Maps the row of a class's first place again, if its key was not whole, so that the result is cached.
 #[cycle(key_of)]
 fn keep_row<R: RowSource>(
     within: &Visit<R>,
@@ -195,7 +195,7 @@ fn keep_row<R: RowSource>(
     }
 }
 
-/// Gives a place a class by the key of its row, unless it has one by now.
+/// Assigns a class to a place by the key of its row, unless it has one.
 fn give_visited<R: RowSource>(
     rows: &R,
     number: u32,
@@ -213,8 +213,8 @@ fn give_visited<R: RowSource>(
     assign_class(rows, number, key, merging)
 }
 
-/// Ends the visit of a place whose row leads to another one without a class. If that one is being visited, a way led back to it: then
-/// the place gets a class of its own, unless it has one by now.
+/// Ends the visit of a place whose row leads to another one without a class. If that one is being visited, the path is a cycle, and
+/// the place gets a class of its own, unless it has one.
 fn turn_back<R: RowSource>(
     rows: &R,
     number: u32,
@@ -238,7 +238,7 @@ fn turn_back<R: RowSource>(
     Ok(())
 }
 
-/// Gives a place a class behind those to which its row leads, unless it leads to one that has none.
+/// Assigns a class to a place after those that its row leads to, unless one of them has none.
 pub fn classify_place<R: RowSource>(
     rows: &R,
     number: u32,
@@ -258,7 +258,7 @@ pub fn classify_place<R: RowSource>(
     visit_within(&visit, number, merging)
 }
 
-/// The key of a spot, where each place has a class. Those on the way that have none get one first.
+/// Returns the key of a spot in which each place has a class; places without one get one first.
 pub fn spot_key<R: RowSource>(
     rows: &R,
     spot: R::Spot,

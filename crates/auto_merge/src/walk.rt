@@ -1,4 +1,4 @@
-//! The order in which places get their classes: those that a row leads to before the place whose row it is.
+//! The order in which places get their classes: depth first, the successors of a row before its place.
 ghost use Rattle.std.specs.Prelude.{◌≡◌, ◌<◌, ◌≤◌, ◌+◌, Err, length, IfOk, OnOk, true, false};
 ghost use Rattle.auto_walk.specs.Walker.{MoreThan};
 ghost use Rattle.auto_walk.specs.Rows.{Extends};
@@ -12,15 +12,15 @@ use crate::visits::classify_place;
 use auto_walk::Grown;
 use std::alloc::{AllocError, Global};
 
-/// A walk over numbers of places, depth first: those on the way, and those that were entered.
+/// A depth-first traversal of place numbers: those on the stack, and those that were entered.
 #[derive(Drop)]
 pub struct Trail {
     numbers: Vec<u32>,
-    /// Whether each number was entered, as far as the list goes. One past it was not.
+    /// Whether each number was entered; numbers after the end were not.
     entered: Vec<bool>,
 }
 
-/// No number was entered.
+/// Returns an empty traversal.
 pub fn no_trail(alloc: Global) -> Trail
     ensures { IsTrail 0 result }
 {
@@ -30,7 +30,7 @@ pub fn no_trail(alloc: Global) -> Trail
     }
 }
 
-/// Makes room for the numbers below `count`.
+/// Extends the table to the numbers below `count`.
 fn make_room(entered: &mut Vec<bool>, count: usize) -> Result<(), AllocError>
     ensures { OnOk result (IsRoomMade entered.old.items entered.new.items count) }
 {
@@ -40,7 +40,7 @@ fn make_room(entered: &mut Vec<bool>, count: usize) -> Result<(), AllocError>
     Ok(())
 }
 
-/// Whether a number was not entered; it is from now on.
+/// Enters a number. Returns whether it is new.
 fn enter(way: &mut Trail, number: u32) -> Result<bool, AllocError>
     ensures numbers { way.new.numbers ≡ way.old.numbers }
     ensures entered { IfOk result (IsEntered way.old.entered.items way.new.entered.items number) }
@@ -52,7 +52,7 @@ fn enter(way: &mut Trail, number: u32) -> Result<bool, AllocError>
     Ok(is_new)
 }
 
-/// Puts a number on the way, and another one that comes first, unless that one was entered; it is from now on. Whether it was not.
+/// Pushes a number, and another one that comes first, unless that one was entered. Returns whether that one is new.
 fn turn_to(way: &mut Trail, number: u32, next: u32) -> Result<bool, AllocError>
     ensures { OnOk result (IsTurned number next way.old way.new) }
 {
@@ -64,8 +64,8 @@ fn turn_to(way: &mut Trail, number: u32, next: u32) -> Result<bool, AllocError>
     Ok(true)
 }
 
-/// Goes on with a number whose row leads to another one without a class: that one comes first, and the row is led again behind it, but
-/// for what leads to classes alone. Where it was entered, a way led back to it: then the number gets a class of its own.
+/// Postpones a number whose row leads to an unclassified one: that one is classified first, then the row is mapped again. If that
+/// one was entered before, the path is a cycle, and the number gets a class of its own.
 fn put_off<R: RowSource>(
     rows: &R,
     number: u32,
@@ -90,7 +90,7 @@ fn put_off<R: RowSource>(
     Ok(())
 }
 
-/// Gives a number a class, unless its row leads to one that has none and was not entered.
+/// Assigns a class to a number, unless its row leads to an unclassified one that was not entered.
 fn visit<R: RowSource>(
     rows: &R,
     number: u32,
@@ -122,7 +122,7 @@ fn visit<R: RowSource>(
     }
 }
 
-/// Gives a class to the numbers on a way and to those to which they lead.
+/// Assigns classes to the numbers on the stack and to those that they lead to.
 fn follow<R: RowSource>(rows: &R, merging: &mut Merging<R>, way: &mut Trail) -> Result<(), Grown>
     requires merging { IsMerging (R.graph rows.now) (R.places rows.now) R.answers merging.old }
     requires way { IsTrailIn (R.places rows.now) merging.old way.old }
@@ -137,7 +137,7 @@ fn follow<R: RowSource>(rows: &R, merging: &mut Merging<R>, way: &mut Trail) -> 
     Ok(())
 }
 
-/// Begins a way at a number, if it was not entered.
+/// Starts a traversal at a number that was not entered.
 fn start<R: RowSource>(
     rows: &R,
     number: u32,
@@ -159,8 +159,8 @@ fn start<R: RowSource>(
     follow(rows, merging, way)
 }
 
-/// Gives a number a class, after those to which its row leads, but for those from which a way leads back;
-/// nothing but the number of classes hangs on that order.
+/// Assigns a class to a number, after those that its row leads to, except where a path leads back to it. Only the number of classes
+/// depends on that order.
 pub fn class_from<R: RowSource>(
     rows: &R,
     number: u32,

@@ -6,12 +6,12 @@ use Rattle.auto_walk.specs.Walker.{Walker, IsReached}
 use Rattle.auto_bool.specs.Both.{place_of_pair}
 use Rattle.auto_merge.specs.Graph.{Graph}
 
--- two nodes that lead each letter to a pair of states to which some word leads
+-- two nodes that map each letter to a pair of states that some word reaches
 pub record CanLead (sides : Sides) (shapes : List Shape) (walker : Walker) (spot : ℕ × ℕ) : Type 0 where
   pub read : CanBePaired sides shapes spot.0 spot.1
   pub reached : (letter : ℕ) → IsReached walker (place_of_pair (pair_at sides shapes spot.0 spot.1 letter))
 
--- two nodes, one of each side, lead letters to the pairs of their values
+-- two nodes, one of each operand, map letters to the pairs of their values
 abbrev pub pair_graph : Sides → List Shape → Walker → ℕ → Graph (ℕ × ℕ)
 pair_graph sides shapes walker most = record {
   walker = walker;

@@ -10,13 +10,13 @@ use letter_diagram::probing::{place, scatter, slots_for};
 use std::alloc::{AllocError, Global};
 use std::marker::Model;
 
-/// The row of a slot that is free.
+/// The row of a free slot.
 const FREE: u32 = 4_294_967_295;
 
-/// The row of a key that is whole. No place has so great a number.
+/// The row of a whole key, which is valid in each row. No place has such a great number.
 const EACH_ROW: u32 = 4_294_967_294;
 
-/// A pair of nodes, the node that it was led to, and the number of the place in whose row that holds.
+/// A pair of nodes, its key's node, and the number of the place in whose row the key is valid.
 #[derive(Clone, Copy)]
 pub struct KeySlot {
     left: Node,
@@ -26,7 +26,7 @@ pub struct KeySlot {
 }
 
 impl KeySlot {
-    /// A free slot. It holds any node.
+    /// Returns a free slot. Its nodes are arbitrary.
     fn free(any: Node) -> KeySlot
         ensures { result.row ≡ FREE }
     {
@@ -38,7 +38,7 @@ impl KeySlot {
         }
     }
 
-    /// The key in the row of a place, or where each place has a class.
+    /// Returns the key in the row of a place, or valid in each row.
     fn key(self, own: Option<u32>) -> Option<Key>
         ensures { IfSome result (IsKeyOfSlot self own) }
     {
@@ -58,7 +58,7 @@ impl KeySlot {
     }
 }
 
-/// In which row a key serves, where its slot can say so.
+/// Returns the row in which a key is valid, if a slot can store it.
 fn row_of(key: &Key, own: Option<u32>) -> Option<u32>
     ensures { IfSome result (IsRowOf (mark_of key.now.whole own)) }
 {
@@ -72,7 +72,7 @@ fn row_of(key: &Key, own: Option<u32>) -> Option<u32>
     }
 }
 
-/// Puts a pair of nodes into the slot that it has, or into the first that is free. Whether that was free.
+/// Writes a pair of nodes into its slot, or into the first free one. Returns whether that slot was free.
 fn put(slots: &mut [KeySlot], new: KeySlot) -> bool
     ensures { LearnsSlot slots.old slots.new new }
 {
@@ -88,8 +88,8 @@ fn put(slots: &mut [KeySlot], new: KeySlot) -> bool
     false
 }
 
-/// Keys of pairs of nodes, in an open table: for each pair the last that it was led to. It may forget: no key is one that was put in
-/// for another pair or another row, but one that was put in may be missing.
+/// A cache of keys by pairs of nodes, as an open-addressing hash table: for each pair its last key. It is lossy: it never returns
+/// the key of another pair or row, but a stored key may be missing.
 #[derive(Drop)]
 pub struct KeyMemo {
     slots: Vec<KeySlot>,
@@ -107,7 +107,7 @@ impl Model for KeyMemo {
 }
 
 impl KeyMemo {
-    /// No pair has a key, and there is room for so many. Free slots hold any node.
+    /// Returns an empty cache with room for `pairs` pairs. Free slots have the node `any`.
     pub fn with_capacity(alloc: Global, pairs: usize, any: Node) -> Result<Self, AllocError>
         ensures { IfOk result (λ memo. AnswersNothing (AnswersKey memo)) }
     {
@@ -117,7 +117,7 @@ impl KeyMemo {
         })
     }
 
-    /// The key of a pair in the row of a place, or where each place has a class.
+    /// Returns the key of a pair in the row of a place, or valid in each row, if there is one.
     pub fn get(&self, left: Node, right: Node, own: Option<u32>) -> Option<Key>
         ensures { IfSome result (λ key. AnswersKey self.now (mark_of key.whole own) (left, right) key.node) }
     {
@@ -134,7 +134,7 @@ impl KeyMemo {
         None
     }
 
-    /// The key of a pair, in the row of a place or in each. It is not remembered where the place's number is 2^32 - 2 or more.
+    /// Stores the key of a pair, for the row of a place or for each row. Drops it if the place's number is 2^32 - 2 or more.
     pub fn insert(
         &mut self,
         left: Node,
@@ -168,7 +168,7 @@ impl KeyMemo {
         Ok(())
     }
 
-    /// Twice as many slots, with the same keys. Free slots hold any node.
+    /// Returns twice as many slots with the same keys. Free slots have the node `any`.
     fn grown(&self, any: Node) -> Result<Vec<KeySlot>, AllocError>
         ensures only { IfOk result (λ grown. AreTakenFrom self.now grown.items) }
         ensures more { IfOk result (λ grown. length self.now + 2 ≤ length grown.items) }

@@ -1,7 +1,7 @@
-//! The product of two automata and its merging in one walk: a pair of nodes leads to classes as soon as its pairs of states have
-//! some, so that no state of the product is made that is merged with another.
-//! `pair_rows` reads the pairs of states and of nodes as `auto_merge` asks for them, `key_memo` remembers pairs of nodes that were led,
-//! and `merged` decides how many pairs of states there may be.
+//! Computes the product of two automata and merges its states in one pass.
+//! A pair of nodes is mapped to classes as soon as its pairs of states have classes, so no state of the product is built that is
+//! merged with another one. `pair_rows` reads pairs of states and nodes as a `RowSource` of `auto_merge`, `key_memo` caches keys of
+//! pairs of nodes, and `merged` selects how many pairs of states are allowed.
 #![tactic(auto)]
 
 mod key_memo;

@@ -16,12 +16,13 @@ use diagram_product::Absorbing;
 use limits::{Budget, MOST_TRACKS};
 use std::alloc::Global;
 
-/// The automaton that `auto_merge::merge` makes of the product of two automata, made at once: of the words over the tracks of both that
-/// the connective takes, each word read on the argument's own tracks, of any two automata, reduced or not. Pairs of states with one flag
-/// whose rows lead to the same states are one. Where the budget has room for all pairs of states, those in which a side decides for
-/// good are one before that. `Over` where the pairs that words lead to are more than the budget. Only of reduced automata does that say
-/// how many words the step has to tell apart: on the reduced automata for the same words it may still be within. Costs the pairs of
-/// nodes that are met over all rows together, and where ways lead back to a pair through others, the reduction of what that leaves.
+/// Returns the product of any two automata, minimal or not, with equivalent states merged as `auto_merge::merge` does: the
+/// automaton over the tracks of both that accepts by the connective, each operand reading its own tracks.
+/// Pairs of states with one flag whose rows lead to the same states are one state. If the budget has room for all pairs of states,
+/// the pairs in which one operand decides alone are one state before that. Costs the pairs of nodes that are visited over all rows,
+/// and a minimization if there are cycles through several pairs.
+/// Errors: `Over` if words reach more pairs than the budget. Only for minimal operands does this mean that the step needs more
+/// states than the budget.
 pub fn merged_product_within(
     alloc: Global,
     a: &Auto,
@@ -49,7 +50,8 @@ pub fn merged_product_within(
     Ok(m)
 }
 
-/// With one pair for all in which one side decides for good: how many pairs words lead to is not seen.
+/// Returns the product with one pair for all pairs in which one operand decides alone. The number of pairs that words reach is
+/// unknown.
 fn absorbed_product(
     alloc: Global,
     a: &Auto,
@@ -71,7 +73,7 @@ fn absorbed_product(
     Ok(m)
 }
 
-/// With each pair of states that words lead to for itself.
+/// Returns the product over each pair of states that words reach.
 fn exact_product(
     alloc: Global,
     a: &Auto,

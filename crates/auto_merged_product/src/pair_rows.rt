@@ -19,7 +19,7 @@ use limits::{Budget, MOST_TRACKS};
 use std::alloc::{AllocError, Global};
 use track_word::Var;
 
-/// Two automata, and how a product combines their flags.
+/// Two automata, and the connective of their product.
 #[derive(Drop)]
 pub struct Factors<'a> {
     pub left: &'a Auto,
@@ -27,14 +27,14 @@ pub struct Factors<'a> {
     pub connective: Connective,
 }
 
-/// Pairs of states of two automata as places, and pairs of nodes as spots. One pair of states stands for all that have an absorbing
-/// state. Words may lead to as many pairs as the budget says.
+/// Pairs of states of two automata as places, and pairs of nodes as spots. One pair represents all pairs with an absorbing state.
+/// Words may reach at most as many pairs as the budget.
 #[derive(Drop)]
 pub struct PairRows<'a> {
     factors: Factors<'a>,
     tracks: Vec<Var>,
     sides: TwoSides<LentReader<'a>>,
-    /// Has no node. Both sides are read where they stand.
+    /// Diagrams without nodes: both operands are read in place.
     none: Diagrams,
     budget: Budget,
     ghost are_tracks: { AreTracks tracks.items },
@@ -44,6 +44,7 @@ pub struct PairRows<'a> {
 }
 
 impl<'a> PairRows<'a> {
+    /// Creates the rows of the pairs of states of two automata. Errors: an allocation failed.
     pub fn new(
         alloc: Global,
         factors: Factors<'a>,
@@ -74,7 +75,8 @@ impl<'a> PairRows<'a> {
     }
 }
 
-/// The number of a pair, which is added where it is new. `Over` where it would be one more than the budget.
+/// Returns the number of a pair, and adds it if it is new. Errors: `Over` if it would exceed the budget, `Memory` if an allocation
+/// fails.
 fn number_within(pairs: &mut Pairs, left: u32, right: u32, budget: Budget) -> Result<u32, Grown>
     requires { length pairs.old ≤ budget }
     ensures number { IfOk result (λ number. slice_get pairs.new number ≡ Some (left, right)) }
