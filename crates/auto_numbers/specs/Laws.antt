@@ -1,4 +1,4 @@
--- What is answered of the numbers in a set, the set alone decides.
+-- The results for the numbers in a set depend on the set only.
 use Rattle.std.specs.Prelude.{◌≡◌, ℕ, Option}
 use Rattle.auto_core.specs.Automaton.{Automaton}
 use Rattle.auto_numbers.specs.declared.largest.Greatest.{Greatest}

@@ -1,13 +1,13 @@
-//! Numbers of so many bits.
+//! Numbers with a limited number of bits.
 ghost use Rattle.std.specs.Prelude.{◌≡◌, ◌^◌, ◌≤◌};
 
-/// Numbers of at most so many bits are searched for the next one.
+/// The next number is searched among numbers of at most this many bits.
 pub const MOST_BITS: u8 = 101;
 
-/// The greatest number of a set is told where it has at most so many bits.
+/// The greatest number of a set is returned if it has at most this many bits.
 pub const GREATEST_BITS: u8 = 100;
 
-/// The power of 2.
+/// Returns 2 to the power of `exponent`.
 pub fn power(exponent: u8) -> u128
     requires { exponent ≤ MOST_BITS }
     ensures is { result ≡ 2 ^ exponent }

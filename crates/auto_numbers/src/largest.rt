@@ -20,18 +20,18 @@ use track_word::laws::{
 /// The greatest positive number in a set.
 #[derive(Clone, Copy)]
 pub enum Greatest {
-    /// No positive number is in the set.
+    /// The set contains no positive number.
     Nothing,
-    /// This is the greatest, and has at most `GREATEST_BITS` bits.
+    /// The greatest number, which has at most `GREATEST_BITS` bits.
     Number(u128),
-    /// There is a greatest, and it has more bits than that.
+    /// There is a greatest number, but it has more bits.
     Far,
-    /// There is no greatest.
+    /// The set is unbounded.
     Endless,
 }
 
-/// The greatest positive number in the set of a reduced automaton. It goes through the states as often as `lengths`
-/// does, and once more for each of `MOST_BITS` bits where the number is told.
+/// Returns the greatest positive number in the set of a minimal automaton with one track. Iterates over the states as often as
+/// `lengths` does, and once for each of `MOST_BITS` bits if it returns a number. Errors: an allocation failed.
 pub fn greatest_of(alloc: Global, a: &Auto) -> Result<Greatest, AllocError>
     requires one { length a.now.tracks ≡ 1 }
     requires decides { DecidesIntegers a.now }
@@ -52,7 +52,7 @@ pub fn greatest_of(alloc: Global, a: &Auto) -> Result<Greatest, AllocError>
     }
 }
 
-/// The greatest number of so many bits by which the state leads to acceptance, with a first bit 1 before them.
+/// Returns the greatest number of `bits` bits by which the state reaches acceptance, with a leading bit 1 added.
 fn number(alloc: Global, a: &Auto, state: u32, bits: u8) -> Result<u128, AllocError>
     requires one { length a.now.tracks ≡ 1 }
     requires known { state < length a.now.accept }

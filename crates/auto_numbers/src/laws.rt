@@ -1,4 +1,4 @@
-//! Laws of the numbers in a set, each the contract of a function that does nothing.
+//! Laws of the numbers in a set, each the contract of a function without a body.
 ghost use Rattle.std.specs.Prelude.{◌≡◌, ℕ, length};
 ghost use Rattle.auto_core.specs.Integers.{DecidesIntegers};
 ghost use Rattle.auto_numbers.specs.Laws.{OneGreatest, OneNext};
@@ -9,7 +9,7 @@ use track_word::laws::{
     bits_spell_their_integers, repeating_first_letter_keeps_values, words_of_equal_values_are_equal,
 };
 
-/// Each number is in the set or not.
+/// States that each number is in the set or not.
 pub fn each_number_is_in_or_not(a: &Auto)
     requires one { length a.now.tracks ≡ 1 }
     requires decides { DecidesIntegers a.now }
@@ -21,12 +21,12 @@ pub fn each_number_is_in_or_not(a: &Auto)
     let _ = a.tracks(); // for its invariant
 }
 
-/// There is one next number in a set, or none.
+/// States that the next number in a set is unique.
 pub fn one_next()
     ensures { OneNext }
 {}
 
-/// One answer is that of the greatest number in a set.
+/// States that the description of the greatest number in a set is unique.
 pub fn one_greatest()
     ensures { OneGreatest }
 {}

@@ -1,4 +1,4 @@
-//! The least number of so many bits, from a number on.
+//! The least number of a given number of bits, from a number on.
 ghost use Rattle.std.specs.Prelude.{◌≡◌, ◌^◌, ◌<◌, ◌≤◌, length};
 ghost use Rattle.auto_core.specs.Integers.{DecidesIntegers};
 ghost use Rattle.auto_numbers.specs.Numbers.{IsNextFound};
@@ -12,7 +12,7 @@ use track_word::laws::{
     bits_spell_their_integers, repeating_first_letter_keeps_values, words_of_equal_values_are_equal,
 };
 
-/// The least number from `low` on that is in the set, or that is not, as the outlook's flag says. It reads each bit at most twice.
+/// Returns the least number from `low` on that is in the set, or that is not, by the outlook's flag. Reads each bit at most twice.
 pub fn next(outlook: &Outlook, low: u128) -> Option<u128>
     requires decides { DecidesIntegers outlook.now.auto.now }
     requires low { low < 2 ^ MOST_BITS }
@@ -27,7 +27,7 @@ pub fn next(outlook: &Outlook, low: u128) -> Option<u128>
     found
 }
 
-/// The least number of so many bits, from `low` on, that leads from the state to the flag.
+/// Returns the least number of `bits` bits from `low` on that leads from the state to the flag.
 fn least(outlook: &Outlook, state: u32, bits: u8, low: u128) -> Option<u128>
     requires known { state < length outlook.now.auto.now.accept }
     requires bits { bits ≤ MOST_BITS }

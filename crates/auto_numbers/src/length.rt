@@ -1,4 +1,4 @@
-//! By how many bits, at most, states lead to acceptance.
+//! The maximum number of bits by which states reach acceptance.
 ghost use Rattle.std.specs.Prelude.{◌≡◌, ◌+◌, ◌<◌, ◌≤◌, IfOk, length, true, false, slice_index_or};
 ghost use Rattle.auto_core.specs.Automaton.{next_state, is_final};
 ghost use Rattle.auto_core.specs.Reduced.{IsReduced};
@@ -9,24 +9,24 @@ use crate::reading::next_states;
 use auto_core::Auto;
 use std::alloc::{AllocError, Global};
 
-/// The greatest length that is told: with a bit 1 before them, so many bits make a number of `GREATEST_BITS` bits.
+/// The greatest length that is represented: with a leading bit 1 it gives a number of `GREATEST_BITS` bits.
 const LONGEST: u8 = 99;
 
-/// How many bits, at most, lead from a state to acceptance.
+/// The maximum number of bits by which a state reaches acceptance.
 #[derive(Clone, Copy, PartialEq, Eq)]
 pub enum Length {
-    /// It is not known yet whether there is a most. Some bits lead to acceptance.
+    /// It is not known yet whether there is a maximum. Some bits lead to acceptance.
     Unknown,
-    /// None do, however many.
+    /// No bits lead to acceptance.
     Nothing,
-    /// So many do, and no more; at most `LONGEST`.
+    /// This number, at most `LONGEST`.
     UpTo(u8),
-    /// More than `LONGEST` do, and no more than some number.
+    /// There is a maximum, and it exceeds `LONGEST`.
     Long,
 }
 
-/// The lengths of all states of a reduced automaton. It goes through the states once more than there are states one after another of which
-/// each goes on to the next and has a length.
+/// Returns the lengths of all states of a minimal automaton. Iterates over the states until no length is found, at most once more
+/// than the longest chain of states with lengths. Errors: an allocation failed.
 pub fn lengths(alloc: Global, a: &Auto) -> Result<Vec<Length>, AllocError>
     requires one { length a.now.tracks ≡ 1 }
     requires reduced { IsReduced a.now }
@@ -41,7 +41,7 @@ pub fn lengths(alloc: Global, a: &Auto) -> Result<Vec<Length>, AllocError>
     Ok(lengths)
 }
 
-/// What is seen of a state at once: nothing leads from it to acceptance where each bit leads back to it and its flag is not set. In a reduced
+/// Returns what is known of a state at first: a rejecting state that each bit leads back to reaches no acceptance. In a minimal
 /// automaton some bits lead from each other state to acceptance.
 fn first_length(a: &Auto, state: u32) -> Length
     requires one { length a.now.tracks ≡ 1 }
@@ -57,7 +57,7 @@ fn first_length(a: &Auto, state: u32) -> Length
     }
 }
 
-/// The length of a state in a list of all.
+/// Returns the length of a state from a list of all.
 pub fn length_at(lengths: &[Length], state: u32) -> Length
     requires { state < length lengths.now }
     ensures { result ≡ slice_index_or lengths.now state Unknown }
@@ -65,7 +65,7 @@ pub fn length_at(lengths: &[Length], state: u32) -> Length
     lengths[state as usize]
 }
 
-/// Goes through the states once, and finds the lengths of those of which both bits lead to states with lengths. Whether it found any.
+/// Iterates over the states once, and finds the lengths of those whose next states both have lengths. Returns whether it found any.
 fn settle(a: &Auto, lengths: &mut [Length]) -> bool
     requires one { length a.now.tracks ≡ 1 }
     requires are { AreLengths a.now lengths.old }
@@ -82,7 +82,7 @@ fn settle(a: &Auto, lengths: &mut [Length]) -> bool
     found
 }
 
-/// Finds the length of a state that has none yet, if both bits lead to states with lengths. Whether it did.
+/// Finds the length of a state that has none, if its next states both have lengths. Returns whether it did.
 fn settle_state(a: &Auto, lengths: &mut [Length], state: u32) -> bool
     requires one { length a.now.tracks ≡ 1 }
     requires are { AreLengths a.now lengths.old }
@@ -103,7 +103,7 @@ fn settle_state(a: &Auto, lengths: &mut [Length], state: u32) -> bool
     true
 }
 
-/// The length of a state that has none yet, from those of the states to which its bits lead.
+/// Returns the length of a state that has none, from those of its next states.
 fn length_of(a: &Auto, lengths: &[Length], state: u32) -> Length
     requires one { length a.now.tracks ≡ 1 }
     requires are { AreLengths a.now lengths.now }
@@ -117,7 +117,7 @@ fn length_of(a: &Auto, lengths: &[Length], state: u32) -> Length
     with_own(a.accept_of(state), one_more(later))
 }
 
-/// The greater of two lengths, where both are known.
+/// Returns the greater of two lengths if both are known.
 fn longer(one: Length, other: Length) -> Length
     ensures { result ≡ longer_of one other }
 {
@@ -137,7 +137,7 @@ fn longer(one: Length, other: Length) -> Length
     }
 }
 
-/// The length with one bit before.
+/// Returns the length with one bit added in front.
 fn one_more(length: Length) -> Length
     ensures { result ≡ after_one length }
 {
@@ -153,7 +153,7 @@ fn one_more(length: Length) -> Length
     }
 }
 
-/// The length of a state that accepts, or does not, from that of what comes after it.
+/// Returns the length of a state, given its flag and the length of what follows it.
 fn with_own(accepts: bool, length: Length) -> Length
     ensures { result ≡ with_flag accepts length }
 {

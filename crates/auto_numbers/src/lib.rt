@@ -1,5 +1,6 @@
-//! The natural numbers in the set of an automaton of one track: the least from a number on that is in the set, or that is not, and the greatest,
-//! or that there is none. `specs/Numbers` says what is asked, `specs/Reading` how an automaton reads a number, bit by bit from the highest on.
+//! Searches the set of a one-track automaton for natural numbers.
+//! Returns the least number from a given one on that is in the set, or that is not, and the greatest number, or that there is none.
+//! `specs/Numbers` states these results, and `specs/Reading` how an automaton reads a number, from the highest bit on.
 #![tactic(auto)]
 
 mod bits;

@@ -1,4 +1,4 @@
-//! The greatest number of so many bits.
+//! The greatest number of a given number of bits.
 ghost use Rattle.std.specs.Prelude.{◌≡◌, ◌<◌, ◌≤◌, length};
 ghost use Rattle.auto_numbers.specs.Reading.{LeadsMostOrNone};
 
@@ -6,7 +6,7 @@ use crate::bits::{MOST_BITS, power};
 use crate::outlook::Outlook;
 use crate::reading::next_states;
 
-/// The greatest number of so many bits that leads from the state to the flag.
+/// Returns the greatest number of `bits` bits that leads from the state to the flag.
 pub fn most(outlook: &Outlook, state: u32, bits: u8) -> Option<u128>
     requires known { state < length outlook.now.auto.now.accept }
     requires bits { bits ≤ MOST_BITS }

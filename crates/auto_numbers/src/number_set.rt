@@ -9,7 +9,7 @@ use crate::outlook::Outlook;
 use auto_core::Auto;
 use std::alloc::{AllocError, Global};
 
-/// The set of an automaton of one track, ready to be asked which numbers are in it.
+/// The set of a one-track automaton, prepared for queries.
 #[derive(Drop)]
 pub struct NumberSet<'a> {
     pub auto: &'a Auto,
@@ -23,7 +23,8 @@ pub struct NumberSet<'a> {
 }
 
 impl<'a> NumberSet<'a> {
-    /// Takes 32 bytes for each state, and half as much again meanwhile. Each question then takes no memory, and some 200 steps.
+    /// Prepares the set. Allocates 32 bytes for each state, and half as much again temporarily. Each query then allocates nothing
+    /// and takes about 200 steps. Errors: an allocation failed.
     pub fn new(alloc: Global, a: &'a Auto) -> Result<NumberSet<'a>, AllocError>
         requires one { length a.now.tracks ≡ 1 }
         requires decides { DecidesIntegers a.now }
@@ -38,7 +39,7 @@ impl<'a> NumberSet<'a> {
         })
     }
 
-    /// The least number from `low` on that is in the set.
+    /// Returns the least number from `low` on that is in the set and has at most `MOST_BITS` bits.
     pub fn next_member(&self, low: u128) -> Option<u128>
         requires { low < 2 ^ MOST_BITS }
         ensures { IsNextFound (Has self.now.auto.now) low result }
@@ -46,7 +47,7 @@ impl<'a> NumberSet<'a> {
         next(&self.members, low)
     }
 
-    /// The least number from `low` on that is not in the set.
+    /// Returns the least number from `low` on that is not in the set and has at most `MOST_BITS` bits.
     pub fn next_other(&self, low: u128) -> Option<u128>
         requires { low < 2 ^ MOST_BITS }
         ensures { IsNextFound (λ t. ¬ Has self.now.auto.now t) low result }
@@ -54,7 +55,7 @@ impl<'a> NumberSet<'a> {
         next(&self.others, low)
     }
 
-    /// Whether a number is in the set.
+    /// Returns whether a number is in the set.
     pub fn has(&self, number: u128) -> bool
         requires { number < 2 ^ MOST_BITS }
         ensures { IsTrue result ↔ Has self.now.auto.now number }

@@ -1,4 +1,4 @@
-//! By how many bits the states of an automaton lead to a flag.
+//! The numbers of bits by which the states of an automaton reach a flag.
 ghost use Rattle.std.specs.Prelude.{◌≡◌, ◌+◌, ◌<◌, ◌≤◌, IfOk, false, length, true};
 ghost use Rattle.auto_numbers.specs.declared.bits.TheConstants.{MOST_BITS};
 ghost use Rattle.auto_numbers.specs.Outlook.{AreMasks, IsMask};
@@ -9,19 +9,20 @@ use crate::reading::next_states;
 use auto_core::Auto;
 use std::alloc::{AllocError, Global};
 
-/// By how many bits each state of an automaton leads to a state with a flag.
+/// The numbers of bits by which each state of an automaton reaches a state with a flag.
 #[derive(Drop)]
 pub struct Outlook<'a> {
     pub auto: &'a Auto,
     pub flag: bool,
-    /// For each state a bit for each number of bits: whether so many lead to the flag.
+    /// For each state a bit for each number of bits: whether this many bits lead to the flag.
     pub masks: Vec<u128>,
     ghost one: { length auto.now.tracks ≡ 1 },
     ghost are: { AreMasks auto.now flag MOST_BITS (length auto.now.accept) masks.items },
 }
 
 impl<'a> Outlook<'a> {
-    /// Goes through the states once for each number of bits. Takes 16 bytes for each state, and twice that meanwhile.
+    /// Computes the masks; iterates over the states once for each number of bits. Allocates 16 bytes for each state, and twice that
+    /// temporarily. Errors: an allocation failed.
     pub fn new(alloc: Global, a: &'a Auto, flag: bool) -> Result<Outlook<'a>, AllocError>
         requires one { length a.now.tracks ≡ 1 }
         ensures auto { IfOk result (λ made. made.auto.now ≡ a.now) }
@@ -38,7 +39,7 @@ impl<'a> Outlook<'a> {
         })
     }
 
-    /// Whether some number of so many bits leads from the state to the flag.
+    /// Returns whether some number of `bits` bits leads from the state to the flag.
     pub fn leads(&self, state: u32, bits: u8) -> bool
         requires known { state < length self.now.auto.now.accept }
         requires bits { bits ≤ MOST_BITS }
@@ -49,7 +50,7 @@ impl<'a> Outlook<'a> {
     }
 }
 
-/// The masks where no bit is left.
+/// Returns the masks for no bits.
 fn at_once(alloc: Global, a: &Auto, flag: bool) -> Result<Vec<u128>, AllocError>
     ensures { IfOk result (λ masks. AreMasks a.now flag 0 (length a.now.accept) masks.items) }
 {
@@ -60,7 +61,7 @@ fn at_once(alloc: Global, a: &Auto, flag: bool) -> Result<Vec<u128>, AllocError>
     Ok(masks)
 }
 
-/// The bit for no bits more.
+/// Returns the mask bit for no bits: 1 if the state has the flag.
 fn own_bit(a: &Auto, flag: bool, state: u32) -> u128
     requires known { state < length a.now.accept }
     ensures bit { result < 2 }
@@ -69,7 +70,7 @@ fn own_bit(a: &Auto, flag: bool, state: u32) -> u128
     if a.accept_of(state) == flag { 1 } else { 0 }
 }
 
-/// The masks for up to one bit more.
+/// Returns the masks for up to one bit more.
 fn one_bit_more(
     alloc: Global,
     a: &Auto,

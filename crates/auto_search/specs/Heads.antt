@@ -1,11 +1,11 @@
--- The first bits of a distance, and the states that they lead to.
+-- The first bits of a distance, and the states that they reach.
 use Rattle.std.specs.Prelude.{◌≡◌, ℕ, ◌+◌, ◌*◌, ◌/◌, ◌%◌, ◌<◌, ◌≤◌, Bool, false, List, [], ◌∷◌, ◌++◌, if◌then◌else◌, slice_index_or, Option, Some, None, option_map}
 use Rattle.auto_core.specs.Automaton.{Automaton, next_state}
 use Rattle.auto_search.specs.declared.ray.TrackRay.{TrackRay}
 use Rattle.auto_search.specs.Bits.{sum_at, letter_at}
 use Rattle.auto_search.specs.Search.{started, MayCarry}
 
--- the number of some bits, the lowest one first
+-- the number with these bits, lowest first
 abbrev pub head_number : List Bool → ℕ
 head_number [] = 0
 head_number (bit ∷ head) = 2 * head_number head + (if bit then 1 else 0)
@@ -15,8 +15,7 @@ abbrev pub IsTrimmed : List Bool → Type 0
 IsTrimmed [] = Unit {0}
 IsTrimmed (bit ∷ head) = IsTrimmed head × (0 < head_number (bit ∷ head))
 
--- the state after the sign letter and the letters of these bits, at places from the top on, for what the bits after
--- them carry over
+-- the state after the sign letter and the letters of these bits, at places from the top on, given the carries of the remaining bits
 abbrev pub read : Automaton → TrackRay → List Bool → ℕ → ℕ → Option ℕ
 read a ray [] cx cy = started a ray cx cy
 read a ray (bit ∷ head) cx cy =
@@ -24,11 +23,11 @@ read a ray (bit ∷ head) cx cy =
     let sy = sum_at ray.y ray.top cy bit in
     option_map (λ state. next_state a state (letter_at ray ray.top sx sy)) (read a ray head (sx / 2) (sy / 2))
 
--- bits so high that no value is too long
+-- zero bits so high that no value is too long
 abbrev pub zeros : List Bool
 zeros = false ∷ false ∷ false ∷ []
 
--- the state of a head, for what the bits below the top carry over
+-- the state of a head, given the carries of the bits below the top
 abbrev pub headed : Automaton → TrackRay → List Bool → ℕ → ℕ → Option ℕ
 headed a ray head cx cy = read a ray (head ++ zeros) cx cy
 

@@ -1,9 +1,9 @@
--- The room of a search between its calls.
+-- The tables of a search between its calls.
 use Rattle.std.specs.Prelude.{◌≡◌, ℕ, ◌+◌, ◌*◌, length, slice_index}
 use Rattle.auto_search.specs.declared.count.Room.{Room}
 use Rattle.auto_search.specs.Marks.{IsClear}
 
--- room for so many states: no marks, no entries
+-- tables for this many states, without marks and entries
 pub record IsRoom (states : ℕ) (room : Room) : Type 0 where
   pub clear : IsClear room.marks
   pub marks_size : length room.marks.failed.items ≡ states * 68

@@ -6,11 +6,11 @@ use Rattle.auto_search.specs.declared.tuple_ray.TupleRay.{TupleRay}
 use Rattle.auto_search.specs.declared.few.Few.{Few}
 use Rattle.auto_search.specs.Fews.{HasFew}
 
--- what a step may add to a coordinate
+-- what a step may add to a coordinate: -2 to 2
 abbrev pub IsSlope : ℤ → Type 0
 IsSlope d = (negsuc 1 ≤ℤ d) × (d ≤ℤ pos 2)
 
--- a ray steps by at most two on each of two different tracks
+-- a ray adds at most two per step, up or down, on each of two different tracks
 pub record IsTupleRay (way : TupleRay) : Type 0 where
   pub x_track : way.x_track < length way.fixed.now
   pub y_track : way.y_track < length way.fixed.now
@@ -18,7 +18,7 @@ pub record IsTupleRay (way : TupleRay) : Type 0 where
   pub dx : IsSlope way.dx
   pub dy : IsSlope way.dy
 
--- the value of a track so many steps along
+-- the value of a track after this many steps
 abbrev pub value_after : List ℤ → ℕ → ℤ → ℕ → ℤ
 value_after values track slope distance = slice_index_or values track (pos 0) +ℤ (pos distance *ℤ slope)
 
@@ -39,11 +39,11 @@ pub record IsLeastHit (a : Automaton) (way : TupleRay) (near far t : ℕ) : Type
   pub hit : IsHit a way t
   pub least : (u : ℕ) → near ≤ u → IsHit a way u → t ≤ u
 
--- that distance, or that there is none
+-- that distance, or none if there is none
 abbrev pub IsLeastFound : Automaton → TupleRay → ℕ → ℕ → Option ℕ → Type 0
 IsLeastFound a way near far found =
     MatchOption found ((t : ℕ) → near ≤ t → t ≤ far → IsHit a way t → ⊥) (IsLeastHit a way near far)
 
--- so many of all positive distances have their tuple in the set
+-- this many of all positive distances have their tuple in the set
 abbrev pub HasHits : Automaton → TupleRay → Few → Type 0
 HasHits a way few = HasFew few (λ t. (1 ≤ t) × IsHit a way t)

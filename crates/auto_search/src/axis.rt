@@ -1,4 +1,4 @@
-//! One of the two tracks that a ray moves on.
+//! One of the two tracks along which a ray moves.
 ghost use Rattle.std.specs.Prelude.{◌≡◌, ◌+◌, ◌^◌, ◌<◌, ◌≤◌, unsigned_abs};
 ghost use Rattle.auto_search.specs.TupleRay.{IsSlope};
 ghost use Rattle.auto_search.specs.Bits.{IsAxis, fall, rise, sum_at};
@@ -8,8 +8,8 @@ use crate::tuple_ray::value_along;
 use limits::MOST_TRACKS;
 use track_word::bit_of;
 
-/// The value of a track at the near end of a ray, and what the bits of a distance add to it.
-/// A slope that falls counts its carries from the fall on, so that none is negative.
+/// The value of a track at the near end of a ray, and what the bits of a distance add to it. For a negative slope, carries are
+/// offset so that none is negative.
 #[derive(Clone, Copy)]
 pub struct Axis {
     pub base: i128,
@@ -17,11 +17,12 @@ pub struct Axis {
     pub zero: u8,
     /// What a bit 1 adds.
     pub one: u8,
-    /// The letter that has this track's bit alone.
+    /// The letter with only this track's bit.
     pub unit: u32,
 }
 
 impl Axis {
+    /// Creates the axis of a track with this value at distance 0 and this slope, at distance `near`.
     pub fn new(value: i64, slope: i8, near: u128, track: u8) -> Axis
         requires slope { IsSlope slope }
         requires near { near ≤ 2 ^ 64 }
@@ -37,7 +38,7 @@ impl Axis {
         }
     }
 
-    /// What comes together at a place: what is carried over to it, the bit of the near end, and what the bit of the distance adds.
+    /// Returns the sum at a place: the carry into it, the bit of the near end, and what the bit of the distance adds.
     pub fn sum(self, place: u8, carried: u8, bit: bool) -> u8
         requires small { self.zero + self.one ≤ 2 }
         requires carried { carried ≤ 2 }
@@ -48,7 +49,7 @@ impl Axis {
         carried + bit_of(self.base, place) as u8 + if bit { self.one } else { self.zero }
     }
 
-    /// The sign bit of the value for what all bits carry over to a place, or none where the value is too long.
+    /// Returns the sign bit of the value, given the carry of all bits into a place, or none if the value is too long.
     pub fn sign(self, place: u8, carried: u8) -> Option<u8>
         requires small { self.zero + self.one ≤ 2 }
         requires carried { carried ≤ 2 }
@@ -66,7 +67,7 @@ impl Axis {
     }
 }
 
-/// By how much a slope falls.
+/// Returns the negated slope if it is negative, and 0 otherwise.
 fn fall_of(slope: i8) -> u8
     requires { IsSlope slope }
     ensures { result ≡ fall slope }
@@ -78,7 +79,7 @@ fn fall_of(slope: i8) -> u8
     }
 }
 
-/// By how much a slope rises.
+/// Returns the slope if it is positive, and 0 otherwise.
 fn rise_of(slope: i8) -> u8
     requires { IsSlope slope }
     ensures { result ≡ rise slope }
@@ -90,7 +91,7 @@ fn rise_of(slope: i8) -> u8
     }
 }
 
-/// The letter that has the bit of a track alone.
+/// Returns the letter with only the bit of a track.
 pub fn unit_of(track: u8) -> u32
     requires { track < MOST_TRACKS }
     ensures { result ≡ 2 ^ track }

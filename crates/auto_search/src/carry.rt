@@ -1,13 +1,13 @@
-//! What the bits after a place carry over to it.
+//! What the bits after a place carry into it.
 ghost use Rattle.std.specs.Prelude.{◌≡◌, ◌<◌, ◌≤◌, ◌+◌, ◌*◌, ◌/◌, ◌%◌};
 
-/// How many carries a track may have: 0, 1 and 2.
+/// The number of carries of a track: 0, 1 and 2.
 const CARRIES: u8 = 3;
 
-/// How many pairs of carries there are.
+/// The number of pairs of carries.
 pub const SLOTS: u8 = 9;
 
-/// What is carried over on the two tracks of a ray. The pairs are numbered, and a table over them has a slot for each.
+/// The carries on the two tracks of a ray. Pairs of carries are numbered; a table over them has a slot for each.
 #[derive(Clone, Copy)]
 pub struct Carry {
     pub x: u8,
@@ -17,7 +17,7 @@ pub struct Carry {
 }
 
 impl Carry {
-    /// The carries of a slot.
+    /// Returns the carries of a slot.
     pub fn of_slot(slot: u8) -> Carry
         requires { slot < 9 }
         ensures x { result.x ≡ slot / 3 }
@@ -29,7 +29,7 @@ impl Carry {
         }
     }
 
-    /// The slot of these carries.
+    /// Returns the slot of these carries.
     pub fn slot(self) -> u8
         ensures slot { result ≡ 3 * self.x + self.y }
         ensures within { result < 9 }

@@ -1,4 +1,4 @@
-//! How many of all positive distances have their tuple in the set.
+//! The number of positive distances whose tuple is in the set: 0, 1 or several.
 ghost use Rattle.std.specs.Prelude.{◌≡◌, ◌<◌, ◌+◌, slice_index, ℕ};
 ghost use Rattle.auto_search.specs.Fews.{HasFew};
 ghost use Rattle.auto_search.specs.Search.{IsFront};
@@ -14,14 +14,14 @@ use crate::marks::Marks;
 use crate::met::VisitTable;
 use crate::several::several;
 
-/// What a search writes on.
+/// The tables that a search writes to.
 #[derive(Drop)]
 pub struct Room {
     pub marks: Marks,
     pub met: VisitTable,
 }
 
-/// How many numbers of steps from the near end have their tuple in the set. The room is cleared before and after.
+/// Counts the steps from the near end whose tuple is in the set, as 0, 1 or several. The tables are cleared before and after.
 pub fn count(room: &mut Room, course: &Course) -> Few
     requires serves { Serves course.now.auto.now course.now.ray.now room.old.marks }
     requires sizes { HasLists course.now room.old.met }
@@ -38,7 +38,8 @@ pub fn count(room: &mut Room, course: &Course) -> Few
     few
 }
 
-/// Counts by a walk over the heads of all numbers: each entry is a head, and yields the numbers whose last bits complete it.
+/// Counts by a traversal of the heads (first bits) of all numbers: each entry is a head, and yields the numbers whose last bits
+/// complete it.
 fn walk(room: &mut Room, course: &Course) -> Few
     requires serves { Serves course.now.auto.now course.now.ray.now room.old.marks }
     requires sizes { HasLists course.now room.old.met }
@@ -64,7 +65,7 @@ fn walk(room: &mut Room, course: &Course) -> Few
     few
 }
 
-/// Counts what an entry yields, and follows on it.
+/// Counts what an entry yields, and adds the entries that follow it.
 fn turn(room: &mut Room, course: &Course, entry: usize, starts: usize, few: Few) -> Few
     requires serves { Serves course.now.auto.now course.now.ray.now room.old.marks }
     requires entry { entry < room.old.met.len }
@@ -81,7 +82,7 @@ fn turn(room: &mut Room, course: &Course, entry: usize, starts: usize, few: Few)
     few.plus(more)
 }
 
-/// The front so high that no value is too long, where the head is 0.
+/// Returns the front of the head 0, high enough that no value is too long.
 fn opened(course: &Course) -> Front
     ensures opened { IsOpened course.now.auto.now course.now.ray.now result }
     ensures front { IsFront course.now.auto.now result }

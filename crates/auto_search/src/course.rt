@@ -16,7 +16,7 @@ pub struct Course<'a> {
 }
 
 impl Course<'_> {
-    /// The letter of a place at these sums.
+    /// Returns the letter of a place at these sums.
     pub fn letter(&self, place: u8, x_sum: u8, y_sum: u8) -> u32
         requires place { place ≤ self.now.ray.now.top }
         ensures letter { result ≡ letter_at self.now.ray.now place x_sum y_sum }

@@ -1,4 +1,4 @@
-//! The states that a ray can have led to where some first bits of a distance are known.
+//! The states that a ray can have reached, given some first bits of a distance.
 ghost use Rattle.std.specs.Prelude.{◌≡◌, ◌≤◌, ◌<◌, ℕ, IsTrue, None, IfSome, slice_index_or, length, ◌↔◌, []};
 ghost use Rattle.auto_search.specs.Search.{IsFront, IsStep, IsStart, MayCarry, started, Completes};
 ghost use Rattle.auto_search.specs.Entries.{IsNextState};
@@ -7,13 +7,13 @@ ghost use Rattle.auto_search.specs.Met.{IsAlone};
 use crate::carry::{Carry, SLOTS};
 use crate::course::Course;
 
-/// For each slot the state, or none, that leads to what these bits carry over.
+/// For each slot the state, or none, reached if the remaining bits carry what the slot says.
 pub type Front = [Option<u32>; SLOTS as usize];
 
 /// A front without states.
 pub const NO_STATES: Front = [None; SLOTS as usize];
 
-/// The front before all bits.
+/// Returns the front before all bits.
 pub fn start(course: &Course) -> Front
     ensures start { IsStart course.now.auto.now course.now.ray.now result }
     ensures front { IsFront course.now.auto.now result }
@@ -25,7 +25,7 @@ pub fn start(course: &Course) -> Front
     front
 }
 
-/// The state after the sign letter for what all bits carry over.
+/// Returns the state after the sign letter, given the carries of all bits.
 fn first(course: &Course, carry: Carry) -> Option<u32>
     ensures started { result ≡ started course.now.auto.now course.now.ray.now carry.x carry.y }
     ensures within { IfSome result (λ state. state < length course.now.auto.now.accept) }
@@ -40,7 +40,7 @@ fn first(course: &Course, carry: Carry) -> Option<u32>
     }
 }
 
-/// The front after one more bit of the distance.
+/// Returns the front after one more bit of the distance.
 pub fn step(course: &Course, place: u8, bit: bool, front: &Front) -> Front
     requires front { IsFront course.now.auto.now front.now }
     requires place { place ≤ course.now.ray.now.top }
@@ -54,7 +54,7 @@ pub fn step(course: &Course, place: u8, bit: bool, front: &Front) -> Front
     after
 }
 
-/// The state after one more bit for what the bits after it carry over, or none where they cannot carry that over.
+/// Returns the state after one more bit, given the carries of the bits after it, or none if these carries are impossible.
 fn next(course: &Course, place: u8, bit: bool, front: &Front, carry: Carry) -> Option<u32>
     requires front { IsFront course.now.auto.now front.now }
     requires place { place ≤ course.now.ray.now.top }
@@ -77,7 +77,7 @@ fn next(course: &Course, place: u8, bit: bool, front: &Front, carry: Carry) -> O
     }
 }
 
-/// Whether there is no state.
+/// Returns whether the front has no state.
 pub fn is_empty(front: &Front) -> bool
     ensures { IsTrue result → (slot : ℕ) → slice_index_or front.now slot None ≡ None }
 {
@@ -89,7 +89,7 @@ pub fn is_empty(front: &Front) -> bool
     true
 }
 
-/// Whether the front is completed by no more bits.
+/// Returns whether the front is accepting without further bits.
 pub fn is_final(course: &Course, front: &Front) -> bool
     requires front { IsFront course.now.auto.now front.now }
     ensures { IsTrue result ↔ Completes course.now.auto.now course.now.ray.now front.now [] }
@@ -104,7 +104,7 @@ pub fn is_final(course: &Course, front: &Front) -> bool
     }
 }
 
-/// The front of one state alone.
+/// Returns the front with one state only.
 pub fn alone(slot: u8, state: u32) -> Front
     requires { slot < 9 }
     ensures alone { IsAlone slot state result }

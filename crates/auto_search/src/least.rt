@@ -7,7 +7,8 @@ use crate::course::Course;
 use crate::front::{Front, is_empty, is_final, step};
 use crate::marks::Marks;
 
-/// The least number of so many bits that completes the front.
+/// Returns the least number of `place` bits that completes the front. Depth-first search; failing states are marked, so that none
+/// is searched twice.
 pub fn least(marks: &mut Marks, course: &Course, place: u8, front: &Front) -> Option<u128>
     requires serves { Serves course.now.auto.now course.now.ray.now marks.old }
     requires place { place ≤ course.now.ray.now.top }

@@ -1,6 +1,7 @@
-//! Which distances along a ray have their tuple in the set of an automaton: the least of them between two bounds, and whether there are several.
-//! Only the calls that reserve room take memory. `specs/TupleRay` says what a ray and its tuples are; `specs/Bits` what the last bits of a distance
-//! carry over, `specs/Search` how states are searched, `specs/Met` how all distances are counted.
+//! Searches the distances along a ray whose tuples are in an automaton's set.
+//! Returns the least distance between two bounds, and whether all positive distances have none, one or several such tuples. Only
+//! the calls that reserve room allocate. `specs/TupleRay` defines rays and their tuples, `specs/Bits` the carries of the last bits
+//! of a distance, `specs/Search` the search of states, and `specs/Met` the count over all distances.
 #![tactic(auto)]
 
 mod axis;

@@ -1,4 +1,4 @@
-//! Marks at states that lead nowhere.
+//! Marks at states from which no acceptance is possible.
 ghost use Rattle.std.specs.Prelude.{◌≡◌, ◌≤◌, ◌<◌, ◌*◌, IsTrue, ◌↔◌, ℕ, length, All, slice_index};
 ghost use Rattle.std.specs.Int.{bit_at};
 ghost use Rattle.auto_search.specs.Search.{IsFront, IsLive, IsDead, cell_of};
@@ -9,7 +9,7 @@ use crate::course::Course;
 use crate::front::Front;
 use auto_core::Auto;
 
-/// For each place and each state a cell with a bit for each slot, and the cells with bits, as far as there is room to list them.
+/// For each place and state a cell with a bit for each slot, and a list of the nonzero cells, as far as it has room.
 #[derive(Drop)]
 pub struct Marks {
     pub failed: Vec<u16>,
@@ -18,7 +18,7 @@ pub struct Marks {
 }
 
 impl Marks {
-    /// Whether a cell has a slot's bit.
+    /// Returns whether a cell has a slot's bit.
     fn has(&self, cell: usize, slot: u8) -> bool
         requires cell { cell < length self.now.failed.items }
         requires slot { slot < 9 }
@@ -27,7 +27,7 @@ impl Marks {
         (self.failed[cell] >> slot) & 1 == 1
     }
 
-    /// Gives a cell a slot's bit.
+    /// Sets a slot's bit in a cell.
     fn add(&mut self, cell: usize, slot: u8)
         requires cell { cell < length self.old.failed.items }
         requires slot { slot < 9 }
@@ -40,7 +40,7 @@ impl Marks {
         self.failed[cell] |= 1 << slot;
     }
 
-    /// Lists a cell, unless it has marks already or the list is full.
+    /// Lists a cell, unless it is nonzero already or the list is full.
     fn list(&mut self, cell: usize)
         requires cell { cell < length self.old.failed.items }
         requires listed { HasListedMarks self.old }
@@ -55,7 +55,7 @@ impl Marks {
         }
     }
 
-    /// The front without its marked states.
+    /// Returns the front without its marked states.
     pub fn live(&self, course: &Course, place: u8, front: &Front) -> Front
         requires serves { Serves course.now.auto.now course.now.ray.now self.now }
         requires place { place ≤ course.now.ray.now.top }
@@ -90,7 +90,7 @@ impl Marks {
         }
     }
 
-    /// Takes all marks away, at the cost of those that there are.
+    /// Clears all marks. Costs the number of marks, or of all cells if the list is full.
     pub fn clear(&mut self)
         requires { HasListedMarks self.old }
         ensures clear { IsClear self.new }
@@ -108,7 +108,7 @@ impl Marks {
     }
 }
 
-/// The cell of a state at a place.
+/// Returns the index of the cell of a state at a place.
 fn cell_at(a: &Auto, place: u8, state: u32) -> usize
     requires place { place ≤ 67 }
     requires state { state < length a.now.accept }
@@ -118,7 +118,7 @@ fn cell_at(a: &Auto, place: u8, state: u32) -> usize
     place as usize * a.states() as usize + state as usize
 }
 
-/// Empties these cells, where all others are empty.
+/// Clears these cells; all others are zero.
 fn empty_cells(failed: &mut [u16], cells: &[usize])
     requires within { All (λ cell. cell < length failed.old) cells.now }
     requires others { (cell : ℕ) → 0 < slice_index failed.old cell → HasCellFrom cells.now 0 cell }
@@ -129,7 +129,7 @@ fn empty_cells(failed: &mut [u16], cells: &[usize])
     }
 }
 
-/// Empties all cells.
+/// Clears all cells.
 fn empty(failed: &mut [u16])
     ensures { (cell : ℕ) → slice_index failed.new cell ≡ 0 }
 {

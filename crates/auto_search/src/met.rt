@@ -1,4 +1,4 @@
-//! What a walk over heads has met.
+//! The states visited by a traversal of heads.
 ghost use Rattle.std.specs.Prelude.{◌≡◌, ◌<◌, ◌+◌, length, slice_index, slice_set, ℕ};
 ghost use Rattle.auto_search.specs.Met.{IsAfter, moment};
 ghost use Rattle.auto_search.specs.Entries.{AddsEntry, AreListed, BeginsAlong, HasLists, HasRoomFor, KeepsLists, WalksAlong};
@@ -9,10 +9,10 @@ use crate::carry::SLOTS;
 use crate::course::Course;
 use crate::front::{Front, alone, step};
 
-/// How often a state is entered for one slot, besides what a walk begins with.
+/// The maximum number of visits of a state with a slot, in addition to the starting entries.
 pub const MOST_TIMES: u8 = 2;
 
-/// How often each state was entered for each slot; and the states that were entered, in order, with their slots.
+/// The number of visits of each state with each slot, and the visited states with their slots, in order.
 #[derive(Drop)]
 pub struct VisitTable {
     pub times: Vec<u8>,
@@ -22,7 +22,7 @@ pub struct VisitTable {
 }
 
 impl VisitTable {
-    /// Enters a state with a slot.
+    /// Records a visit of a state with a slot.
     pub fn put(&mut self, state: u32, slot: u8)
         requires states { self.old.len < length self.old.states.items }
         requires slots { self.old.len < length self.old.slots.items }
@@ -36,7 +36,7 @@ impl VisitTable {
         self.len += 1;
     }
 
-    /// Enters a state with a slot, where it was not entered twice before.
+    /// Records a visit of a state with a slot, unless it was visited twice.
     pub fn add(&mut self, course: &Course, state: u32, slot: u8)
         requires place { HasRoomFor course.now self.old }
         requires state { state < length course.now.auto.now.accept }
@@ -51,7 +51,7 @@ impl VisitTable {
         }
     }
 
-    /// Begins with the states of a front.
+    /// Starts with the states of a front.
     pub fn begin(&mut self, course: &Course, front: &Front)
         requires sizes { HasLists course.now self.old }
         requires none { (k : ℕ) → slice_index self.old.times.items k ≡ 0 }
@@ -69,7 +69,7 @@ impl VisitTable {
         }
     }
 
-    /// The slot of an entry.
+    /// Returns the slot of an entry.
     pub fn slot_of(&self, entry: usize) -> u8
         requires { entry < length self.now.slots.items }
         ensures { result ≡ slice_index self.now.slots.items entry }
@@ -77,7 +77,7 @@ impl VisitTable {
         self.slots[entry]
     }
 
-    /// The state of an entry.
+    /// Returns the state of an entry.
     pub fn state_of(&self, entry: usize) -> u32
         requires { entry < length self.now.states.items }
         ensures { result ≡ slice_index self.now.states.items entry }
@@ -85,7 +85,7 @@ impl VisitTable {
         self.states[entry]
     }
 
-    /// Enters the states that an entry leads to by a bit; by 0 none where the walk begins with the entry.
+    /// Visits the states that follow an entry by a bit; for the bit 0 none if the entry is a starting entry.
     pub fn follow(&mut self, course: &Course, entry: usize, bit: bool, starts: usize)
         requires place { HasRoomFor course.now self.old }
         requires entry { entry < self.old.len }
@@ -104,7 +104,7 @@ impl VisitTable {
         }
     }
 
-    /// Takes all entries away, at the cost of those that there are.
+    /// Removes all entries. Costs the number of entries.
     pub fn clear(&mut self)
         requires { AreListed self.old }
         ensures none { (k : ℕ) → slice_index self.new.times.items k ≡ 0 }
@@ -118,7 +118,7 @@ impl VisitTable {
     }
 }
 
-/// The front after one more bit, at the top, of one state alone.
+/// Returns the front after one more bit, at the top place, of one state.
 fn after_entry(course: &Course, slot: u8, state: u32, bit: bool) -> Front
     requires slot { slot < 9 }
     requires state { state < length course.now.auto.now.accept }

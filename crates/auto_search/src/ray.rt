@@ -1,4 +1,4 @@
-//! A ray, ready to be searched from its near end on.
+//! A ray, prepared for a search from its near end on.
 ghost use Rattle.std.specs.Prelude.{◌≡◌, ◌≤◌, ◌<◌, ◌^◌, ◌+◌, ◌*◌, ℕ, length, All, pos, slice_index, slice_index_or, unsigned_abs};
 ghost use Rattle.track_word.specs.Word.{integer_bit, letter_of};
 ghost use Rattle.auto_search.specs.TupleRay.{IsTupleRay};
@@ -9,22 +9,22 @@ use crate::tuple_ray::TupleRay;
 use limits::MOST_TRACKS;
 use track_word::bit_of;
 
-/// The most places that a search reads, the sign's among them: a value on a ray has at most 67 bits.
+/// The maximum number of places of a search, including the sign's: a value on a ray has at most 67 bits.
 pub const MOST_PLACES: usize = 68;
 
-/// The two tracks on which a ray moves, and the letters of all others.
+/// The two tracks along which a ray moves, and the letters of all other tracks.
 #[derive(Drop)]
 pub struct TrackRay {
     pub x: Axis,
     pub y: Axis,
-    /// For each place up to the top the letter of the tracks that do not move.
+    /// For each place up to the top, the letter of the tracks that do not move.
     pub still: [u32; MOST_PLACES],
-    /// The place from which on the values have no bits but their signs.
+    /// The place from which on all values have only sign bits.
     pub top: u8,
 }
 
 impl TrackRay {
-    /// The ray from its near end on, for so many steps.
+    /// Prepares the ray from the distance `near` on, for at most `steps` steps.
     pub fn new(way: &TupleRay, near: u128, steps: u128) -> TrackRay
         requires way { IsTupleRay way.now }
         requires few { length way.now.fixed.now ≤ MOST_TRACKS }
@@ -44,7 +44,7 @@ impl TrackRay {
     }
 }
 
-/// A bound on all values that the ray meets within so many steps.
+/// Returns a bound on the absolute values that the ray reaches within this many steps.
 fn reach_of(fixed: &[i64], x: Axis, y: Axis, steps: u128) -> u128
     requires x { unsigned_abs x.base < 2 ^ 66 }
     requires y { unsigned_abs y.base < 2 ^ 66 }
@@ -58,7 +58,7 @@ fn reach_of(fixed: &[i64], x: Axis, y: Axis, steps: u128) -> u128
     moving.max(greatest(fixed) as u128)
 }
 
-/// A bound on values, whatever their signs.
+/// Returns a bound on the absolute values.
 fn greatest(values: &[i64]) -> u64
     ensures bound { All (λ value. unsigned_abs value ≤ result) values.now }
     ensures small { result ≤ 2 ^ 63 }
@@ -70,7 +70,7 @@ fn greatest(values: &[i64]) -> u64
     most
 }
 
-/// How many bits a number has.
+/// Returns the number of bits of a number.
 fn bits_of(number: u128) -> u8
     requires { number < 2 ^ 67 }
     ensures enough { number < 2 ^ result }
@@ -80,7 +80,7 @@ fn bits_of(number: u128) -> u8
     (128 - number.leading_zeros()) as u8
 }
 
-/// The letters of the tracks that do not move, for the places up to the top.
+/// Returns the letters of the tracks that do not move, for the places up to the top.
 fn still_letters(way: &TupleRay, top: u8) -> [u32; MOST_PLACES]
     requires way { IsTupleRay way.now }
     requires few { length way.now.fixed.now ≤ MOST_TRACKS }
@@ -94,7 +94,7 @@ fn still_letters(way: &TupleRay, top: u8) -> [u32; MOST_PLACES]
     still
 }
 
-/// The letter of a place without the bits of the two tracks.
+/// Returns the letter of a place without the bits of the two moving tracks.
 fn still_letter(way: &TupleRay, place: u8) -> u32
     requires way { IsTupleRay way.now }
     requires few { length way.now.fixed.now ≤ MOST_TRACKS }
@@ -107,7 +107,7 @@ fn still_letter(way: &TupleRay, place: u8) -> u32
     whole - x - y
 }
 
-/// The bit of a place of the value of a track.
+/// Returns the bit at a place of the value of a track.
 fn bit_of_track(values: &[i64], track: u8, place: u8) -> u32
     requires track { track < length values.now }
     requires place { place ≤ 67 }
@@ -118,7 +118,7 @@ fn bit_of_track(values: &[i64], track: u8, place: u8) -> u32
     bit_of(value as i128, place)
 }
 
-/// The letter of the bits of one place.
+/// Returns the letter of the bits at a place.
 fn letter_at(values: &[i64], place: u8) -> u32
     requires few { length values.now ≤ MOST_TRACKS }
     requires place { place ≤ 67 }

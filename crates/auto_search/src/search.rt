@@ -22,10 +22,10 @@ use track_word::laws::{
     bits_spell_their_integers, repeating_first_letter_keeps_values, words_of_equal_values_are_equal,
 };
 
-/// How many marked cells are listed for each reserved state: a search that marks more clears all cells.
+/// The number of list entries for marked cells per reserved state: a search that marks more cells clears all of them.
 const LISTED: usize = 2;
 
-/// Room for searches in automata of at most so many states.
+/// Reusable tables for searches in automata with a limited number of states.
 #[derive(Drop)]
 pub struct Search {
     states: u32,
@@ -44,7 +44,7 @@ impl Model for Search {
 }
 
 impl Search {
-    /// Takes the memory for automata of at most so many states, about 250 bytes for each.
+    /// Allocates tables for automata with at most `states` states, about 250 bytes per state. Errors: an allocation failed.
     pub fn reserve(alloc: Global, states: u32) -> Result<Search, AllocError>
         ensures { IfOk result (λ search. search ≡ states) }
     {
@@ -68,8 +68,8 @@ impl Search {
         })
     }
 
-    /// The least distance from `near` to `far` whose tuple is in the set. At most the automaton's states, nine carries and the bits
-    /// of the values and of `far - near` are searched.
+    /// Returns the least distance from `near` to `far` whose tuple is in the set. Costs at most the number of states times nine
+    /// pairs of carries times the bits of the values and of `far - near`.
     pub fn least_on_ray(&mut self, a: &Auto, way: &TupleRay, near: u128, far: u128) -> Option<u128>
         requires decides { DecidesIntegers a.now }
         requires room { length a.now.accept ≤ self.old }
@@ -100,7 +100,7 @@ impl Search {
         }
     }
 
-    /// How many of all positive distances, without bound, have their tuple in the set.
+    /// Returns whether none, one or several of all positive distances have their tuple in the set.
     pub fn count_on_ray(&mut self, a: &Auto, way: &TupleRay) -> Few
         requires decides { DecidesIntegers a.now }
         requires room { length a.now.accept ≤ self.old }
@@ -119,7 +119,7 @@ impl Search {
     }
 }
 
-/// The least number of steps from the near end at which the tuple is in the set. The marks are cleared before and after.
+/// Returns the least number of steps from the near end at which the tuple is in the set. The marks are cleared before and after.
 fn ahead(marks: &mut Marks, course: &Course) -> Option<u128>
     requires { Serves course.now.auto.now course.now.ray.now marks.old }
     ensures found { IsFirstAhead course.now.auto.now course.now.ray.now result }

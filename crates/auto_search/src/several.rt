@@ -1,4 +1,4 @@
-//! How many numbers' bits complete a front.
+//! Whether several numbers complete a front.
 ghost use Rattle.std.specs.Prelude.{◌≤◌};
 ghost use Rattle.auto_search.specs.Fews.{HasFew};
 ghost use Rattle.auto_search.specs.Search.{IsFront, CompletedBy};
@@ -9,7 +9,7 @@ use crate::few::Few;
 use crate::front::{Front, is_empty, is_final, step};
 use crate::marks::Marks;
 
-/// How many numbers of so many bits complete the front.
+/// Counts the numbers of `place` bits that complete the front, as 0, 1 or several.
 pub fn several(marks: &mut Marks, course: &Course, place: u8, front: &Front) -> Few
     requires serves { Serves course.now.auto.now course.now.ray.now marks.old }
     requires place { place ≤ course.now.ray.now.top }

@@ -7,17 +7,17 @@ ghost use Rattle.auto_search.specs.TupleRay.{IsSlope};
 pub struct TupleRay<'a> {
     /// The tuple at distance 0.
     pub fixed: &'a [i64],
-    /// The place of the first track that the ray moves on.
+    /// The index of the first track along which the ray moves.
     pub x_track: u8,
-    /// The place of the second, another one.
+    /// The index of the second one, which differs from the first.
     pub y_track: u8,
-    /// What a step adds on the first track, -2 to 2.
+    /// What a step adds on the first track: -2 to 2.
     pub dx: i8,
-    /// What a step adds on the second, -2 to 2.
+    /// What a step adds on the second track: -2 to 2.
     pub dy: i8,
 }
 
-/// The value of a coordinate so many steps along a ray, exact beyond 64 bits.
+/// Returns the value of a coordinate after `distance` steps along a ray. It is exact beyond 64 bits.
 pub fn value_along(value: i64, slope: i8, distance: u128) -> i128
     requires slope { IsSlope slope }
     requires distance { distance ≤ 2 ^ 64 }
@@ -27,7 +27,7 @@ pub fn value_along(value: i64, slope: i8, distance: u128) -> i128
     value as i128 + rise_along(slope, distance)
 }
 
-/// What so many steps add.
+/// Returns what this many steps add.
 fn rise_along(slope: i8, distance: u128) -> i128
     requires slope { IsSlope slope }
     requires distance { distance ≤ 2 ^ 64 }
