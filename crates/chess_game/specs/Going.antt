@@ -10,7 +10,7 @@ abbrev pub GoesTo : Square → ℕ → List Man → List Man → Type 0
 GoesTo to index old new =
     (d : Man) → slice_index_or new index d ≡ record (slice_index_or old index d) { place = At to.x to.y }
 
--- all others become what they become when somebody goes there
+-- every other man becomes what IsLeftBy says
 abbrev pub AreLeftBut : Square → ℕ → List Man → List Man → Type 0
 AreLeftBut to index old new =
     (k : ℕ) (d : Man) → k < length old → k ≢ index → IsLeftBy to (slice_index_or old k d) (slice_index_or new k d)

@@ -1,4 +1,4 @@
--- A man whose place is kept as a square.
+-- A man whose place is stored as a square.
 use Rattle.std.specs.Prelude.{◌≡◌, Option, Some, None, refl}
 use Rattle.game_rules.specs.declared.men.Man.{Man}
 use Rattle.game_rules.specs.declared.men.Place.{Place}

@@ -1,4 +1,4 @@
--- How the table of rays is kept: the far rays of a kind, and then those that are not far.
+-- How the table of rays is stored: the far rays of a kind, followed by the near ones.
 use Rattle.std.specs.Prelude.{ℤ, Bool, List, []}
 use Rattle.game_rules.specs.Rays.{all_round_rays, diagonal_rays, leap_rays, rays_of, straight_rays}
 use Rattle.game_rules.specs.declared.men.Kind.{Kind}

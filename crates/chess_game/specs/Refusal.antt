@@ -5,7 +5,7 @@ use Rattle.game_rules.specs.declared.men.Square.{Square}
 use Rattle.chess_game.specs.declared.moves.Illegal.{Illegal}
 use Rattle.chess_game.specs.declared.moves.Illegal.TheVariants.{NoSuchMan, NotYours, Captured, OwnMan, NotReached, KingLeft}
 
--- this is the first reason, in the order of the variants, against man i going to z
+-- this is the first reason against the move of man i to z, in the order of the variants
 abbrev pub IsRefusal : Position → ℕ → Square → Illegal → Type 0
 IsRefusal p i z NoSuchMan = man_at p i ≡ None
 IsRefusal p i z NotYours = IsSomeAnd (man_at p i) (λ m. m.side ≡ other p.turn)

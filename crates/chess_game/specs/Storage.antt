@@ -1,4 +1,4 @@
--- How a board keeps its men.
+-- How a board stores its men.
 use Rattle.std.specs.Prelude.{◌≡◌, ◌≤◌, ◌-◌, ◌++◌, List, drop, length, replicate, take}
 use Rattle.std.proofs.Common.{arith, ap, sym, ◌∙◌, length-take, length-append, length-drop}
 use Rattle.std.proofs.Math.Seq.{drop-append_seam}
@@ -11,14 +11,14 @@ use Rattle.game_rules.specs.declared.men.Kind.TheVariants.{King}
 use Rattle.game_rules.specs.declared.men.Place.TheVariants.{Gone}
 use Rattle.chess_game.specs.declared.board.Board.TheInside.{Inside}
 
--- what is kept past the last man
+-- the captured man that fills the places after the last man
 abbrev pub nobody : Man
 nobody = record { side = White; kind = King; place = Gone }
 
 abbrev pub position_of : Inside → Position
 position_of a = record { men = take a.count a.men; turn = a.turn }
 
--- two to eight men, and nobody past them
+-- two to eight men, and `nobody` in the places after them
 pub record IsTidy (a : Inside) : Type 0 where
   pub low : 2 ≤ a.count
   pub high : a.count ≤ 8
@@ -36,7 +36,7 @@ board_again a h =
     ap (λ n. record { men = take a.count a.men ++ replicate (8 - n) nobody; count = n; turn = a.turn }) counted
     ∙ ap (λ men. record { men = men; count = a.count; turn = a.turn }) whole
 
--- men written over the front of eight places of nobody
+-- a board of eight `nobody`s whose front is overwritten by the men is tidy
 pub IsTidy-written : (men : List Man) (turn : Side) → 2 ≤ length men → length men ≤ 8
     → IsTidy (record { men = men ++ drop (length men) (replicate 8 nobody); count = length men; turn = turn })
 IsTidy-written men turn low high =

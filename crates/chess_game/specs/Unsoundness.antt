@@ -1,4 +1,4 @@
--- What keeps a position from being sound, and the order in which that is told.
+-- The reasons against soundness, and their order.
 use Rattle.std.specs.Prelude.{◌≡◌, ℕ, ◌<◌, IsSomeAnd, ◌⊎◌}
 use Rattle.game_rules.specs.Game.{Position, InCheck, StandsOn, man_at, other}
 use Rattle.game_rules.specs.declared.men.Side.{Side}
@@ -25,7 +25,7 @@ StandsAt p i z = IsSomeAnd (man_at p i) (λ m. StandsOn m z)
 abbrev pub AreTwins : Position → ℕ → ℕ → Type 0
 AreTwins p i j = (z : Square) × StandsAt p i z × StandsAt p j z
 
--- this reason holds, whether or not another does too
+-- this reason applies, whether or not another one does
 abbrev pub IsUnsoundFor : Position → Unsound → Type 0
 IsUnsoundFor p (NoKing s) = (i : ℕ) → IsKingAt p s i → ⊥
 IsUnsoundFor p (ManyKings s) = (i : ℕ) × (j : ℕ) × (i < j) × IsKingAt p s i × IsKingAt p s j
@@ -33,7 +33,7 @@ IsUnsoundFor p (KingGone s) = (i : ℕ) × IsKingAt p s i × IsGoneAt p i
 IsUnsoundFor p (SameSquare i j) = (i < j) × AreTwins p i j
 IsUnsoundFor p OtherInCheck = InCheck p (other p.turn)
 
--- the place of a reason in the order
+-- the rank of a reason in the order
 abbrev pub rank : Unsound → ℕ
 rank (NoKing White) = 0
 rank (NoKing Black) = 1
@@ -44,22 +44,22 @@ rank (KingGone Black) = 5
 rank (SameSquare i j) = 6
 rank OtherInCheck = 7
 
--- of two pairs of men, the one with the lesser first man is told, or with the lesser second man where the first are the
--- same
+-- of two pairs of men that share squares, the one with the lesser first man comes first, or, if those are equal, the
+-- one with the lesser second man
 abbrev pub IsLesserPair : Unsound → Unsound → Type 0
 IsLesserPair (SameSquare i j) (SameSquare k l) = (i < k) ⊎ ((i ≡ k) × (j < l))
 IsLesserPair _ _ = ⊥
 
--- the one reason is told before the other
+-- the first reason comes before the second in the order
 abbrev pub IsBefore : Unsound → Unsound → Type 0
 IsBefore f e = (rank f < rank e) ⊎ IsLesserPair f e
 
--- this is the first reason that holds
+-- this is the first reason that applies
 pub record IsFirstUnsoundness (p : Position) (e : Unsound) : Type 0 where
   pub holds : IsUnsoundFor p e
   pub first : (f : Unsound) → IsBefore f e → IsUnsoundFor p f → ⊥
 
--- this tells of the first two men who stand on one square
+-- this names the first two men that share a square
 abbrev pub IsFirstPair : Position → Unsound → Type 0
 IsFirstPair p (SameSquare i j) =
     (i < j)

@@ -19,19 +19,19 @@ pub record IsInside (f : Frame) (z : Square) : Type 0 where
   pub below : f.y_low ≤ℤ z.y
   pub above : z.y ≤ℤ f.y_high
 
--- the square that lies so far along the ray is in the frame, and no live man stands from the first square up to it
+-- the square t steps along the ray is in the frame, and no live man stands on the ray up to it
 pub record IsFreeFrom (p : Position) (a : Square) (r : Ray) (f : Frame) (t : ℕ) : Type 0 where
   pub to : Square
   pub leads : IsAt r t a to
   pub inside : IsInside f to
   pub empty : (k : ℕ) (z : Square) → k ≤ t → IsAt r k a z → IsEmptySquare p z
 
--- so far along his ray man i may go to an empty square of the frame, over empty squares
+-- man i may go t steps along his ray to an empty square of the frame, over empty squares
 abbrev pub IsFree : Position → ℕ → Ray → Frame → ℕ → Type 0
 IsFree p i r f t = IsSomeAnd (man_at p i) (λ m. IsLiveAnd m (λ a. IsFreeFrom p a r f t))
 
--- man h is the first live man on the ray, and his square is in the frame; where several men stand on that square, he
--- has the least number
+-- man h is the first live man on the ray, and his square is in the frame; if several men stand on it, he has the least
+-- number
 pub record IsHitFrom (p : Position) (a : Square) (r : Ray) (f : Frame) (h : ℕ) : Type 0 where
   pub to : Square
   pub distance : ℕ
@@ -41,6 +41,6 @@ pub record IsHitFrom (p : Position) (a : Square) (r : Ray) (f : Frame) (h : ℕ)
   pub first : (k : ℕ) (z : Square) → k < distance → IsAt r k a z → IsEmptySquare p z
   pub least : (j : ℕ) → j < h → StandsAt p j to → ⊥
 
--- man h is the first whom man i meets on his ray, in the frame
+-- man h is the first man that man i meets on his ray in the frame
 abbrev pub IsHit : Position → ℕ → Ray → Frame → ℕ → Type 0
 IsHit p i r f h = IsSomeAnd (man_at p i) (λ m. IsLiveAnd m (λ a. IsHitFrom p a r f h))

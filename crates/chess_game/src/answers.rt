@@ -1,4 +1,4 @@
-//! Mate: whether some move answers a check.
+//! Mate: whether some legal move answers a check.
 
 ghost use Rattle.std.specs.Prelude.{◌≡◌, ◌↔◌, ◌≤◌, ◌<◌, ◌*◌, ◌+◌, ◌+ℤ◌, ◌*ℤ◌, ◌-ℤ◌, ◌^◌, pos, unsigned_abs, IsTrue, MatchOption, ℕ};
 ghost use Rattle.std.specs.List.{Any};
@@ -17,14 +17,14 @@ use crate::piece::Piece;
 use crate::rays::{MOST_RAYS, ray};
 use game_rules::{Kind, Ray, Side, Square};
 
-/// A check: a man at `from` bears on the king.
+/// A check: the man on `from` bears on the king.
 #[derive(Clone, Copy, PartialEq, Eq)]
 pub(crate) struct Check {
     pub(crate) from: Square,
     pub(crate) king: Square,
 }
 
-/// A live man's number, and the square where he stands.
+/// The number of a live man and his square.
 #[derive(Clone, Copy, PartialEq, Eq)]
 pub(crate) struct PlacedMan {
     pub(crate) number: usize,
@@ -43,7 +43,7 @@ fn step_toward(from: Square, to: Square) -> Offset
     unit_toward(offset_between(from, to))
 }
 
-/// A number times one coordinate of a direction.
+/// Multiplies one coordinate of a direction by a number.
 #[tactic(auto, using(crate::proofs::AnswerBounds::small_product))]
 fn scaled(number: i128, by: i128) -> i128
     requires number { unsigned_abs number ≤ 2 ^ 64 }
@@ -54,7 +54,7 @@ fn scaled(number: i128, by: i128) -> i128
     number * by
 }
 
-/// How far an offset leads off a line in this direction.
+/// Returns how far an offset lies off a line in this direction.
 fn off_by(offset: Offset, direction: Offset) -> u128
     requires x { unsigned_abs offset.x ≤ 2 ^ 64 }
     requires y { unsigned_abs offset.y ≤ 2 ^ 64 }
@@ -66,8 +66,8 @@ fn off_by(offset: Offset, direction: Offset) -> u128
     scaled(offset.x, direction.y).abs_diff(scaled(offset.y, direction.x))
 }
 
-/// After how many steps a ray meets a line that it leads to by `each`, from `off` away; after `direct` of them where it goes
-/// along it.
+/// Returns after how many steps a ray meets a line, if each step brings it `each` nearer and it starts `off` away; or
+/// `direct`, if it goes along the line.
 fn steps_until(far: bool, each: u128, off: u128, direct: u128) -> u128
     ensures { result ≡ steps_to far each off direct }
 {
@@ -80,7 +80,7 @@ fn steps_until(far: bool, each: u128, off: u128, direct: u128) -> u128
     off / each
 }
 
-/// After how many steps along the ray a man at the square may answer the check.
+/// Returns after how many steps along the ray a man on the square may answer the check.
 fn steps_to_answer(check: Check, from: Square, ray: Ray) -> u128
     requires check { IsCloseCheck check }
     requires from { IsClose from }
@@ -101,7 +101,7 @@ fn steps_to_answer(check: Check, from: Square, ray: Ray) -> u128
     steps_until(ray.far, each, off, direct)
 }
 
-/// The number after so many steps from another.
+/// Adds a number of equal steps to a coordinate.
 #[tactic(auto, using(crate::proofs::AnswerBounds::times_abs))]
 fn advanced(from: i128, steps: u128, step: i128) -> i128
     requires from { unsigned_abs from ≤ 2 ^ 63 }
@@ -113,7 +113,7 @@ fn advanced(from: i128, steps: u128, step: i128) -> i128
     from + steps as i128 * step
 }
 
-/// The one square on the ray where a man at the square may answer the check.
+/// Returns the only square on the ray where a man on the square may answer the check.
 fn square_to_answer(check: Check, from: Square, ray: Ray) -> Square
     requires check { IsCloseCheck check }
     requires from { IsClose from }
@@ -246,7 +246,7 @@ fn check_of(board: &Board) -> Option<Check>
     Some(Check { from, king })
 }
 
-/// Whether the side to move is mated.
+/// Returns whether the side to move is mated.
 pub(crate) fn is_mated(board: &Board) -> bool
     requires narrow { IsNarrowPosition board.now }
     requires sound { Sound board.now }

@@ -1,4 +1,4 @@
-//! Which squares are attacked.
+//! Attacked squares.
 
 ghost use Rattle.std.specs.Prelude.{◌≡◌, ◌↔◌, IsTrue};
 ghost use Rattle.game_rules.specs.Game.{Attacked, Bears, InCheck, other, IsBetween, IsLiveAnd, IsOpen};
@@ -22,7 +22,7 @@ fn stands_between(man: &Piece, from: Square, to: Square) -> bool
     }
 }
 
-/// Whether no live man is strictly between the two squares. A single step leads over no square.
+/// Returns whether no live man is strictly between the two squares. A single step passes over no square.
 fn is_open(p: &Setup, from: Square, to: Square) -> bool
     requires from { IsNear from }
     requires to { IsNear to }
@@ -34,7 +34,7 @@ fn is_open(p: &Setup, from: Square, to: Square) -> bool
     !p.men().iter().any(|man| stands_between(man, from, to))
 }
 
-/// Whether the man is live and bears on the square.
+/// Returns whether the man is live and bears on the square.
 pub(crate) fn bears(p: &Setup, man: &Piece, to: Square) -> bool
     requires { IsNear to }
     ensures { IsTrue result ↔ Bears p.now man.now to }
@@ -45,7 +45,7 @@ pub(crate) fn bears(p: &Setup, man: &Piece, to: Square) -> bool
     reaches(man.side(), man.kind(), offset_between(from, to)) && is_open(p, from, to)
 }
 
-/// Whether the man is of the side, live, and bears on the square.
+/// Returns whether the man belongs to the side, is live, and bears on the square.
 pub(crate) fn attacks(p: &Setup, man: &Piece, by: Side, square: Square) -> bool
     requires { IsNear square }
     ensures { IsTrue result ↔ ((man.now.side ≡ by) × Bears p.now man.now square) }
@@ -53,7 +53,7 @@ pub(crate) fn attacks(p: &Setup, man: &Piece, by: Side, square: Square) -> bool
     man.side() == by && bears(p, man, square)
 }
 
-/// Whether some live man of the side bears on the square.
+/// Returns whether some live man of the side bears on the square.
 pub(crate) fn is_attacked(p: &Setup, by: Side, square: Square) -> bool
     requires { IsNear square }
     ensures { IsTrue result ↔ Attacked p.now by square }
@@ -61,7 +61,7 @@ pub(crate) fn is_attacked(p: &Setup, by: Side, square: Square) -> bool
     p.men().iter().any(|man| attacks(p, man, by, square))
 }
 
-/// Whether the man is the king of the side, and attacked by the other side.
+/// Returns whether the man is the side's king and is attacked by the other side.
 fn is_king_attacked(setup: &Setup, man: &Piece, side: Side) -> bool
     ensures { IsTrue result ↔ IsAttackedKing setup.now side man.now }
 {
@@ -74,7 +74,7 @@ fn is_king_attacked(setup: &Setup, man: &Piece, side: Side) -> bool
     }
 }
 
-/// Whether the king of the side is attacked by the other side.
+/// Returns whether the side's king is attacked by the other side.
 pub(crate) fn in_check(setup: &Setup, side: Side) -> bool
     ensures { IsTrue result ↔ InCheck setup.now side }
 {

@@ -1,4 +1,4 @@
-//! Positions whose men may stand past the squares that an i64 can name, as far out as 2^68.
+//! Positions whose men may stand on squares outside the range of i64, with coordinates up to 2^68.
 
 ghost use Rattle.std.specs.Int.{bit_at};
 ghost use Rattle.std.specs.Prelude.{◌≡◌, ◌≢◌, ◌↔◌, ◌+◌, ◌^◌, ◌<◌, ◌≤◌, ℕ, length, slice_get, slice_index_or, Some};
@@ -40,7 +40,7 @@ impl Model for Board {
 }
 
 impl Board {
-    /// The position with these men.
+    /// Creates the position of these men.
     pub(crate) fn new(men: &[Man], turn: Side) -> Board
         requires low { 2 ≤ length men.now }
         requires high { length men.now ≤ 8 }
@@ -70,7 +70,7 @@ impl Board {
         self.turn
     }
 
-    /// The men, in the order of their numbers.
+    /// Returns the men in the order of their numbers.
     pub(crate) fn men(&self) -> &[Piece]
         ensures men { result.now ≡ self.now.men }
         ensures few { length result.now ≤ 8 }
@@ -78,14 +78,14 @@ impl Board {
         &self.men[..self.count]
     }
 
-    /// The men and the side to move, lent.
+    /// Lends the men and the side to move.
     pub(crate) fn setup(&self) -> Setup<'_>
         ensures { result ≡ self.now }
     {
         Setup::new(self.men(), self.turn)
     }
 
-    /// The man of this number, counted from 1.
+    /// Returns the man of this number, counted from 1.
     pub(crate) fn man(&self, number: usize) -> Option<Piece>
         ensures { result ≡ man_at self.now number }
     {
@@ -95,14 +95,14 @@ impl Board {
         self.men().get(number - 1).copied()
     }
 
-    /// The set of the live men.
+    /// Returns the bit mask of the live men.
     pub(crate) fn mask(&self) -> u8
         ensures { IsMaskOf self.now result }
     {
         mask_of(self.men())
     }
 
-    /// The position after the man of this number has gone to the square.
+    /// Returns the position after the man of this number has gone to the square.
     pub(crate) fn after(&self, number: usize, to: Square) -> Board
         requires first { 1 ≤ number }
         requires last { number ≤ length self.now.men }
@@ -119,7 +119,7 @@ impl Board {
     }
 }
 
-/// A captured man, who stands where there is none.
+/// Returns a captured man, who fills the unused places of the array.
 pub(crate) fn nobody() -> Piece
     ensures { result ≡ nobody }
 {
@@ -130,7 +130,7 @@ pub(crate) fn nobody() -> Piece
     })
 }
 
-/// The mask with one more bit.
+/// Returns the mask with the bit at `index` set.
 fn with_bit(mask: u8, index: usize) -> u8
     requires { index < 8 }
     ensures set { bit_at result index ≡ 1 }
@@ -140,7 +140,7 @@ fn with_bit(mask: u8, index: usize) -> u8
     mask | (1 << index)
 }
 
-/// The mask whose bits are 1 at the live men.
+/// Returns the mask whose bits are 1 at the live men.
 fn mask_of(men: &[Piece]) -> u8
     requires { length men.now ≤ 8 }
     ensures live { (k : ℕ) (m : Man) → slice_get men.now k ≡ Some m → (bit_at result k ≡ 1) ↔ (m.place ≢ Place.Gone) }
@@ -153,7 +153,7 @@ fn mask_of(men: &[Piece]) -> u8
     mask
 }
 
-/// The mask with the bit of the man at the index, if he is live.
+/// Returns the mask with the bit of the man at `index` set if he is live.
 fn marked(men: &[Piece], index: usize, mask: u8) -> u8
     requires few { length men.now ≤ 8 }
     requires within { index < length men.now }
@@ -167,7 +167,7 @@ fn marked(men: &[Piece], index: usize, mask: u8) -> u8
     }
 }
 
-/// Writes the men over the pieces.
+/// Writes the men over the front of `pieces`.
 pub(crate) fn place(pieces: &mut [Piece], men: &[Man])
     requires { length pieces.old ≡ length men.now }
     ensures men { pieces.new ≡ men.now }
@@ -178,7 +178,7 @@ pub(crate) fn place(pieces: &mut [Piece], men: &[Man])
     }
 }
 
-/// What becomes of a man when another has gone to the square.
+/// Returns a man as he is after another one has gone to the square.
 fn left_by(man: &Piece, to: Square) -> Piece
     ensures { IsLeftBy to man.now result }
 {
@@ -189,7 +189,7 @@ fn left_by(man: &Piece, to: Square) -> Piece
     }
 }
 
-/// Puts the man at the index on the square, and takes whoever else stands there.
+/// Puts the man at `index` on the square and captures any other man there.
 fn go(men: &mut [Piece], index: usize, to: Square)
     requires within { index < length men.old }
     requires near { IsNear to }

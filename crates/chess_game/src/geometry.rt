@@ -1,4 +1,4 @@
-//! Offsets, and which of them a man reaches.
+//! Offsets between squares, and which of them a kind of man reaches.
 
 ghost use Rattle.std.specs.Prelude.{◌≡◌, ◌↔◌, ◌⊎◌, ◌≤◌, ◌+◌, ◌*◌, ◌-ℤ◌, ◌*ℤ◌, max, neg_ℤ, pos, unsigned_abs, IsTrue};
 ghost use Rattle.game_rules.specs.Game.{IsBetween, IsDiagonal, IsLeap, IsLeaps, IsStraight, forward};
@@ -9,14 +9,14 @@ ghost use Rattle.chess_game.specs.Offsets.{IsPart, IsTimes};
 
 use game_rules::{Kind, Side, Square};
 
-/// How far one square is from another, to the right and up.
+/// The offset from one square to another: to the right and up.
 #[derive(Clone, Copy, PartialEq, Eq)]
 pub(crate) struct Offset {
     pub(crate) x: i128,
     pub(crate) y: i128,
 }
 
-/// The offset from one square to another.
+/// Returns the offset from one square to another.
 pub(crate) fn offset_between(from: Square, to: Square) -> Offset
     requires from { IsNear from }
     requires to { IsNear to }
@@ -85,7 +85,7 @@ fn is_pawn_capture(side: Side, dx: i128, dy: i128) -> bool
     dx.unsigned_abs() == 1 && dy == forward
 }
 
-/// Whether a man bears on a square at this offset, if nothing is in between.
+/// Returns whether a man bears on a square at this offset if nothing is in between.
 pub(crate) fn reaches(side: Side, kind: Kind, offset: Offset) -> bool
     ensures { IsTrue result ↔ HasReach side kind offset.x offset.y }
 {
@@ -104,14 +104,14 @@ pub(crate) fn reaches(side: Side, kind: Kind, offset: Offset) -> bool
     }
 }
 
-/// Whether the offset goes one to a side, or one up or down: a single step, which leads over no square.
+/// Returns whether one coordinate is 1 in absolute value: then the step to the square passes over no other.
 pub(crate) fn is_single(offset: Offset) -> bool
     ensures { IsTrue result ↔ ((unsigned_abs offset.x ≡ 1) ⊎ (unsigned_abs offset.y ≡ 1)) }
 {
     offset.x.unsigned_abs() == 1 || offset.y.unsigned_abs() == 1
 }
 
-/// Whether a size is so many times that of a unit, which is 1 or 2.
+/// Returns whether `size` is `times` times `unit`, which is 1 or 2.
 fn is_scaled(size: u128, times: u128, unit: u128) -> bool
     requires { (unit ≡ 1) ⊎ (unit ≡ 2) }
     ensures { IsTrue result ↔ (size ≡ times * unit) }
@@ -123,7 +123,7 @@ fn is_scaled(size: u128, times: u128, unit: u128) -> bool
     }
 }
 
-/// Whether the offset is so many times a unit, to the right or up.
+/// Returns whether the offset is `times` times `unit`, to the right or up.
 fn is_up(offset: i128, times: u128, unit: u128) -> bool
     requires { (unit ≡ 1) ⊎ (unit ≡ 2) }
     ensures { IsTrue result ↔ (offset ≡ pos (times * unit)) }
@@ -131,7 +131,7 @@ fn is_up(offset: i128, times: u128, unit: u128) -> bool
     offset >= 0 && is_scaled(offset.unsigned_abs(), times, unit)
 }
 
-/// Whether the offset is so many times a unit, to the left or down.
+/// Returns whether the offset is `times` times `unit`, to the left or down.
 fn is_down(offset: i128, times: u128, unit: u128) -> bool
     requires { (unit ≡ 1) ⊎ (unit ≡ 2) }
     ensures { IsTrue result ↔ (offset ≡ neg_ℤ (pos (times * unit))) }
@@ -154,7 +154,7 @@ fn is_multiple(offset: i128, times: u128, unit: i128) -> bool
     }
 }
 
-/// Whether the offset is this many times `unit`, and not zero.
+/// Returns whether the offset is `times` times `unit` and not zero.
 pub(crate) fn is_times(offset: Offset, unit: Offset, times: u128) -> bool
     requires x { unsigned_abs unit.x ≤ 2 }
     requires y { unsigned_abs unit.y ≤ 2 }
@@ -163,7 +163,7 @@ pub(crate) fn is_times(offset: Offset, unit: Offset, times: u128) -> bool
     times > 0 && is_multiple(offset.x, times, unit.x) && is_multiple(offset.y, times, unit.y)
 }
 
-/// How many equal steps of a direction an offset is, if it is some.
+/// Returns the number of equal steps in an offset, if it is a multiple of a direction.
 pub(crate) fn steps_of(offset: Offset) -> u128
     ensures { result ≡ steps_of (unsigned_abs offset.x) (unsigned_abs offset.y) }
 {
@@ -178,7 +178,7 @@ pub(crate) fn steps_of(offset: Offset) -> u128
     across.min(along)
 }
 
-/// One coordinate of the first step on the way to an offset, by that coordinate and the other.
+/// Returns one coordinate of the first step toward an offset, from that coordinate and the other one.
 fn unit_part(own: i128, other: i128) -> i128
     ensures step { result ≡ step_toward own other }
     ensures small { unsigned_abs result ≤ 2 }
@@ -191,7 +191,7 @@ fn unit_part(own: i128, other: i128) -> i128
     }
 }
 
-/// The first step on the way to an offset.
+/// Returns the first step toward an offset.
 pub(crate) fn unit_toward(offset: Offset) -> Offset
     ensures right { result.x ≡ step_toward offset.x offset.y }
     ensures up { result.y ≡ step_toward offset.y offset.x }
@@ -204,7 +204,7 @@ pub(crate) fn unit_toward(offset: Offset) -> Offset
     }
 }
 
-/// Whether equal steps in one direction lead to `whole`, and fewer of them to `part`.
+/// Returns whether equal steps in one direction lead to `whole`, and fewer of them to `part`.
 fn is_part(whole: Offset, part: Offset) -> bool
     ensures { IsTrue result ↔ IsPart whole.x whole.y part.x part.y }
 {
@@ -217,7 +217,7 @@ fn is_part(whole: Offset, part: Offset) -> bool
     is_times(whole, unit, all) && is_times(part, unit, few)
 }
 
-/// Whether a square is strictly between two others.
+/// Returns whether a square is strictly between two others.
 pub(crate) fn is_between(from: Square, to: Square, square: Square) -> bool
     requires from { IsNear from }
     requires to { IsNear to }

@@ -1,7 +1,7 @@
-//! The referee of infinite chess: positions of two to eight men on squares that an i64 can name, which squares are
-//! attacked, which positions are sound, which moves are legal, how far a man may go along a ray, and mate. Each answer is
-//! exact by the laws in `game_rules`, also where a square that has to be looked at lies past the numbers of an i64.
-//! Nothing here takes memory.
+//! The referee of infinite chess: legal moves, soundness, attacks, rays and mate.
+//!
+//! Positions have two to eight men on squares with i64 coordinates. Each result is exact by the rules in `game_rules`,
+//! also if a square that matters lies outside the range of i64. Nothing here allocates.
 #![tactic(auto)]
 
 mod answers;

@@ -1,4 +1,4 @@
-//! Moves: which are legal, and why others are refused.
+//! Legal moves, and the reasons why others are refused.
 
 ghost use Rattle.std.specs.Prelude.{◌≡◌, ◌↔◌, ◌-ℤ◌, IfErr, IfOk, IsTrue, Some};
 ghost use Rattle.game_rules.specs.Game.{Goes, IsOccupiedBy, IsEmptySquare, Legal, Step, StandsOn, forward, man_at};
@@ -11,16 +11,16 @@ use crate::board::Board;
 use crate::piece::Piece;
 use game_rules::{Kind, Side, Square};
 
-/// Why a move is refused: the first reason that holds (FIDE Laws, Articles 3.1 to 3.10).
+/// Why a move is refused: the first reason that applies, in this order (FIDE Laws, Articles 3.1 to 3.10).
 #[derive(Clone, Copy, PartialEq, Eq)]
 pub enum Illegal {
-    /// The number is 0, or past the last man.
+    /// The number is 0 or exceeds the number of men.
     NoSuchMan,
-    /// The man is of the side that is not to move.
+    /// The man belongs to the side that is not to move.
     NotYours,
-    /// The man is gone.
+    /// The man is captured.
     Captured,
-    /// A live man of the mover, himself included, stands on the square.
+    /// A live man of the mover's side, or the man himself, stands on the square.
     OwnMan,
     /// The man cannot go there.
     NotReached,
@@ -28,7 +28,7 @@ pub enum Illegal {
     KingLeft,
 }
 
-/// The man of this number goes to (x, y).
+/// A move: the man of this number goes to (x, y).
 #[derive(Clone, Copy, PartialEq, Eq)]
 pub struct Move {
     pub man: u8,
@@ -64,7 +64,7 @@ fn is_empty(board: &Board, square: Square) -> bool
     !board.men().iter().any(|man| stands_on(man, square))
 }
 
-/// The square from which a pawn of the side steps straight ahead onto this one.
+/// Returns the square from which a pawn of the side steps straight ahead onto this one.
 fn square_behind(side: Side, square: Square) -> Square
     requires { IsNear square }
     ensures { result ≡ record { x = square.x; y = square.y -ℤ forward side } }
@@ -91,7 +91,8 @@ fn goes(board: &Board, man: &Piece, to: Square) -> bool
     }
 }
 
-/// The position after the man of this number has gone to the square.
+/// Returns the position after the man of this number has gone to the square, if he may go there apart from the safety
+/// of his king.
 pub(crate) fn try_step(board: &Board, number: usize, to: Square) -> Result<Board, Illegal>
     requires { IsNear to }
     ensures legal { IfOk result (Legal board.now number to) }
@@ -119,7 +120,7 @@ pub(crate) fn try_step(board: &Board, number: usize, to: Square) -> Result<Board
     Ok(after)
 }
 
-/// Whether the man has a legal move to the square.
+/// Returns whether the man has a legal move to the square.
 pub(crate) fn can_go(board: &Board, number: usize, to: Square) -> bool
     requires { IsNear to }
     ensures { IsTrue result ↔ CanGo board.now number to }

@@ -1,4 +1,4 @@
-//! Men on squares that may lie past those that an i64 can name, as far out as 2^68.
+//! Men on squares that may lie outside the range of i64, with coordinates up to 2^68.
 
 ghost use Rattle.std.specs.Prelude.{◌≡◌, ◌≢◌, ◌↔◌, IfSome, IsTrue};
 ghost use Rattle.game_rules.specs.Game.{square_of};
@@ -7,7 +7,7 @@ ghost use Rattle.chess_game.specs.Near.{IsNarrow, IsNarrowMan, IsNear};
 use game_rules::{Kind, Man, Place, Side, Square};
 use std::marker::Model;
 
-/// The square (x, y).
+/// Returns the square (x, y).
 pub(crate) fn square_at(x: i64, y: i64) -> Square
     ensures square { result ≡ record { x = x; y = y } }
     ensures near { IsNear result }
@@ -19,7 +19,7 @@ pub(crate) fn square_at(x: i64, y: i64) -> Square
     }
 }
 
-/// A man whose place is kept as a square.
+/// A man whose place is stored as a square.
 #[derive(Clone, Copy)]
 pub(crate) struct Piece {
     side: Side,
@@ -81,7 +81,7 @@ impl Piece {
         self.square.is_some()
     }
 
-    /// His square, if he is live.
+    /// Returns his square if he is live.
     pub(crate) fn square(&self) -> Option<Square>
         ensures square { result ≡ square_of self.now }
         ensures near { IfSome result IsNear }
@@ -89,7 +89,7 @@ impl Piece {
         self.square
     }
 
-    /// The man, who stands on a square that an i64 can name.
+    /// Converts the man, who stands on a square with i64 coordinates.
     pub(crate) fn man(&self) -> Man
         requires { IsNarrowMan self.now }
         ensures { result ≡ self.now }
@@ -108,7 +108,7 @@ impl Piece {
         }
     }
 
-    /// The same man on another square.
+    /// Returns the same man on another square.
     pub(crate) fn placed(&self, square: Square) -> Piece
         requires { IsNear square }
         ensures { result ≡ record self.now { place = Place.At square.x square.y } }
@@ -119,7 +119,7 @@ impl Piece {
         }
     }
 
-    /// The same man, taken.
+    /// Returns the same man, captured.
     pub(crate) fn taken(&self) -> Piece
         ensures { result ≡ record self.now { place = Place.Gone } }
     {

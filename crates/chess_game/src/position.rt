@@ -1,4 +1,4 @@
-//! Positions, and what is asked of them.
+//! Positions and the queries on them.
 
 ghost use Rattle.std.specs.Prelude.{◌≡◌, ◌≢◌, ◌↔◌, ◌≤◌, ◌^◌, ℕ, length, IfErr, IfNone, IfOk, IfSome, IsOk, IsSome, IsSomeAnd, IsTrue, OnErr, Some};
 ghost use Rattle.game_rules.specs.Game.{Attacked, InCheck, IsMaskOf, Legal, Mate, Sound, SoundWithKings, man_at};
@@ -19,7 +19,7 @@ use crate::way::{Frame, Way, way_from};
 use game_rules::{Man, Place, Ray, Side, Square};
 use std::marker::Model;
 
-/// Two to eight men, numbered from 1, and the side to move.
+/// A position: two to eight men, numbered from 1, and the side to move.
 #[derive(Clone, Copy)]
 pub struct Position {
     board: Board,
@@ -39,7 +39,7 @@ impl Model for Position {
 }
 
 impl Position {
-    /// The position with these men, if there are two to eight of them.
+    /// Creates the position of these men. Returns `None` unless there are two to eight of them.
     pub fn new(men: &[Man], turn: Side) -> Option<Position>
         ensures holds { IsSome result ↔ ((2 ≤ length men.now) × (length men.now ≤ 8)) }
         ensures position { IfSome result (λ p. p ≡ record { men = men.now; turn = turn }) }
@@ -52,7 +52,7 @@ impl Position {
         })
     }
 
-    /// How many men there are, captured ones included.
+    /// Returns the number of men, captured ones included: 2 to 8.
     pub fn count(&self) -> u8
         ensures count { result ≡ length self.now.men }
         ensures least { 2 ≤ result }
@@ -61,14 +61,14 @@ impl Position {
         self.board.count()
     }
 
-    /// The side to move.
+    /// Returns the side to move.
     pub fn turn(&self) -> Side
         ensures { result ≡ self.now.turn }
     {
         self.board.turn()
     }
 
-    /// The man of this number, counted from 1.
+    /// Returns the man of this number, counted from 1.
     pub fn man(&self, number: u8) -> Man
         requires first { 1 ≤ number }
         requires last { number ≤ length self.now.men }
@@ -77,7 +77,7 @@ impl Position {
         self.board.men()[number as usize - 1].man()
     }
 
-    /// The set of the live men: bit `i - 1` is 1 exactly where man `i` is live.
+    /// Returns the bit mask of the live men: bit `i - 1` is 1 if and only if man `i` is live.
     pub fn mask(&self) -> u8
         ensures { IsMaskOf self.now result }
     {
@@ -85,14 +85,14 @@ impl Position {
     }
 }
 
-/// Whether some live man of the side bears on the square (x, y).
+/// Returns whether some live man of the side bears on the square (x, y) (FIDE Laws, Article 3.1.2).
 pub fn attacked(p: &Position, by: Side, x: i64, y: i64) -> bool
     ensures { IsTrue result ↔ Attacked p.now by (record { x = x; y = y }) }
 {
     is_attacked(&p.board.setup(), by, square_at(x, y))
 }
 
-/// Whether the king of the side to move is attacked.
+/// Returns whether the king of the side to move is attacked (FIDE Laws, Article 3.9.1).
 pub fn in_check(p: &Position) -> bool
     requires { Sound p.now }
     ensures { IsTrue result ↔ InCheck p.now p.now.turn }
@@ -100,7 +100,7 @@ pub fn in_check(p: &Position) -> bool
     attack::in_check(&p.board.setup(), p.board.turn())
 }
 
-/// The position after the move, or the first reason why it is not legal.
+/// Returns the position after the move. The error is the first reason why the move is not legal.
 pub fn try_move(p: &Position, mv: Move) -> Result<Position, Illegal>
     requires { Sound p.now }
     ensures legal { IfOk result (Legal p.now mv.man (record { x = mv.x; y = mv.y })) }
@@ -113,11 +113,12 @@ pub fn try_move(p: &Position, mv: Move) -> Result<Position, Illegal>
     }
 }
 
-/// Whether the side to move is mated, on the unbounded board: steps past the squares that an i64 can name are tried too.
+/// Returns whether the side to move is mated on the unbounded board (FIDE Laws, Article 5.1.1). Moves to squares
+/// outside the range of i64 are tried too.
 ///
-/// A check is ended by a move of the king, or by another man on the checking man's square or between him and the king,
-/// and each ray of that man leads to one of these squares at most. So at most one move is tried for each ray of each man,
-/// 56 in all. A move tried costs a look at each man for each man, as does the search for the checking man.
+/// Only a move of the king, or of another man to the checking man's square or between him and the king, ends a check.
+/// Each ray of a man meets at most one of these squares. So at most one move is tried for each ray of each man: at most
+/// 104, for a king and six amazons. Each trial, and the search for the checking man, compares each man with each man.
 pub fn mated(p: &Position) -> bool
     requires { Sound p.now }
     ensures { IsTrue result ↔ Mate p.now }
@@ -125,7 +126,7 @@ pub fn mated(p: &Position) -> bool
     is_mated(&p.board)
 }
 
-/// Whether the setup is sound, with a king on each side; and if not, the first reason.
+/// Returns whether the setup is sound with a king on each side. The error is the first reason why not.
 #[tactic(auto, using(crate::proofs::UnsoundnessLemmas::unsound_refuted))]
 fn soundness_of(setup: &Setup) -> Result<(), Unsound>
     ensures ok { IsOk result ↔ SoundWithKings setup.now }
@@ -134,7 +135,7 @@ fn soundness_of(setup: &Setup) -> Result<(), Unsound>
     check_setup(setup)
 }
 
-/// Whether the position is sound, with a king on each side; and if not, the first reason.
+/// Returns whether the position is sound with a king on each side. The error is the first reason why not.
 pub fn soundness(p: &Position) -> Result<(), Unsound>
     ensures ok { IsOk result ↔ SoundWithKings p.now }
     ensures reason { IfErr result (IsFirstUnsoundness p.now) }
@@ -142,11 +143,11 @@ pub fn soundness(p: &Position) -> Result<(), Unsound>
     soundness_of(&p.board.setup())
 }
 
-/// The most men of a crowd: of a position that is more than a [`Position`] holds.
+/// The greatest number of men of a crowd, which may have more men than a [`Position`].
 pub const MOST_CROWD: usize = 32;
 
-/// Whether these men, numbered from 1, and this side to move are a sound position; and if not, the first reason. As
-/// [`soundness`], for a crowd.
+/// Returns whether these men, numbered from 1, and this side to move are a sound position with a king on each side.
+/// Like [`soundness`], for a crowd. The error is the first reason why not.
 pub fn crowd_soundness(men: &[Man], turn: Side) -> Result<(), Unsound>
     requires { length men.now ≤ MOST_CROWD }
     ensures ok { IsOk result ↔ SoundWithKings (record { men = men.now; turn = turn }) }
@@ -170,9 +171,9 @@ fn square_of_man(p: &Position, number: u8) -> Square
     }
 }
 
-/// How far the man may go along a ray of his kind, inside the frame, over squares that are empty. `hits` is the
-/// first man whom he meets there, of his own side or the other; on a ray that is not far, only one at distance 1.
-/// Where several men stand on one square, it is the one with the least number.
+/// Returns how far the man may go along a ray of his kind, over empty squares inside the frame. `hits` is the first man
+/// on the ray inside the frame, of either side; on a near ray only a man at distance 1 counts. If several men stand on
+/// that square, it is the man with the least number.
 pub fn free_way(p: &Position, man: u8, ray: Ray, frame: Frame) -> Way
     requires { IsSomeAnd (man_at p.now man) (λ m. (m.place ≢ Place.Gone) × IsRayOf m ray) }
     ensures distances { (t : ℕ) → ((result.near ≤ t) × (t ≤ result.far)) ↔ IsFree p.now man ray frame t }

@@ -8,7 +8,7 @@ ghost use Rattle.game_rules.specs.declared.men.Side.{Side};
 
 use game_rules::{Kind, Ray, Side};
 
-/// The most rays of a kind.
+/// The greatest number of rays of a kind.
 pub const MOST_RAYS: u8 = 16;
 
 const ALL_ROUND: [(i8, i8); 8] = [
@@ -86,7 +86,7 @@ fn nth_ray(steps: &[(i8, i8)], far: bool, index: usize) -> Option<Ray>
     Some(Ray { dx, dy, far })
 }
 
-/// How many rays a man has.
+/// Returns the number of rays of a kind: 3 to 16.
 pub fn ray_count(kind: Kind, side: Side) -> u8
     ensures { result ≡ length (rays_of kind side) }
 {
@@ -95,9 +95,9 @@ pub fn ray_count(kind: Kind, side: Side) -> u8
     (far.len() + near.len()) as u8
 }
 
-/// The ray of this number, counted from 0, of the men of a kind; of the sides' men only the pawns differ.
-/// A pawn's ray 0 is for moves onto an empty square alone and bears on nothing, and his other two are for
-/// captures alone; all other rays serve both, and bear.
+/// Returns the ray of this number, counted from 0, or `None` if there is none. Only the rays of pawns depend on the
+/// side. A pawn's ray 0 serves moves onto an empty square only and bears on nothing; his other two serve captures only.
+/// All other rays serve both, and the man bears along them.
 pub fn ray(kind: Kind, side: Side, index: u8) -> Option<Ray>
     ensures { result ≡ ray_of kind side index }
 {

@@ -1,4 +1,4 @@
-//! Any number of men, and the side to move.
+//! Men in any number, and the side to move.
 
 ghost use Rattle.std.specs.Prelude.{◌≡◌, ◌≤◌, length};
 ghost use Rattle.game_rules.specs.Game.{man_at};
@@ -7,8 +7,8 @@ use crate::piece::Piece;
 use game_rules::Side;
 use std::marker::Model;
 
-/// Men in the order of their numbers, and the side to move. What is asked of a [`Board`](crate::board::Board) of at most
-/// eight men and of a crowd alike is asked of this.
+/// Men in the order of their numbers, and the side to move. Queries that a [`Board`](crate::board::Board) of at most
+/// eight men and a crowd share take this type.
 #[derive(Drop)]
 pub(crate) struct Setup<'a> {
     men: &'a [Piece],
@@ -46,14 +46,14 @@ impl<'a> Setup<'a> {
         self.turn
     }
 
-    /// The men, in the order of their numbers.
+    /// Returns the men in the order of their numbers.
     pub(crate) fn men(&self) -> &[Piece]
         ensures { result.now ≡ self.now.men }
     {
         self.men
     }
 
-    /// The man of this number, counted from 1.
+    /// Returns the man of this number, counted from 1.
     pub(crate) fn man(&self, number: usize) -> Option<Piece>
         ensures { result ≡ man_at self.now number }
     {

@@ -1,4 +1,4 @@
-//! Which positions are sound.
+//! Soundness of positions, and the first reason against it.
 
 ghost use Rattle.std.specs.Prelude.{◌≡◌, ◌↔◌, ◌<◌, ℕ, IfErr, IfNone, IfOk, IfSome, IsTrue, OnOk};
 ghost use Rattle.game_rules.specs.Game.{SoundWithKings};
@@ -9,7 +9,7 @@ use crate::attack::in_check;
 use crate::setup::Setup;
 use game_rules::{Kind, Side, Square};
 
-/// Why a position is not sound, in the order in which reasons are told, White's before Black's.
+/// Why a position is not sound, in the order in which reasons are reported; White's come before Black's.
 #[derive(Clone, Copy, PartialEq, Eq)]
 pub enum Unsound {
     /// No man of the side is a king.
@@ -180,7 +180,7 @@ fn check_apart(setup: &Setup) -> Result<(), Unsound>
     }
 }
 
-/// Whether the position is sound, with a king on each side; and if not, the first reason.
+/// Returns whether the position is sound with a king on each side. The error is the first reason why not.
 pub(crate) fn check_setup(setup: &Setup) -> Result<(), Unsound>
     ensures ok { OnOk result (SoundWithKings setup.now) }
     ensures reason { IfErr result (IsFirstUnsoundness setup.now) }

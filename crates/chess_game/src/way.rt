@@ -13,7 +13,7 @@ use crate::geometry::{Offset, is_times, offset_between, steps_of};
 use crate::piece::Piece;
 use game_rules::{Ray, Square};
 
-/// A rectangle of squares, its edges included. It holds no square where an edge `low` is past its `high`.
+/// A rectangle of squares, edges included. It is empty if an edge `low` exceeds its `high`.
 #[derive(Clone, Copy, PartialEq, Eq)]
 pub struct Frame {
     pub x_low: i64,
@@ -23,7 +23,7 @@ pub struct Frame {
 }
 
 impl Frame {
-    /// All squares that an i64 can name.
+    /// Returns the frame of all squares with i64 coordinates.
     pub fn whole() -> Frame
         ensures { result ≡ record { x_low = i64.MIN; x_high = i64.MAX; y_low = i64.MIN; y_high = i64.MAX } }
     {
@@ -36,8 +36,8 @@ impl Frame {
     }
 }
 
-/// How far a man may go along a ray: the distances from `near` to `far`, of which there are none where `near` is 1
-/// and `far` is 0, and the number of the man whom he meets there.
+/// How far a man may go along a ray: the distances from `near` to `far`, none if `near` is 1 and `far` is 0, and the
+/// number of the man that he meets there, if any.
 #[derive(Clone, Copy, PartialEq, Eq)]
 pub struct Way {
     pub near: u128,
@@ -59,7 +59,7 @@ pub(crate) struct Hit {
     pub(crate) index: usize,
 }
 
-/// More than any distance between two numbers of an i64.
+/// A bound on every distance between two i64 coordinates.
 const LIMIT: u128 = 1 << 64;
 
 /// No distance.
@@ -70,7 +70,7 @@ fn no_span() -> DistanceRange
     DistanceRange { first: 1, last: 0 }
 }
 
-/// A coordinate that changes by equal steps, and the least and the greatest that it may be.
+/// A coordinate that changes by equal steps, and the least and the greatest value allowed.
 #[derive(Clone, Copy)]
 pub(crate) struct Progression {
     pub(crate) at: i128,
@@ -97,7 +97,7 @@ fn mirrored(axis: Progression) -> Progression
     }
 }
 
-/// The distances at which a coordinate that grows by steps of 1 may be.
+/// Returns the distances at which a coordinate that grows by steps of 1 is allowed.
 fn rising_span(axis: Progression) -> DistanceRange
     requires { IsShort axis }
     ensures span { (t : ℕ) → IsIn result t ↔ IsWithin axis (axis.at +ℤ pos t) t }
@@ -115,7 +115,7 @@ fn rising_span(axis: Progression) -> DistanceRange
     DistanceRange { first, last }
 }
 
-/// The distances at which a coordinate that grows by steps of 2 may be.
+/// Returns the distances at which a coordinate that grows by steps of 2 is allowed.
 fn doubled_span(axis: Progression) -> DistanceRange
     requires { IsShort axis }
     ensures span { (t : ℕ) → IsIn result t ↔ IsWithin axis (axis.at +ℤ pos (t + t)) t }
@@ -133,7 +133,7 @@ fn doubled_span(axis: Progression) -> DistanceRange
     DistanceRange { first, last }
 }
 
-/// The distances, no longer than `LIMIT`, at which a coordinate that does not change may be.
+/// Returns the distances up to `LIMIT` at which a constant coordinate is allowed.
 fn level_span(axis: Progression) -> DistanceRange
     ensures span { (t : ℕ) → t ≤ 2 ^ 64 → IsIn result t ↔ IsWithin axis axis.at t }
     ensures bound { result.last ≤ 2 ^ 64 }
@@ -147,7 +147,7 @@ fn level_span(axis: Progression) -> DistanceRange
     no_span()
 }
 
-/// The distances at which a coordinate that grows may be.
+/// Returns the distances at which a growing coordinate is allowed.
 fn growing_span(axis: Progression) -> DistanceRange
     requires short { IsShort axis }
     requires step { (axis.step ≡ pos 1) ⊎ (axis.step ≡ pos 2) }
@@ -161,7 +161,7 @@ fn growing_span(axis: Progression) -> DistanceRange
     }
 }
 
-/// The distances, no longer than `LIMIT`, at which the coordinate may be.
+/// Returns the distances up to `LIMIT` at which the coordinate is allowed.
 fn axis_span(axis: Progression) -> DistanceRange
     requires short { IsShort axis }
     requires step { unsigned_abs axis.step ≤ 2 }
@@ -179,7 +179,7 @@ fn axis_span(axis: Progression) -> DistanceRange
     }
 }
 
-/// The columns that the ray leads to.
+/// The columns of the ray's squares.
 fn x_axis(from: Square, ray: Ray, frame: Frame) -> Progression
     requires { IsNarrow from }
     ensures at { result.at ≡ from.x }
@@ -196,7 +196,7 @@ fn x_axis(from: Square, ray: Ray, frame: Frame) -> Progression
     }
 }
 
-/// The rows that the ray leads to.
+/// The rows of the ray's squares.
 fn y_axis(from: Square, ray: Ray, frame: Frame) -> Progression
     requires { IsNarrow from }
     ensures at { result.at ≡ from.y }
@@ -438,7 +438,7 @@ fn number_within(span: DistanceRange, hit: Option<Hit>) -> Option<u8>
     Some(hit.index as u8 + 1)
 }
 
-/// How far the ray from this square leads over empty squares of the frame.
+/// Returns how far the ray from this square goes over empty squares of the frame.
 pub(crate) fn way_from(board: &Board, from: Square, ray: Ray, frame: Frame) -> Way
     requires narrow { IsNarrow from }
     requires stepwise { IsStepwise ray }

@@ -6,7 +6,7 @@ use Rattle.text_fields.specs.Numbers.{IsNumber}
 use Rattle.chess_text.specs.declared.fields.PairWhy.{PairWhy}
 use Rattle.chess_text.specs.declared.fields.PairWhy.TheVariants.{Shape, Number}
 
--- a field has a byte, and no blank
+-- a field has at least one byte and no blank
 pub record IsField (text : List ℕ) : Type 0 where
   pub some : text ≢ []
   pub no_blank : HasNoBlank text
@@ -19,7 +19,7 @@ two_fields first second = first ++ 32 ∷ second
 abbrev pub pair_text : ℤ → ℤ → List ℕ
 pair_text x y = two_fields (signed_decimal x) (signed_decimal y)
 
--- the text has the shape of two fields
+-- the text has the shape of two fields with one blank between them
 pub record HasTwoFields (text : List ℕ) : Type 0 where
   pub first : List ℕ
   pub second : List ℕ
@@ -27,7 +27,7 @@ pub record HasTwoFields (text : List ℕ) : Type 0 where
   pub is_second : IsField second
   pub joined : text ≡ two_fields first second
 
--- the text has the shape of two fields, and one of them is not as both should be
+-- the text has the shape of two fields, and one of them lacks the property
 pub record HasOtherField (Is : List ℕ → Type 0) (text : List ℕ) : Type 0 where
   pub first : List ℕ
   pub second : List ℕ
@@ -36,11 +36,11 @@ pub record HasOtherField (Is : List ℕ → Type 0) (text : List ℕ) : Type 0 w
   pub joined : text ≡ two_fields first second
   pub other : (Is first → ⊥) ⊎ (Is second → ⊥)
 
--- the text has the shape of two fields, and one of them is no number
+-- the text has the shape of two fields, and one of them is not a number
 abbrev pub HasNoNumber : List ℕ → Type 0
 HasNoNumber text = HasOtherField IsNumber text
 
--- this is the first reason why the text is no pair of numbers
+-- this is the first reason why the text is not a pair of numbers
 abbrev pub IsPairRefusal : List ℕ → PairWhy → Type 0
 IsPairRefusal text Shape = HasTwoFields text → ⊥
 IsPairRefusal text Number = HasNoNumber text

@@ -1,4 +1,4 @@
--- The lines of a text that name a man, or the side to move and the side that is to mate.
+-- The lines of a text that name a man, or the side to move and the winner.
 use Rattle.std.specs.Prelude.{◌≡◌, ◌⊎◌, ℕ, List, [], ◌∷◌, ◌++◌, codes}
 use Rattle.game_rules.specs.declared.men.Side.{Side}
 use Rattle.game_rules.specs.declared.men.Side.TheVariants.{White, Black}
@@ -15,12 +15,12 @@ use Rattle.chess_text.specs.declared.fields.PairWhy.TheVariants as pair_why
 use Rattle.chess_text.specs.declared.man_line.TextWhy.{TextWhy}
 use Rattle.chess_text.specs.declared.man_line.TextWhy.TheVariants as why
 
--- the letter of a side
+-- the symbol of a side
 abbrev pub side_letter : Side → ℕ
 side_letter White = 87
 side_letter Black = 66
 
--- the letter of a kind
+-- the symbol of a kind
 abbrev pub kind_letter : Kind → ℕ
 kind_letter King = 75
 kind_letter Queen = 81
@@ -37,7 +37,7 @@ abbrev pub place_text : Place → List ℕ
 place_text Gone = codes "gone"
 place_text (At x y) = pair_text x y
 
--- the letters of a side and a kind, and what comes after them
+-- the symbols of a side and a kind, followed by the text
 abbrev pub behind_letters : Side → Kind → List ℕ → List ℕ
 behind_letters s k rest = side_letter s ∷ 32 ∷ kind_letter k ∷ 32 ∷ rest
 
@@ -45,30 +45,30 @@ behind_letters s k rest = side_letter s ∷ 32 ∷ kind_letter k ∷ 32 ∷ rest
 abbrev pub man_text : Man → List ℕ
 man_text m = behind_letters m.side m.kind (place_text m.place)
 
--- the second line: the side to move, and the side that is to mate, which is White where none is named
+-- the second line: the side to move, and the winner, which is White if none is named
 abbrev pub turn_text : Side → Side → List ℕ
 turn_text turn White = codes "turn " ++ side_letter turn ∷ []
 turn_text turn Black = codes "turn " ++ side_letter turn ∷ codes " for B"
 
--- the line is that of the man, on a place that the text may name
+-- the line is that of the man, whose place is in the range of the text
 pub record IsManLine (g : Grammar) (line : List ℕ) (man : Man) : Type 0 where
   pub spelled : line ≡ man_text man
   pub fits : IsPlaceOf g man.place
 
--- the text is that of the place, which may be named
+-- the text is that of the place, which is in the range of the text
 pub record IsPlaceText (g : Grammar) (text : List ℕ) (place : Place) : Type 0 where
   pub spelled : text ≡ place_text place
   pub fits : IsPlaceOf g place
 
--- a captured man's place, or two fields
+-- the text has the shape of a place: the word for a captured man, or two fields
 abbrev pub HasPlaceShape : List ℕ → Type 0
 HasPlaceShape rest = (rest ≡ codes "gone") ⊎ HasTwoFields rest
 
--- two fields, one of which is no coordinate of the text
+-- the text has two fields, one of which is not a coordinate of the text
 abbrev pub HasPlaceFault : Grammar → List ℕ → Type 0
 HasPlaceFault g rest = HasOtherField (IsCoordinate g) rest
 
--- this is the first reason why the text is no place
+-- this is the first reason why the text is not a place
 abbrev pub IsPlaceRefusal : Grammar → List ℕ → PairWhy → Type 0
 IsPlaceRefusal g rest pair_why.Shape = HasPlaceShape rest → ⊥
 IsPlaceRefusal g rest pair_why.Number = HasPlaceFault g rest
@@ -81,7 +81,7 @@ pub record HasManShape (line : List ℕ) : Type 0 where
   pub letters : line ≡ behind_letters side kind rest
   pub shape : HasPlaceShape rest
 
--- the line has two fields behind the letters, and one of them is no coordinate
+-- the line has two fields after the symbols, and one of them is not a coordinate
 pub record HasManFault (g : Grammar) (line : List ℕ) : Type 0 where
   pub side : Side
   pub kind : Kind
@@ -89,7 +89,7 @@ pub record HasManFault (g : Grammar) (line : List ℕ) : Type 0 where
   pub letters : line ≡ behind_letters side kind rest
   pub no_coordinate : HasPlaceFault g rest
 
--- this is the first reason why the line names no man
+-- this is the first reason why the line does not name a man
 abbrev pub IsManRefusal : Grammar → List ℕ → TextWhy → Type 0
 IsManRefusal g line why.ManLine = HasManShape line → ⊥
 IsManRefusal g line why.Number = HasManFault g line

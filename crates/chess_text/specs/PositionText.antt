@@ -1,4 +1,4 @@
--- The text of a position and of the side that is to mate, line by line.
+-- The text of a position and its winner, line by line.
 use Rattle.std.specs.Prelude.{◌≡◌, ◌≢◌, ◌⊎◌, ℕ, ◌<◌, ◌≤◌, List, [], ◌∷◌, ◌++◌, length, map, codes, Option, Some, None, Result, Ok, Err, FitsSigned}
 use Rattle.std.specs.List.{All, flat_map}
 use Rattle.std.specs.Int.{w64}
@@ -24,15 +24,15 @@ end_line = codes "end"
 abbrev pub text_lines : Grammar → Draft → List (List ℕ)
 text_lines g d = g.header ∷ turn_text d.turn d.winner ∷ (map man_text d.men ++ end_line ∷ [])
 
--- a position, and the side that is to mate
+-- a position and its winner
 abbrev pub draft_of : Position → Side → Draft
 draft_of p winner = record { men = p.men; turn = p.turn; winner = winner }
 
--- the position that a text says
+-- the position in a text's contents
 abbrev pub drafted : Draft → Position
 drafted d = record { men = d.men; turn = d.turn }
 
--- the lines of the text of a position and a winner, in order
+-- the lines of the text of a position and its winner, in order
 abbrev pub position_lines : Position → Side → List (List ℕ)
 position_lines p winner = text_lines positions (draft_of p winner)
 
@@ -43,42 +43,42 @@ text_of_lines lines = flat_map (λ line. line ++ 10 ∷ []) lines
 abbrev pub position_text : Position → Side → List ℕ
 position_text p winner = text_of_lines (position_lines p winner)
 
--- coordinates are numbers of 64 bits
+-- the coordinates are numbers of 64 bits
 abbrev pub FitsPlace : Place → Type 0
 FitsPlace Gone = Unit {0}
 FitsPlace (At x y) = FitsSigned w64 x × FitsSigned w64 y
 
--- a position that a text may have
+-- a position that has a text
 pub record IsWritable (p : Position) : Type 0 where
   pub low : 2 ≤ length p.men
   pub high : length p.men ≤ MOST_MEN
   pub fit : All (λ m. FitsPlace m.place) p.men
 
--- what a text of a kind may say
+-- contents that a text of this kind may have
 pub record IsDraftOf (g : Grammar) (d : Draft) : Type 0 where
   pub low : 2 ≤ length d.men
   pub high : length d.men ≤ g.most_men
   pub fit : All (λ m. IsPlaceOf g m.place) d.men
 
--- What a line makes of a text: it goes on at a stage, or the text is complete, or the line may not stand there.
+-- The result of a line of a text: the text continues at a stage, or is complete, or the line is refused.
 pub data Turnout : Type 0 where
   more : ReaderState → Turnout
   complete : Draft → Turnout
   wrong : TextWhy → Turnout
 
--- the turnout of an answer, and the stage after it
+-- the result and the stage after it, as a Turnout
 abbrev pub turnout : Result (Option Draft) TextWhy → ReaderState → Turnout
 turnout (Ok None) next = more next
 turnout (Ok (Some d)) next = complete d
 turnout (Err reason) next = wrong reason
 
--- what a line other than the end makes of a text so far, which has fewer men than it may have
+-- the result of a line other than the end, if the text has fewer men than it may have
 abbrev pub FeedsMan : Grammar → Draft → List ℕ → Turnout → Type 0
 FeedsMan g d line turnout =
     ((m : Man) × IsManLine g line m × (turnout ≡ more (stage.Men (with_man d m))))
     ⊎ ((reason : TextWhy) × IsManRefusal g line reason × (turnout ≡ wrong reason))
 
--- what a line makes of a text so far
+-- the result of a line that names a man or ends the text
 abbrev pub FeedsMen : Grammar → Draft → List ℕ → Turnout → Type 0
 FeedsMen g d line turnout =
     ((length d.men < 2) × (line ≡ end_line) × (turnout ≡ wrong why.TooFew))
@@ -86,7 +86,7 @@ FeedsMen g d line turnout =
     ⊎ ((length d.men ≡ g.most_men) × (line ≢ end_line) × (turnout ≡ wrong why.TooMany))
     ⊎ ((length d.men < g.most_men) × (line ≢ end_line) × FeedsMan g d line turnout)
 
--- what a line makes of a text at a stage
+-- the result of a line at a stage of a text
 abbrev pub Feeds : Grammar → ReaderState → List ℕ → Turnout → Type 0
 Feeds g stage.Header line turnout =
     ((line ≡ g.header) × (turnout ≡ more stage.Turn)) ⊎ ((line ≢ g.header) × (turnout ≡ wrong why.Header))
@@ -95,7 +95,7 @@ Feeds g stage.Turn line turnout =
     ⊎ (((turn winner : Side) → line ≢ turn_text turn winner) × (turnout ≡ wrong why.Turn))
 Feeds g (stage.Men d) line turnout = FeedsMen g d line turnout
 
--- the lines make a complete text, the last of them its end
+-- the lines complete the text, and the last of them is its end
 abbrev pub Completes : Grammar → ReaderState → List (List ℕ) → Draft → Type 0
 Completes g s [] d = ⊥
 Completes g s (line ∷ []) d = Feeds g s line (complete d)

@@ -12,7 +12,7 @@ use Rattle.chess_text.specs.declared.replies.MoveWhy.TheVariants as why
 abbrev pub man_digit : ℕ → ℕ
 man_digit man = 48 + man
 
--- the text of a move: the man's number and the square that he goes to
+-- the text of a move: the man's number and the coordinates of the square that he goes to
 abbrev pub move_text : Move → List ℕ
 move_text mv = man_digit mv.man ∷ 32 ∷ pair_text mv.x mv.y
 
@@ -28,7 +28,7 @@ abbrev pub IsReply : List ℕ → Typed → Type 0
 IsReply line (typed.Move mv) = (line ≡ move_text mv) × IsTypable mv
 IsReply line typed.Quit = line ≡ codes "quit"
 
--- a digit from 1 to 8, a blank, and more
+-- a digit from 1 to 8, a blank, and a text with the property
 pub record HasDigit (P : List ℕ → Type 0) (line : List ℕ) : Type 0 where
   pub man : ℕ
   pub first : 1 ≤ man
@@ -37,7 +37,7 @@ pub record HasDigit (P : List ℕ → Type 0) (line : List ℕ) : Type 0 where
   pub front : line ≡ man_digit man ∷ 32 ∷ rest
   pub shape : P rest
 
--- this is the first reason why the line is no reply
+-- this is the first reason why the line is not a reply
 abbrev pub IsReplyRefusal : List ℕ → MoveWhy → Type 0
 IsReplyRefusal line why.Shape = ((line ≡ codes "quit") ⊎ HasDigit HasTwoFields line) → ⊥
 IsReplyRefusal line why.Number = HasDigit HasNoNumber line

@@ -1,4 +1,4 @@
-//! What a text says, as far as it was read.
+//! The contents of a text that is being read.
 
 ghost use Rattle.std.specs.Prelude.{◌≡◌, ◌<◌, ◌≤◌, length};
 ghost use Rattle.chess_text.specs.Draft.{nobody, with_man};
@@ -7,10 +7,10 @@ ghost use Rattle.chess_text.specs.declared.draft.TheConstants.{MOST_READ};
 use chess_game::{Kind, Man, Place, Side};
 use std::marker::Model;
 
-/// How many men a text of any kind has at most.
+/// The greatest number of men of a text of any kind.
 pub const MOST_READ: usize = 32;
 
-/// The men of a text, the side to move, and the side that is to mate.
+/// The contents of a text: its men, the side to move, and the winner, the side that is to mate.
 #[derive(Drop)]
 pub struct Draft {
     turn: Side,
@@ -33,7 +33,7 @@ impl Model for Draft {
 }
 
 impl Draft {
-    /// No man yet.
+    /// Creates a draft without men.
     pub fn new(turn: Side, winner: Side) -> Self
         ensures { result ≡ nobody turn winner }
     {
@@ -50,7 +50,7 @@ impl Draft {
         }
     }
 
-    /// Adds a man behind the others.
+    /// Adds a man after the others.
     pub fn push(&mut self, man: Man)
         requires { length self.old.men < MOST_READ }
         ensures { self.new ≡ with_man self.old man }
@@ -59,6 +59,7 @@ impl Draft {
         self.count += 1;
     }
 
+    /// Returns the men.
     pub fn men(&self) -> &[Man]
         ensures men { result.now ≡ self.now.men }
         ensures most { length result.now ≤ MOST_READ }
@@ -66,12 +67,14 @@ impl Draft {
         &self.men[..self.count]
     }
 
+    /// Returns the side to move.
     pub fn turn(&self) -> Side
         ensures { result ≡ self.now.turn }
     {
         self.turn
     }
 
+    /// Returns the winner.
     pub fn winner(&self) -> Side
         ensures { result ≡ self.now.winner }
     {

@@ -1,4 +1,4 @@
-//! Pairs of numbers in lines.
+//! Pairs of numbers in text lines.
 
 ghost use Rattle.std.specs.Prelude.{◌≡◌, ◌↔◌, FitsSigned, IfSome, IfNone, IfOk, IfErr, IsTrue};
 ghost use Rattle.std.specs.Int.{w64};
@@ -6,23 +6,23 @@ ghost use Rattle.chess_text.specs.Fields.{IsField, IsPairRefusal, HasTwoFields, 
 
 use text_fields::{read_number, split_at_blank};
 
-/// Why two fields are no pair of numbers.
+/// Why two fields are not a pair of numbers.
 #[derive(Clone, Copy, PartialEq, Eq)]
 pub enum PairWhy {
     /// There are not two fields with one blank between them.
     Shape,
-    /// A field is no number of 64 bits.
+    /// A field is not a number of 64 bits.
     Number,
 }
 
-/// Whether the text is a field: it has a byte and no blank.
+/// Returns whether the text is a field: at least one byte, and no blank.
 fn is_field(text: &[u8]) -> bool
     ensures { IsTrue result ↔ IsField text.now }
 {
     !text.is_empty() && !text.contains(&b' ')
 }
 
-/// The two fields that the text is, with a blank between them.
+/// Splits the text into two fields with one blank between them.
 fn split_fields(text: &[u8]) -> Option<(&[u8], &[u8])>
     ensures some { IfSome result (λ p. (text.now ≡ two_fields p.0.now p.1.now) × IsField p.0.now × IsField p.1.now) }
     ensures none { IfNone result (HasTwoFields text.now → ⊥) }
@@ -39,7 +39,7 @@ fn split_fields(text: &[u8]) -> Option<(&[u8], &[u8])>
     Some((first, second))
 }
 
-/// The two numbers that the text spells, with a blank between them.
+/// Parses two numbers of 64 bits with one blank between them.
 pub fn read_pair(text: &[u8]) -> Result<(i64, i64), PairWhy>
     ensures pair { IfOk result (λ p. text.now ≡ pair_text p.0 p.1) }
     ensures fits { IfOk result (λ p. FitsSigned w64 p.0 × FitsSigned w64 p.1) }

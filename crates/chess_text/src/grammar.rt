@@ -1,28 +1,28 @@
-//! What kinds of texts differ in.
+//! The differences between the kinds of texts.
 
 ghost use Rattle.std.specs.Prelude.{◌≡◌, ◌↔◌, IsTrue};
 ghost use Rattle.chess_text.specs.Grammar.{IsCoordinateOf, crowds, positions};
 
 use chess_game::MOST_CROWD;
 
-/// How many bytes a header has.
+/// The number of bytes of a header.
 pub const HEADER_BYTES: usize = 16;
 
-/// How many men a position text has at most.
+/// The greatest number of men of a position text.
 pub const MOST_MEN: usize = 8;
 
-/// What a kind of text begins with, how many men it has at most, and which coordinates it names.
+/// The grammar of a kind of text: its header, its greatest number of men, and its range of coordinates.
 #[derive(Clone, Copy)]
 pub struct Grammar {
     /// The first line.
     pub header: [u8; HEADER_BYTES],
     pub most_men: usize,
-    /// How far from 0 a coordinate is at most. None is taken that has no 64 bits.
+    /// The greatest absolute value of a coordinate. A coordinate has at most 64 bits in any case.
     pub farthest: u64,
 }
 
 impl Grammar {
-    /// Position texts: up to eight men, on squares of 64 bits.
+    /// Returns the grammar of position texts: up to eight men, and coordinates of 64 bits.
     pub fn positions() -> Grammar
         ensures { result ≡ positions }
     {
@@ -33,7 +33,8 @@ impl Grammar {
         }
     }
 
-    /// Crowd texts: up to 32 men, on squares near enough that sums over a few moves have 64 bits.
+    /// Returns the grammar of crowd texts: up to 32 men, and coordinates small enough that sums over a few moves have
+    /// 64 bits.
     pub fn crowds() -> Grammar
         ensures { result ≡ crowds }
     {
@@ -44,7 +45,7 @@ impl Grammar {
         }
     }
 
-    /// Whether a number is a coordinate of such texts.
+    /// Returns whether the number is a coordinate in such texts.
     pub fn takes(&self, coordinate: i64) -> bool
         ensures { IsTrue result ↔ IsCoordinateOf self.now coordinate }
     {

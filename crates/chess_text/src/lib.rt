@@ -1,4 +1,4 @@
-//! The texts of positions and moves, read and written.
+//! Parses and prints positions and moves.
 #![tactic(auto)]
 
 mod draft;

@@ -1,4 +1,4 @@
-//! A line that is built in place.
+//! A line that is built in a fixed buffer.
 
 ghost use Rattle.std.specs.Prelude.{◌≡◌, ◌+◌, ◌≤◌, ◌++◌, [], ℕ, List, length, take};
 ghost use Rattle.std.specs.Fmt.{signed_decimal};
@@ -6,7 +6,7 @@ ghost use Rattle.std.specs.Fmt.{signed_decimal};
 use itoa::Buffer;
 use std::marker::Model;
 
-/// How many bytes a buffer holds.
+/// The capacity of the buffer in bytes.
 pub const ROOM: usize = 128;
 
 /// A line of at most [`ROOM`] bytes.
@@ -27,6 +27,7 @@ impl Model for LineBuffer {
 }
 
 impl LineBuffer {
+    /// Creates an empty line.
     pub fn new() -> Self
         ensures { result ≡ [] }
     {
@@ -36,7 +37,7 @@ impl LineBuffer {
         }
     }
 
-    /// Adds the bytes at the end.
+    /// Appends the bytes.
     pub fn push(&mut self, bytes: &[u8])
         requires { length self.old + length bytes.now ≤ 128 }
         ensures { self.new ≡ self.old ++ bytes.now }
@@ -46,7 +47,7 @@ impl LineBuffer {
         self.len = end;
     }
 
-    /// Adds the number at the end, in at most 20 bytes.
+    /// Appends the number in decimal, at most 20 bytes.
     pub fn push_number(&mut self, number: i64)
         requires { length self.old + 20 ≤ 128 }
         ensures text { self.new ≡ self.old ++ signed_decimal number }
@@ -55,6 +56,7 @@ impl LineBuffer {
         self.push(Buffer::new().format(number).as_bytes());
     }
 
+    /// Returns the bytes of the line.
     pub fn as_slice(&self) -> &[u8]
         ensures { result.now ≡ self.now }
     {

@@ -1,4 +1,4 @@
-//! The lines of men, and of the side to move and the side that is to mate.
+//! The lines for the men, and the line for the side to move and the winner.
 
 ghost use Rattle.std.specs.Prelude.{◌≡◌, ◌≢◌, IfOk, IfErr, OnErr, IfSome, IfNone, ℕ};
 ghost use Rattle.chess_text.specs.ManLine.{turn_text, side_letter, kind_letter, IsManLine, IsManRefusal, IsPlaceText, IsPlaceRefusal};
@@ -9,24 +9,24 @@ use crate::fields::{PairWhy, read_pair};
 use crate::grammar::Grammar;
 use chess_game::{Kind, Man, Place, Side};
 
-/// Why a line may not stand where it stands in a position text.
+/// Why a line of a position text is refused.
 #[derive(Clone, Copy, PartialEq, Eq)]
 pub enum TextWhy {
     /// The first line is not the header.
     Header,
-    /// The second line does not name the side to move, and no winner but Black.
+    /// The second line does not name the side to move, and optionally Black as winner.
     Turn,
-    /// A line has none of the shapes of a man line.
+    /// A line does not have the shape of a man line.
     ManLine,
-    /// A coordinate is no number of 64 bits, or farther from 0 than the text may name.
+    /// A coordinate is not a number of 64 bits, or exceeds the range of the text.
     Number,
     /// The text ends with fewer than two men.
     TooFew,
-    /// A line other than the end follows the last man that a text may have.
+    /// The text has its greatest number of men already, and another line than the end follows.
     TooMany,
 }
 
-/// The side of a letter.
+/// Returns the side of a symbol.
 fn side_of(letter: u8) -> Option<Side>
     ensures some { IfSome result (λ s. letter ≡ side_letter s) }
     ensures none { IfNone result ((s : Side) → letter ≢ side_letter s) }
@@ -38,7 +38,7 @@ fn side_of(letter: u8) -> Option<Side>
     }
 }
 
-/// The kind of a letter.
+/// Returns the kind of a symbol.
 fn kind_of(letter: u8) -> Option<Kind>
     ensures some { IfSome result (λ k. letter ≡ kind_letter k) }
     ensures none { IfNone result ((k : Kind) → letter ≢ kind_letter k) }
@@ -58,7 +58,7 @@ fn kind_of(letter: u8) -> Option<Kind>
     }
 }
 
-/// The place behind the two letters of a man line.
+/// Parses the place after the two symbols of a man line.
 fn read_place(grammar: &Grammar, text: &[u8]) -> Result<Place, PairWhy>
     ensures place { IfOk result (IsPlaceText grammar.now text.now) }
     ensures refused { IfErr result (IsPlaceRefusal grammar.now text.now) }
@@ -74,7 +74,7 @@ fn read_place(grammar: &Grammar, text: &[u8]) -> Result<Place, PairWhy>
     }
 }
 
-/// Reads a man line: a letter for the side, one for the kind, and two coordinates or the word `gone`.
+/// Parses a man line: a symbol for the side, one for the kind, and two coordinates or the word `gone`.
 pub fn read_man_line(grammar: &Grammar, line: &[u8]) -> Result<Man, TextWhy>
     ensures man { IfOk result (IsManLine grammar.now line.now) }
     ensures refused { IfErr result (IsManRefusal grammar.now line.now) }
@@ -92,7 +92,7 @@ pub fn read_man_line(grammar: &Grammar, line: &[u8]) -> Result<Man, TextWhy>
     }
 }
 
-/// Reads the second line of a text: the side to move, and the side that is to mate, which is White where the line names none.
+/// Parses the second line of a text: the side to move and the winner, which is White if the line names none.
 pub fn read_turn_line(line: &[u8]) -> Result<(Side, Side), TextWhy>
     ensures sides { IfOk result (λ sides. line.now ≡ turn_text sides.0 sides.1) }
     ensures refused { IfErr result (λ why. why ≡ TextWhy.Turn) }

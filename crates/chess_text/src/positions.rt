@@ -1,4 +1,4 @@
-//! Reading a position text, a line at a time.
+//! A parser of position texts that takes one line at a time.
 
 ghost use Rattle.std.specs.Prelude.{◌≡◌, IfSome, None};
 ghost use Rattle.chess_text.specs.Grammar.{positions};
@@ -9,17 +9,17 @@ use crate::reader::{TextError, TextReader};
 use chess_game::{Position, Side};
 use std::marker::Model;
 
-/// What a line makes of a position text.
+/// The result of one line of a position text.
 #[derive(Clone, Copy)]
 pub enum Fed {
-    /// The text goes on.
+    /// The text continues.
     More,
-    /// The line was the last of the text of this position, which this side is to win.
+    /// The line was the last one of the text of this position and this winner.
     Whole { position: Position, winner: Side },
 }
 
 impl Fed {
-    /// The position of a whole text, and the side that is to win it.
+    /// Returns the position and the winner if the text is complete.
     pub fn whole(self) -> Option<(Position, Side)>
         ensures { result ≡ whole_of self }
     {
@@ -30,7 +30,7 @@ impl Fed {
     }
 }
 
-/// A reader of position texts.
+/// A parser of position texts. It takes one line at a time.
 #[derive(Drop)]
 pub struct PositionReader {
     text: TextReader,
@@ -49,7 +49,7 @@ impl Model for PositionReader {
 }
 
 impl PositionReader {
-    /// A reader that has read nothing.
+    /// Creates a parser that has read nothing.
     pub fn new() -> Self
         ensures { result ≡ begun positions }
     {
@@ -58,14 +58,15 @@ impl PositionReader {
         }
     }
 
-    /// The number of the line that is due, counted from 1, while the text goes on.
+    /// Returns the number of the next line, counted from 1, while the text continues.
     pub fn line_due(&self) -> u32
         ensures { result ≡ line_due self.now.stage }
     {
         self.text.line_due()
     }
 
-    /// Takes the next line of a text, without its LF. After an error, or once the text is whole, the answer stays.
+    /// Takes the next line of a text, without its LF. An error or a complete text is final: later calls return it
+    /// again.
     pub fn feed_line(&mut self, line: &[u8]) -> Result<Fed, TextError>
         ensures stopped { IfSome self.old.end (λ end. (result ≡ again_at self.old.stage end) × (self.new ≡ self.old)) }
         ensures feeds { self.old.end ≡ None → ReadsLine self.old.stage line.now result self.new }
@@ -74,7 +75,7 @@ impl PositionReader {
         Ok(self.fed())
     }
 
-    /// What was made of the text by its last line.
+    /// Returns the result of the last line.
     fn fed(&self) -> Fed
         ensures { result ≡ fed_at self.now.end self.now.stage }
     {

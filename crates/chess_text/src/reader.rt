@@ -1,4 +1,4 @@
-//! Reading a text, a line at a time.
+//! A parser of texts of any kind that takes one line at a time.
 
 ghost use Rattle.std.specs.Prelude.{◌≡◌, ◌≢◌, ◌≤◌, length, IfSome, IfNone, None, Some};
 ghost use Rattle.chess_text.specs.Progress.{HasRoom, IsFed, IsWhole, Reads, answer_of, begun, line_due};
@@ -9,40 +9,40 @@ use crate::grammar::Grammar;
 use crate::man_line::{TextWhy, read_man_line, read_turn_line};
 use std::marker::Model;
 
-/// A line that may not stand where it stands, counted from 1, and why.
+/// The number of a line that is refused, counted from 1, and the reason.
 #[derive(Clone, Copy, PartialEq, Eq)]
 pub struct TextError {
     pub line: u32,
     pub why: TextWhy,
 }
 
-/// What a line makes of a text.
+/// The result of one line of a text.
 #[derive(Clone, Copy, PartialEq, Eq)]
 pub enum LineOutcome {
-    /// The text goes on.
+    /// The text continues.
     More,
-    /// The line was its last.
+    /// The line was the last one.
     Whole,
 }
 
-/// How a text has ended.
+/// How a text ended.
 #[derive(Clone, Copy)]
 pub enum End {
     Whole,
     Refused(TextError),
 }
 
-/// Where a text stands: which line is due.
+/// The progress of a text: which line is next.
 #[derive(Drop)]
 pub enum ReaderState {
     Header,
     Turn,
-    /// A man, or the end.
+    /// A man or the end is next.
     Men(Draft),
 }
 
 impl ReaderState {
-    /// The number of the line that is due, counted from 1.
+    /// Returns the number of the next line, counted from 1.
     fn number(&self) -> u32
         ensures { result ≡ line_due self.now }
     {
@@ -54,7 +54,7 @@ impl ReaderState {
     }
 }
 
-/// Takes a line behind the first two.
+/// Takes a line after the first two.
 fn feed_men(grammar: &Grammar, draft: &mut Draft, line: &[u8]) -> Result<LineOutcome, TextWhy>
     requires few { grammar.now.most_men ≤ MOST_READ }
     requires room { length draft.old.men ≤ grammar.now.most_men }
@@ -101,7 +101,7 @@ fn feed(grammar: &Grammar, stage: &mut ReaderState, line: &[u8]) -> Result<LineO
     }
 }
 
-/// A reader of texts of one kind.
+/// A parser of texts of one kind. It takes one line at a time.
 #[derive(Drop)]
 pub struct TextReader {
     grammar: Grammar,
@@ -120,7 +120,7 @@ impl Model for TextReader {
 }
 
 impl TextReader {
-    /// A reader that has read nothing.
+    /// Creates a parser that has read nothing.
     pub fn new(grammar: Grammar) -> Self
         requires { grammar.most_men ≤ MOST_READ }
         ensures { result ≡ begun grammar }
@@ -132,14 +132,15 @@ impl TextReader {
         }
     }
 
-    /// The number of the line that is due, counted from 1, while the text goes on.
+    /// Returns the number of the next line, counted from 1, while the text continues.
     pub fn line_due(&self) -> u32
         ensures { result ≡ line_due self.now.stage }
     {
         self.stage.number()
     }
 
-    /// Takes the next line of a text, without its LF. After an error, or once the text is whole, the answer stays.
+    /// Takes the next line of a text, without its LF. An error or a complete text is final: later calls return it
+    /// again.
     pub fn feed_line(&mut self, line: &[u8]) -> Result<LineOutcome, TextError>
         ensures stopped { IfSome self.old.end (λ end. (result ≡ answer_of end) × (self.new ≡ self.old)) }
         ensures reads { self.old.end ≡ None → Reads self.old.grammar self.old.stage line.now result self.new }
@@ -165,7 +166,7 @@ impl TextReader {
         }
     }
 
-    /// What the text says, where it is whole.
+    /// Returns the contents of the text if it is complete.
     pub fn whole(&self) -> Option<&Draft>
         ensures some { IfSome result (λ draft. IsWhole self.now draft.now) }
         ensures none { IfNone result (self.now.end ≢ Some End.Whole) }
@@ -176,7 +177,7 @@ impl TextReader {
         }
     }
 
-    /// The same, in place of the reader.
+    /// Returns the contents of the text if it is complete, and consumes the parser.
     pub fn into_whole(self) -> Option<Draft>
         ensures some { IfSome result (λ draft. IsWhole self draft) }
         ensures none { IfNone result (self.end ≢ Some End.Whole) }

@@ -1,4 +1,4 @@
-//! The lines of replies, and of moves.
+//! The lines of replies and of moves.
 
 ghost use Rattle.std.specs.Prelude.{◌≡◌, ◌≢◌, ◌≤◌, ◌<◌, ◌+◌, FitsSigned, IfOk, IfErr, IfSome, IfNone, ℕ};
 ghost use Rattle.std.specs.Int.{w64};
@@ -9,23 +9,23 @@ use crate::fields::{PairWhy, read_pair};
 use crate::line_buffer::LineBuffer;
 use chess_game::Move;
 
-/// A line that was typed.
+/// A line that a player typed.
 #[derive(Clone, Copy, PartialEq, Eq)]
 pub enum Typed {
     Move(Move),
     Quit,
 }
 
-/// Why a line is no reply.
+/// Why a line is not a reply.
 #[derive(Clone, Copy, PartialEq, Eq)]
 pub enum MoveWhy {
-    /// It is neither `quit` nor a man's number and two fields.
+    /// It is neither `quit` nor the number of a man and two fields.
     Shape,
-    /// A field is no number of 64 bits.
+    /// A field is not a number of 64 bits.
     Number,
 }
 
-/// The number of a man, from its digit.
+/// Returns the number of a man from its digit.
 fn man_of(digit: u8) -> Option<u8>
     ensures some { IfSome result (λ man. (digit ≡ 48 + man) × (1 ≤ man) × (man ≤ 8)) }
     ensures none { IfNone result ((man : ℕ) → 1 ≤ man → man ≤ 8 → digit ≢ 48 + man) }
@@ -36,7 +36,7 @@ fn man_of(digit: u8) -> Option<u8>
     Some(digit - b'0')
 }
 
-/// The move of the man to the square that the text names.
+/// Returns the move of the man to the square that the text names.
 fn read_target(man: u8, text: &[u8]) -> Result<Move, PairWhy>
     ensures square { IfOk result (λ mv. (text.now ≡ pair_text mv.x mv.y) × FitsSigned w64 mv.x × FitsSigned w64 mv.y) }
     ensures man { IfOk result (λ mv. mv.man ≡ man) }
@@ -46,7 +46,7 @@ fn read_target(man: u8, text: &[u8]) -> Result<Move, PairWhy>
     Ok(Move { man, x, y })
 }
 
-/// Reads a reply: the number of a man and the square that he goes to, or the word `quit`.
+/// Parses a reply: the number of a man and the square that he goes to, or the word `quit`.
 pub fn read_move(line: &[u8]) -> Result<Typed, MoveWhy>
     ensures reply { IfOk result (IsReply line.now) }
     ensures refused { IfErr result (IsReplyRefusal line.now) }
@@ -74,13 +74,14 @@ pub struct MoveText {
 }
 
 impl MoveText {
+    /// Creates an empty buffer.
     pub fn new() -> Self {
         MoveText {
             line: LineBuffer::new(),
         }
     }
 
-    /// The text of the move, as a reply has it.
+    /// Prints the move as a reply, and returns its bytes.
     pub fn write(&mut self, mv: Move) -> &[u8]
         requires first { 1 ≤ mv.man }
         requires last { mv.man ≤ 8 }

@@ -1,4 +1,4 @@
-//! Writing the text of a position and of the side that is to mate.
+//! Prints the text of a position and its winner.
 
 ghost use Rattle.std.specs.Prelude.{◌≡◌, ◌≤◌, ◌+◌, ◌∷◌, [], ◌++◌, ℕ, length, map, IfOk, OnOk};
 ghost use Rattle.chess_text.specs.ManLine.{man_text, turn_text};
@@ -35,7 +35,7 @@ fn kind_letter(kind: Kind) -> u8
     }
 }
 
-/// The line of a man.
+/// Returns the line of a man.
 fn man_line(man: Man) -> LineBuffer
     ensures { result ≡ man_text man }
 {
@@ -52,7 +52,7 @@ fn man_line(man: Man) -> LineBuffer
     line
 }
 
-/// The line of the side to move and of the side that is to mate.
+/// Returns the line of the side to move and the winner.
 fn turn_line(turn: Side, winner: Side) -> &'static [u8]
     ensures { result.now ≡ turn_text turn winner }
 {
@@ -64,7 +64,7 @@ fn turn_line(turn: Side, winner: Side) -> &'static [u8]
     }
 }
 
-/// Adds the line and its LF.
+/// Appends the line and its LF.
 fn push_line(text: &mut Vec<u8>, line: &[u8]) -> Result<(), AllocError>
     ensures { OnOk result (text.new.items ≡ text.old.items ++ (line.now ++ 10 ∷ [])) }
 {
@@ -73,7 +73,7 @@ fn push_line(text: &mut Vec<u8>, line: &[u8]) -> Result<(), AllocError>
     Ok(())
 }
 
-/// Adds the lines of the men.
+/// Appends the lines of the men.
 fn push_men(text: &mut Vec<u8>, p: &Position) -> Result<(), AllocError>
     ensures { OnOk result (text.new.items ≡ text.old.items ++ text_of_lines (map man_text p.now.men)) }
 {
@@ -83,7 +83,7 @@ fn push_men(text: &mut Vec<u8>, p: &Position) -> Result<(), AllocError>
     Ok(())
 }
 
-/// The one text of the position that this side is to win.
+/// Returns the only text of the position with this winner. The error is that an allocation failed.
 pub fn position_bytes(alloc: Global, p: &Position, winner: Side) -> Result<Vec<u8>, AllocError>
     ensures { IfOk result (λ text. text.items ≡ position_text p.now winner) }
 {

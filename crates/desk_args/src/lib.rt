@@ -1,4 +1,6 @@
-//! The words of a command line: the order that they are, or the first reason why they are none (`specs/Order`).
+//! Parses command-line arguments.
+//!
+//! `specs/Order` defines the command that the arguments are, or the first reason why they are none.
 #![tactic(auto)]
 
 pub mod laws;

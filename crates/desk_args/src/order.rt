@@ -1,4 +1,4 @@
-//! The words of a command line.
+//! The arguments of a command.
 
 ghost use Rattle.std.specs.Prelude.{◌≡◌, ◌↔◌, ◌<◌, ◌≤◌, slice_get, length, Ok, Some, IsTrue, IfOk};
 ghost use Rattle.std.specs.Char.{IsAsciiDigit};
@@ -7,65 +7,73 @@ ghost use Rattle.desk_args.specs.Order.{Asks, IsAsked, IsAskedWithin, IsName, Is
 
 use limits::{Budget, MOST_MOVES};
 
-/// The greatest budget that a word names, in states.
+/// The greatest budget that an argument may name, in states.
 pub const MOST_NAMED_STATES: u32 = 200_000;
 
-/// The budget where no word names one.
+/// The budget if no argument names one, in states.
 pub const DEFAULT_STATES: u32 = 50_000;
 
-/// The greatest number of moves that can be asked for of a crowd.
+/// The greatest number of moves for a crowd.
 pub const MOST_CROWD_MOVES: u8 = 2;
 
-/// The greatest number of positions that can be asked for.
+/// The greatest number of positions of `drill`.
 const MOST_POSITIONS: u64 = 100;
 
-/// How long a name may be.
+/// The greatest length of a name, in bytes.
 const MOST_NAME_BYTES: usize = 32;
 
-/// Where the name stands among the words of `keep`, counted from 0.
+/// The index of the name among the arguments of `keep`, counted from 0.
 const KEEP_NAME: usize = 2;
 
-/// Where it stands among those of `check` and of `resume`, and the name of the file that is read among those of `migrate`.
+/// The index of the name among the arguments of `check` and of `resume`, and of the file to read among those of
+/// `migrate`.
 const FILE_NAME: usize = 1;
 
-/// Where the name of the file that is kept stands among those of `migrate`.
+/// The index of the file to write among the arguments of `migrate`.
 const NEW_NAME: usize = 2;
 
-/// What is to be done.
+/// A command with its numbers.
 #[derive(Clone, Copy, PartialEq, Eq)]
 pub enum Order {
-    /// Say whether the winner that the text names mates within so many moves of his own. The budget bounds the states of the automata that decide it.
+    /// Print whether the winner of the text can force mate within `moves` moves of his own. The budget bounds the
+    /// states of each step.
     Decide { moves: u8, budget: Budget },
-    /// Say within how few moves of his own the winner mates, if he does within so many. The budget is that of each number of moves.
+    /// Print the least number of moves, up to `limit`, within which the winner can force mate. Each number of moves has
+    /// the budget.
     Least { limit: u8, budget: Budget },
-    /// Name, ray by ray, the first moves by which the winner mates within so many moves of his own. The budget is that of `Decide`.
+    /// Print, for each ray, the winning first moves of a mate within `moves` moves. The budget is that of `Decide`.
     First { moves: u8, budget: Budget },
-    /// Describe, ray by ray, at which distances the winner's first moves lead to mate within so many moves of his own. The budget is that of `Decide`, of the
-    /// formula of each ray, and of the formulas by which periods are tried.
+    /// Describe, for each ray, at which distances the winner's first moves mate within `moves` moves. The budget is
+    /// that of `Decide`, of the formula of each ray, and of the formulas by which periods are tried.
     Describe { moves: u8, budget: Budget },
-    /// Play a game in which the winner mates within so many moves of his own, whatever is replied. The budget is that of `Decide`.
+    /// Play the winner in a game, against any replies, and mate within `moves` moves. The budget is that of `Decide`.
     Play { moves: u8, budget: Budget },
-    /// Play the loser in a game in which the winner does not mate within so many moves of his own, whatever he plays. The budget is that of `Decide`.
+    /// Play the loser in a game in which the winner does not mate within `moves` moves, whatever he plays. The budget
+    /// is that of `Decide`.
     Defend { moves: u8, budget: Budget },
-    /// Keep a file of the sets by which the winner mates within so many moves of his own, if he does. The budget is that of `Decide`.
+    /// Write a file of the sets by which the winner mates within `moves` moves, if he can. The budget is that of
+    /// `Decide`.
     Keep { moves: u8, budget: Budget },
-    /// Say whether the winner that a crowd's text names mates within so many moves of his own. The budget bounds the states of the automata that decide it.
+    /// Print whether the winner of a crowd text can force mate within `moves` moves. The budget bounds the states of
+    /// each step.
     Crowd { moves: u8, budget: Budget },
-    /// Check the file of a name, and say within how many moves it mates. The budget is that of the plan that checks its claim.
+    /// Check a strategy file, and print within how many moves it mates. The budget is that of the plan that checks its
+    /// claim.
     Check { budget: Budget },
-    /// Check the file of a name, and play the game by its sets. The budget is that of `Check`.
+    /// Check a strategy file, and play the game by its sets. The budget is that of `Check`.
     Resume { budget: Budget },
-    /// Keep the claim of the file of a name under another name, in a file of the newest version.
+    /// Write the claim of a strategy file under another name, in the newest version of the format.
     Migrate,
-    /// Write the position, whether its side to move is in check, and how many men are live.
+    /// Print the position, whether the side to move is in check, and the number of live men.
     Show,
-    /// Say from how many of so many positions, which follow from the seed, White mates in one move.
+    /// Print in how many of `count` positions, which follow from the seed, White mates in one move.
     Drill { seed: u64, count: u8 },
-    /// Say whether the formula that the first line is holds over all integers. The budget bounds the states of each step.
+    /// Print whether the formula in the first line is true over all integers. The budget bounds the states of each
+    /// step.
     Arith { budget: Budget },
 }
 
-/// An order of a position text, with the name that its words have.
+/// A command that reads a position text, with its name argument.
 #[derive(Clone, Copy)]
 pub enum TextOrder<'a> {
     Decide {
@@ -100,27 +108,27 @@ pub enum TextOrder<'a> {
     Show,
 }
 
-/// An order, with the name that its words have, by what it is of.
+/// A command with its name arguments, by what it reads.
 #[derive(Clone, Copy)]
 pub enum Asked<'a> {
-    /// Of the position text at the front of the input.
+    /// Reads the position text at the front of the input.
     Text(TextOrder<'a>),
-    /// Of the crowd's text at the front of the input.
+    /// Reads the crowd text at the front of the input.
     Crowd { moves: u8, budget: Budget },
-    /// That the file of the name be checked.
+    /// Checks the file of this name.
     Check { name: &'a str, budget: Budget },
-    /// That the game be played by the file of the name.
+    /// Plays the game by the file of this name.
     Resume { name: &'a str, budget: Budget },
-    /// That the claim of the file of the one name be kept under the other.
+    /// Writes the claim of the file `from` under the name `to`.
     Migrate { from: &'a str, to: &'a str },
-    /// Of positions that follow from the seed.
+    /// Decides positions that follow from the seed.
     Drill { seed: u64, count: u8 },
-    /// Of the formula that the first line is.
+    /// Decides the formula in the first line of the input.
     Arith { budget: Budget },
 }
 
 impl Order {
-    /// What the words ask, which are this order.
+    /// Returns what these arguments, which are this command, ask for.
     pub fn asked(self, words: &Vec<String>) -> Asked
         requires ordered { Ordered (texts words.now.items) (Ok self) }
         requires within { IsWithinLimits self }
@@ -165,25 +173,25 @@ impl Order {
     }
 }
 
-/// Why words are no order. Words are looked at from the left.
+/// Why arguments are not a command. They are read from the left.
 #[derive(Clone, Copy, PartialEq, Eq)]
 pub enum UsageWhy {
-    /// There are no words.
+    /// There are no arguments.
     NoCommand,
-    /// The first word is no command.
+    /// The first argument is not a command.
     Unknown,
-    /// The command takes another number of words.
+    /// The command takes another number of arguments.
     Count,
-    /// A word that is to be a number is none: neither 0 nor digits of which the first is not 0.
+    /// An argument that must be a number is not one: `0`, or digits without a leading zero.
     Number,
     /// A number is outside its limits.
     Limit,
-    /// A word that is to be a name is none: it is empty, it is too long, or it has another byte than small letters, digits and `_`.
+    /// An argument that must be a name is not one: 1 to 32 small letters, digits and `_`.
     Name,
 }
 
 impl UsageWhy {
-    /// The fault line.
+    /// Returns the fault line.
     pub fn line(self) -> &'static [u8]
         ensures { result.now ≡ usage_line self }
     {
@@ -198,7 +206,7 @@ impl UsageWhy {
     }
 }
 
-/// The order that the words are.
+/// Parses the arguments of the command line.
 pub fn order_of(words: &Vec<String>) -> Result<Order, UsageWhy>
     ensures ordered { Ordered (texts words.now.items) result }
     ensures within { IfOk result IsWithinLimits }
@@ -209,7 +217,7 @@ pub fn order_of(words: &Vec<String>) -> Result<Order, UsageWhy>
     }
 }
 
-/// The order that the words behind a name are, which is to be that of a command.
+/// Parses the arguments after the name of a command.
 fn order_named(name: &str, words: &[String]) -> Result<Order, UsageWhy>
     ensures ordered { OrderedBy rows name.now (texts words.now) result }
     ensures within { IfOk result IsWithinLimits }
@@ -227,7 +235,7 @@ fn order_named(name: &str, words: &[String]) -> Result<Order, UsageWhy>
     }
 }
 
-/// The order that the words behind a name are, which is to be that of a command that reads no position text.
+/// Parses the arguments after the name of a command that reads no position text.
 fn textless_order_named(name: &str, words: &[String]) -> Result<Order, UsageWhy>
     ensures ordered { OrderedBy textless_rows name.now (texts words.now) result }
     ensures within { IfOk result IsWithinLimits }
@@ -243,7 +251,7 @@ fn textless_order_named(name: &str, words: &[String]) -> Result<Order, UsageWhy>
     }
 }
 
-/// The order that the words behind `decide` are.
+/// Parses the arguments after `decide`.
 fn decide_order(words: &[String]) -> Result<Order, UsageWhy>
     ensures ordered { OrdersAs moves_and_budget (λ asked. Order.Decide asked.0 asked.1) (texts words.now) result }
     ensures within { IfOk result IsWithinLimits }
@@ -252,7 +260,7 @@ fn decide_order(words: &[String]) -> Result<Order, UsageWhy>
     Ok(Order::Decide { moves, budget })
 }
 
-/// The order that the words behind `least` are.
+/// Parses the arguments after `least`.
 fn least_order(words: &[String]) -> Result<Order, UsageWhy>
     ensures ordered { OrdersAs moves_and_budget (λ asked. Order.Least asked.0 asked.1) (texts words.now) result }
     ensures within { IfOk result IsWithinLimits }
@@ -261,7 +269,7 @@ fn least_order(words: &[String]) -> Result<Order, UsageWhy>
     Ok(Order::Least { limit, budget })
 }
 
-/// The order that the words behind `first` are.
+/// Parses the arguments after `first`.
 fn first_order(words: &[String]) -> Result<Order, UsageWhy>
     ensures ordered { OrdersAs moves_and_budget (λ asked. Order.First asked.0 asked.1) (texts words.now) result }
     ensures within { IfOk result IsWithinLimits }
@@ -270,7 +278,7 @@ fn first_order(words: &[String]) -> Result<Order, UsageWhy>
     Ok(Order::First { moves, budget })
 }
 
-/// The order that the words behind `describe` are.
+/// Parses the arguments after `describe`.
 fn describe_order(words: &[String]) -> Result<Order, UsageWhy>
     ensures ordered { OrdersAs moves_and_budget (λ asked. Order.Describe asked.0 asked.1) (texts words.now) result }
     ensures within { IfOk result IsWithinLimits }
@@ -279,7 +287,7 @@ fn describe_order(words: &[String]) -> Result<Order, UsageWhy>
     Ok(Order::Describe { moves, budget })
 }
 
-/// The order that the words behind `play` are.
+/// Parses the arguments after `play`.
 fn play_order(words: &[String]) -> Result<Order, UsageWhy>
     ensures ordered { OrdersAs moves_and_budget (λ asked. Order.Play asked.0 asked.1) (texts words.now) result }
     ensures within { IfOk result IsWithinLimits }
@@ -288,7 +296,7 @@ fn play_order(words: &[String]) -> Result<Order, UsageWhy>
     Ok(Order::Play { moves, budget })
 }
 
-/// The order that the words behind `defend` are.
+/// Parses the arguments after `defend`.
 fn defend_order(words: &[String]) -> Result<Order, UsageWhy>
     ensures ordered { OrdersAs moves_and_budget (λ asked. Order.Defend asked.0 asked.1) (texts words.now) result }
     ensures within { IfOk result IsWithinLimits }
@@ -297,7 +305,7 @@ fn defend_order(words: &[String]) -> Result<Order, UsageWhy>
     Ok(Order::Defend { moves, budget })
 }
 
-/// The order that the words behind `keep` are.
+/// Parses the arguments after `keep`.
 fn keep_order(words: &[String]) -> Result<Order, UsageWhy>
     ensures ordered { OrdersAs moves_name_and_budget (λ asked. Order.Keep asked.0 asked.1) (texts words.now) result }
     ensures within { IfOk result IsWithinLimits }
@@ -306,7 +314,7 @@ fn keep_order(words: &[String]) -> Result<Order, UsageWhy>
     Ok(Order::Keep { moves, budget })
 }
 
-/// The order that the words behind `crowd` are.
+/// Parses the arguments after `crowd`.
 fn crowd_order(words: &[String]) -> Result<Order, UsageWhy>
     ensures ordered { OrdersAs crowd_moves_and_budget (λ asked. Order.Crowd asked.0 asked.1) (texts words.now) result }
     ensures within { IfOk result IsWithinLimits }
@@ -315,7 +323,7 @@ fn crowd_order(words: &[String]) -> Result<Order, UsageWhy>
     Ok(Order::Crowd { moves, budget })
 }
 
-/// The order that the words behind `check` are.
+/// Parses the arguments after `check`.
 fn check_order(words: &[String]) -> Result<Order, UsageWhy>
     ensures ordered { OrdersAs name_and_budget (λ budget. Order.Check budget) (texts words.now) result }
     ensures within { IfOk result IsWithinLimits }
@@ -324,7 +332,7 @@ fn check_order(words: &[String]) -> Result<Order, UsageWhy>
     Ok(Order::Check { budget })
 }
 
-/// The order that the words behind `resume` are.
+/// Parses the arguments after `resume`.
 fn resume_order(words: &[String]) -> Result<Order, UsageWhy>
     ensures ordered { OrdersAs name_and_budget (λ budget. Order.Resume budget) (texts words.now) result }
     ensures within { IfOk result IsWithinLimits }
@@ -333,7 +341,7 @@ fn resume_order(words: &[String]) -> Result<Order, UsageWhy>
     Ok(Order::Resume { budget })
 }
 
-/// The order that the words behind `migrate` are.
+/// Parses the arguments after `migrate`.
 fn migrate_order(words: &[String]) -> Result<Order, UsageWhy>
     ensures ordered { OrdersAs two_names (λ asked. Order.Migrate) (texts words.now) result }
     ensures within { IfOk result IsWithinLimits }
@@ -342,7 +350,7 @@ fn migrate_order(words: &[String]) -> Result<Order, UsageWhy>
     Ok(Order::Migrate)
 }
 
-/// The order that the words behind `show` are.
+/// Parses the arguments after `show`.
 fn show_order(words: &[String]) -> Result<Order, UsageWhy>
     ensures ordered { OrdersAs no_words (λ asked. Order.Show) (texts words.now) result }
     ensures within { IfOk result IsWithinLimits }
@@ -351,7 +359,7 @@ fn show_order(words: &[String]) -> Result<Order, UsageWhy>
     Ok(Order::Show)
 }
 
-/// The order that the words behind `drill` are.
+/// Parses the arguments after `drill`.
 fn drill_order(words: &[String]) -> Result<Order, UsageWhy>
     ensures ordered { OrdersAs seed_and_count (λ asked. Order.Drill asked.0 asked.1) (texts words.now) result }
     ensures within { IfOk result IsWithinLimits }
@@ -360,7 +368,7 @@ fn drill_order(words: &[String]) -> Result<Order, UsageWhy>
     Ok(Order::Drill { seed, count })
 }
 
-/// The order that the words behind `arith` are.
+/// Parses the arguments after `arith`.
 fn arith_order(words: &[String]) -> Result<Order, UsageWhy>
     ensures ordered { OrdersAs budget_alone (λ budget. Order.Arith budget) (texts words.now) result }
     ensures within { IfOk result IsWithinLimits }
@@ -369,7 +377,7 @@ fn arith_order(words: &[String]) -> Result<Order, UsageWhy>
     Ok(Order::Arith { budget })
 }
 
-/// A number of moves, and a budget, if a word names one.
+/// Parses a number of moves and an optional budget.
 fn read_moves_and_budget(words: &[String]) -> Result<(u8, Budget), UsageWhy>
     ensures reads { Asks moves_and_budget (texts words.now) result }
     ensures within { IfOk result (λ asked. asked.0 ≤ MOST_MOVES) }
@@ -377,7 +385,7 @@ fn read_moves_and_budget(words: &[String]) -> Result<(u8, Budget), UsageWhy>
     read_moves_up_to(words, MOST_MOVES)
 }
 
-/// A number of moves, of at most so many, and a budget, if a word names one.
+/// Parses a number of moves, at most `most`, and an optional budget.
 fn read_moves_up_to(words: &[String], most: u8) -> Result<(u8, Budget), UsageWhy>
     ensures reads { Asks (moves_up_to most) (texts words.now) result }
     ensures within { IfOk result (λ asked. asked.0 ≤ most) }
@@ -392,7 +400,7 @@ fn read_moves_up_to(words: &[String], most: u8) -> Result<(u8, Budget), UsageWhy
     }
 }
 
-/// A number of moves, a name, and a budget, if a word names one.
+/// Parses a number of moves, a name, and an optional budget.
 fn read_moves_name_and_budget(words: &[String]) -> Result<(u8, Budget), UsageWhy>
     ensures reads { Asks moves_name_and_budget (texts words.now) result }
     ensures within { IfOk result (λ asked. asked.0 ≤ MOST_MOVES) }
@@ -412,7 +420,7 @@ fn read_moves_name_and_budget(words: &[String]) -> Result<(u8, Budget), UsageWhy
     }
 }
 
-/// A name, and a budget, if a word names one.
+/// Parses a name and an optional budget.
 fn read_name_and_budget(words: &[String]) -> Result<Budget, UsageWhy>
     ensures { Asks name_and_budget (texts words.now) result }
 {
@@ -429,7 +437,7 @@ fn read_name_and_budget(words: &[String]) -> Result<Budget, UsageWhy>
     }
 }
 
-/// A name, and another one, or the same.
+/// Parses two names, which may be equal.
 fn read_two_names(words: &[String]) -> Result<(), UsageWhy>
     ensures { Asks two_names (texts words.now) result }
 {
@@ -442,7 +450,7 @@ fn read_two_names(words: &[String]) -> Result<(), UsageWhy>
     }
 }
 
-/// A budget, if a word names one.
+/// Parses an optional budget.
 fn read_budget_alone(words: &[String]) -> Result<Budget, UsageWhy>
     ensures { Asks budget_alone (texts words.now) result }
 {
@@ -453,7 +461,7 @@ fn read_budget_alone(words: &[String]) -> Result<Budget, UsageWhy>
     }
 }
 
-/// A seed, and a number of positions.
+/// Parses a seed and a number of positions.
 fn read_seed_and_count(words: &[String]) -> Result<(u64, u8), UsageWhy>
     ensures reads { Asks seed_and_count (texts words.now) result }
     ensures seed { IfOk result (λ asked. asked.0 ≤ most_seed) }
@@ -465,7 +473,7 @@ fn read_seed_and_count(words: &[String]) -> Result<(u64, u8), UsageWhy>
     }
 }
 
-/// No word.
+/// Accepts no argument.
 fn read_no_words(words: &[String]) -> Result<(), UsageWhy>
     ensures { Asks no_words (texts words.now) result }
 {
@@ -476,21 +484,21 @@ fn read_no_words(words: &[String]) -> Result<(), UsageWhy>
     }
 }
 
-/// The number of moves that the word is, of at most so many.
+/// Parses a number of moves from 0 to `most`.
 fn read_moves(word: &str, most: u8) -> Result<u8, UsageWhy>
     ensures { ReadsNumber word.now 0 most result }
 {
     Ok(read_number(word, 0, most as u64)? as u8)
 }
 
-/// The budget where no word names one.
+/// Returns the budget if no argument names one.
 fn default_budget() -> Budget
     ensures { result ≡ DEFAULT_STATES }
 {
     Budget::new(DEFAULT_STATES)
 }
 
-/// The budget that the word is.
+/// Parses a budget.
 fn read_budget(word: &str) -> Result<Budget, UsageWhy>
     ensures { ReadsNumber word.now 1 MOST_NAMED_STATES result }
 {
@@ -498,7 +506,7 @@ fn read_budget(word: &str) -> Result<Budget, UsageWhy>
     Ok(Budget::new(states as u32))
 }
 
-/// Whether the word is a name.
+/// Accepts a name.
 fn read_name(word: &str) -> Result<(), UsageWhy>
     ensures { ReadsName word.now result }
 {
@@ -509,21 +517,21 @@ fn read_name(word: &str) -> Result<(), UsageWhy>
     }
 }
 
-/// The seed that the word is.
+/// Parses a seed.
 fn read_seed(word: &str) -> Result<u64, UsageWhy>
     ensures { ReadsNumber word.now 0 most_seed result }
 {
     read_number(word, 0, u64::MAX)
 }
 
-/// The number of positions that the word is.
+/// Parses a number of positions.
 fn read_count(word: &str) -> Result<u8, UsageWhy>
     ensures { ReadsNumber word.now 0 100 result }
 {
     Ok(read_number(word, 0, MOST_POSITIONS)? as u8)
 }
 
-/// The natural that the word is, if it lies within the limits.
+/// Parses a natural number from `low` to `high`.
 fn read_number(word: &str, low: u64, high: u64) -> Result<u64, UsageWhy>
     ensures { ReadsNumber word.now low high result }
 {
@@ -541,7 +549,7 @@ fn read_number(word: &str, low: u64, high: u64) -> Result<u64, UsageWhy>
     }
 }
 
-/// Whether the word is 0, or digits of which the first is not 0.
+/// Returns whether the argument is `0`, or digits without a leading zero.
 fn is_natural(word: &[u8]) -> bool
     ensures { IsTrue result ↔ IsNaturalText word.now }
 {
@@ -558,7 +566,7 @@ fn are_digits(bytes: &[u8]) -> bool
     bytes.iter().all(|byte| byte.is_ascii_digit())
 }
 
-/// Whether the word is a name.
+/// Returns whether the argument is a name.
 fn is_name(word: &[u8]) -> bool
     ensures { IsTrue result ↔ IsName word.now }
 {
@@ -574,14 +582,14 @@ fn are_name_bytes(bytes: &[u8]) -> bool
     bytes.iter().all(|byte| is_name_byte(*byte))
 }
 
-/// Whether the byte is a small letter, a digit or `_`.
+/// Returns whether the byte is a small letter, a digit or `_`.
 fn is_name_byte(byte: u8) -> bool
     ensures { IsTrue result ↔ IsNameByte byte }
 {
     matches!(byte, b'a'..=b'z' | b'0'..=b'9' | b'_')
 }
 
-/// The word at this place, counted from 0.
+/// Returns the argument at the index, counted from 0.
 fn word_at(words: &Vec<String>, index: usize) -> &str
     requires { index < length words.now.items }
     ensures { slice_get (texts words.now.items) index ≡ Some result.now }

@@ -7,10 +7,11 @@ use crate::source::{Failed, Source};
 use limits::MOST_LINE_BYTES;
 use std::marker::Model;
 
-/// How many bytes a buffer can hold.
+/// The capacity of a buffer in bytes.
 const BUFFER_SIZE: usize = 256;
 
-/// Bytes that were taken from a source and not used yet. They are used from the front, and join others at the end.
+/// Bytes that were taken from a source and are not used yet. They are used from the front, and others are added at the
+/// end.
 #[derive(Drop)]
 pub struct Buffer {
     items: [u8; BUFFER_SIZE],
@@ -29,6 +30,7 @@ impl Model for Buffer {
 }
 
 impl Buffer {
+    /// Creates an empty buffer.
     pub fn new() -> Self
         ensures { result ≡ [] }
     {
@@ -39,6 +41,7 @@ impl Buffer {
         }
     }
 
+    /// Returns the bytes that are not used yet.
     pub fn as_slice(&self) -> &[u8]
         ensures bytes { result.now ≡ self.now }
         ensures within { length self.now ≤ 256 }
@@ -46,7 +49,7 @@ impl Buffer {
         &self.items[self.start..self.end]
     }
 
-    /// Drops the first bytes.
+    /// Drops the first `count` bytes.
     pub fn advance(&mut self, count: usize)
         requires { count ≤ length self.old }
         ensures { self.new ≡ drop count self.old }
@@ -54,7 +57,7 @@ impl Buffer {
         self.start += count;
     }
 
-    /// Takes more bytes of the source, and says how many. 0 is the end of the input.
+    /// Takes more bytes from the source and returns their number, 0 at the end of the input.
     pub fn fill<S: Source>(&mut self, source: &mut S) -> Result<usize, Failed>
         requires { length self.old < 256 }
         ensures most { IfOk result (λ k. length self.new ≡ length self.old + k) }
@@ -75,7 +78,7 @@ impl Buffer {
     }
 }
 
-/// Moves the items from `start` to `end` to the front, and says how many they are.
+/// Moves the items from `start` to `end` to the front and returns their number.
 fn move_to_front(items: &mut [u8], start: usize, end: usize) -> usize
     requires order { start ≤ end }
     requires within { end ≤ length items.old }
@@ -88,7 +91,7 @@ fn move_to_front(items: &mut [u8], start: usize, end: usize) -> usize
     end - start
 }
 
-/// The bytes of a line.
+/// The bytes of one line.
 #[derive(Drop)]
 pub struct LineBytes {
     items: [u8; MOST_LINE_BYTES],
@@ -107,6 +110,7 @@ impl Model for LineBytes {
 }
 
 impl LineBytes {
+    /// Creates an empty line.
     pub fn new() -> Self
         ensures { result ≡ [] }
     {
@@ -116,13 +120,14 @@ impl LineBytes {
         }
     }
 
+    /// Returns the bytes of the line.
     pub fn as_slice(&self) -> &[u8]
         ensures { result.now ≡ self.now }
     {
         &self.items[..self.len]
     }
 
-    /// Puts these bytes in the place of those that were there.
+    /// Replaces the line by these bytes.
     pub fn set(&mut self, bytes: &[u8])
         requires { length bytes.now ≤ MOST_LINE_BYTES }
         ensures { self.new ≡ bytes.now }

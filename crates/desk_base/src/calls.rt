@@ -4,7 +4,7 @@ ghost use Rattle.desk_base.specs.Calls.{IsListed, no_calls, one_more, one_more_f
 
 use std::marker::Model;
 
-/// The calls of an object in memory so far, and which of them are to fail.
+/// Counts the calls of an in-memory object, and knows which of them must fail.
 #[derive(Drop)]
 pub struct CallCount {
     made: u32,
@@ -24,6 +24,7 @@ impl Model for CallCount {
 }
 
 impl CallCount {
+    /// Creates a count of 0. The calls whose numbers are in `fail`, counted from 1, will fail.
     pub fn new(fail: Vec<u32>) -> Self
         ensures { result ≡ no_calls fail.items }
     {
@@ -34,7 +35,7 @@ impl CallCount {
         }
     }
 
-    /// Counts a call, and says whether it is to fail.
+    /// Counts a call and returns whether it must fail.
     pub fn fails(&mut self) -> bool
         ensures listed { IsTrue result ↔ IsListed self.old }
         ensures failed { OnTrue result (self.new ≡ one_more_failed self.old) }

@@ -9,24 +9,24 @@ use thiserror::Error;
 /// Why a file was not fetched.
 #[derive(Clone, Copy, Debug, PartialEq, Eq, Error)]
 pub enum FetchError {
-    /// The store has failed.
+    /// The store failed.
     #[error("the store of files has failed")]
     Failed,
     /// The file is longer than the caller's limit.
     #[error("the file is too long")]
     TooLong,
-    /// There is no memory for the file.
+    /// Out of memory.
     #[error("out of memory")]
     Memory,
 }
 
-/// Why a file was not kept.
+/// Why a file was not stored.
 #[derive(Clone, Copy, Debug, PartialEq, Eq, Error)]
 pub enum KeepError {
-    /// The store has failed.
+    /// The store failed.
     #[error("the store of files has failed")]
     Failed,
-    /// There is no memory for the file.
+    /// Out of memory.
     #[error("out of memory")]
     Memory,
 }
@@ -55,13 +55,15 @@ impl From<AllocError> for KeepError {
 
 /// A store of files by name.
 pub trait Shelf {
-    /// The files, by the bytes of their names; `None` where the store does not tell them.
+    /// The files, by the bytes of their names; `None` if the store does not expose them.
     ghost files: { Self → Option Files };
 
-    /// How often it has failed. The count never falls, and stands still at 2^64 - 1. A store of a type that counts 0 whatever happens cannot fail.
+    /// The number of failures so far. It never falls, and stays at 2^64 - 1 once it is there. A store whose type always
+    /// counts 0 cannot fail.
     ghost faults: { Self → ℕ };
 
-    /// The file of this name, or `None` where there is none. A file of more than `limit` bytes is too long.
+    /// Returns the bytes of the file of this name, or `None` if there is none. A file of more than `limit` bytes is too
+    /// long.
     fn fetch(
         &mut self,
         alloc: Global,
@@ -75,8 +77,8 @@ pub trait Shelf {
         ensures failed { IsErrOf result FetchError.Failed → HasRisen (faults self.old) (faults self.new) }
         ensures never_falls { faults self.old ≤ faults self.new };
 
-    /// Keeps the bytes under the name, in place of what it had. Where the store fails, the file of that name is unknown, and each
-    /// other one is as before.
+    /// Stores the bytes under the name, in place of its old contents. If the store fails, the contents of that file are
+    /// unknown, and every other file is unchanged.
     fn keep(&mut self, alloc: Global, name: &str, bytes: &[u8]) -> Result<(), KeepError>
         ensures kept { OnOk result (FilesGain (files self.old) (files self.new) name.now bytes.now) }
         ensures others { IsErrOf result KeepError.Failed → OtherFilesStay (files self.old) (files self.new) name.now }

@@ -1,8 +1,10 @@
-//! What a program reads its input from, writes its output to and keeps its files in, as traits, so that proofs speak of the bytes and
-//! the outside stays behind a thin layer; a source, a sink and a store of files in memory; and a reader of lines.
+//! Traits for a program's input, output and file store, in-memory versions of them, and a line reader.
 //!
-//! Each object counts its faults, and a call answers `Failed` only where that count has risen, or stands at its last value. So a slice, and files in
-//! memory, which have no such count, do not fail.
+//! A [`Source`] is read from, a [`Sink`] is written to, and a [`Shelf`] is a store of files by name. Contracts speak of
+//! their bytes, so the operating system stays behind a thin layer.
+//!
+//! Each object counts its faults. A call returns `Failed` only if that count has risen or is at its greatest value.
+//! Slices and in-memory files have no such count and do not fail.
 #![tactic(auto)]
 
 mod buffer;

@@ -9,7 +9,7 @@ use std::alloc::{AllocError, Global};
 use std::collections::BTreeMap;
 use std::marker::Model;
 
-/// Files in memory, as a store that does not fail.
+/// A file store in memory that does not fail.
 #[derive(Drop)]
 pub struct MemFiles {
     files: BTreeMap<String, Vec<u8>>,
@@ -26,6 +26,7 @@ impl Model for MemFiles {
 }
 
 impl MemFiles {
+    /// Creates an empty store.
     pub fn new(alloc: Global) -> Self
         ensures { result ≡ no_files }
     {
@@ -34,7 +35,7 @@ impl MemFiles {
         }
     }
 
-    /// The bytes of the file of this name.
+    /// Returns the bytes of the file of this name, or `None` if there is none.
     pub fn file(&self, name: &str) -> Option<&[u8]>
         ensures { option_copied result ≡ map.get self.now name.now }
     {
@@ -44,7 +45,7 @@ impl MemFiles {
         }
     }
 
-    /// Gives the file of this name these bytes, in place of what it had.
+    /// Stores the bytes under the name, in place of its old contents. The error is that an allocation failed.
     pub fn set_file(&mut self, name: String, bytes: Vec<u8>) -> Result<(), AllocError>
         ensures ok { OnOk result (self.new ≡ map.insert self.old (string_bytes name) bytes.items) }
         ensures err { OnErr result (self.new ≡ self.old) }
@@ -70,7 +71,8 @@ impl Shelf for MemFiles {
         ensures same { self.new ≡ self.old }
         ensures sure { ¬ IsErrOf result FetchError.Failed }
 
-        // A file is too long exactly where it exceeds the limit, and memory is wanting only where one is short enough.
+        // A file is too long if and only if it exceeds the limit; a fetch runs out of memory only if the file is short
+        // enough.
         ensures too_long { IsErrOf result FetchError.TooLong ↔ HasFileOver self.old name.now limit }
         ensures memory { IsErrOf result FetchError.Memory → HasFileWithin self.old name.now limit }
     {
@@ -83,7 +85,7 @@ impl Shelf for MemFiles {
         Ok(Some(Vec::from_slice(alloc, bytes)?))
     }
 
-    /// Where there is no memory, no file changes.
+    /// If memory runs out, no file changes.
     fn keep(&mut self, alloc: Global, name: &str, bytes: &[u8]) -> Result<(), KeepError>
         ensures kept { OnOk result (self.new ≡ map.insert self.old name.now bytes.now) }
         ensures err { OnErr result (self.new ≡ self.old) }

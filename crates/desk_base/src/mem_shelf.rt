@@ -11,7 +11,7 @@ use crate::mem_files::MemFiles;
 use std::alloc::{AllocError, Global};
 use std::marker::Model;
 
-/// A store of files in memory, some of whose calls are to fail.
+/// A file store in memory, some of whose calls fail on purpose.
 #[derive(Drop)]
 pub struct MemShelf {
     files: MemFiles,
@@ -29,8 +29,8 @@ impl Model for MemShelf {
 }
 
 impl MemShelf {
-    /// A store without files. The calls of `fetch` and `keep` whose numbers are in `fail`, counted together from 1, are to fail; calls
-    /// after the one of number 2^32 - 1 have no number.
+    /// Creates an empty store. The calls of `fetch` and `keep` whose numbers are in `fail` fail; both kinds of calls
+    /// are counted together, from 1. Calls after number 2^32 - 1 have no number.
     pub fn new(alloc: Global, fail: Vec<u32>) -> Self
         ensures { result ≡ record { files = no_files; calls = no_calls fail.items } }
     {
@@ -40,14 +40,15 @@ impl MemShelf {
         }
     }
 
-    /// The bytes of the file of this name. No call is counted.
+    /// Returns the bytes of the file of this name, or `None` if there is none. Counts no call.
     pub fn file(&self, name: &str) -> Option<&[u8]>
         ensures { option_copied result ≡ map.get self.now.files name.now }
     {
         self.files.file(name)
     }
 
-    /// Gives the file of this name these bytes, in place of what it had. No call is counted.
+    /// Stores the bytes under the name, in place of its old contents. Counts no call. The error is that an allocation
+    /// failed.
     pub fn set_file(&mut self, name: String, bytes: Vec<u8>) -> Result<(), AllocError>
         ensures ok { OnOk result (self.new ≡ with_file self.old (string_bytes name) bytes.items) }
         ensures err { OnErr result (self.new ≡ self.old) }
@@ -73,12 +74,13 @@ impl Shelf for MemShelf {
         ensures failed { IsErrOf result FetchError.Failed → HasRisen self.old.calls.faults self.new.calls.faults }
         ensures never_falls { self.old.calls.faults ≤ self.new.calls.faults }
 
-        // It fails exactly at the calls that are to fail, and counts no other fault.
+        // Fails at the listed calls only, and counts no other fault.
         ensures listed { IsErrOf result FetchError.Failed ↔ IsListed self.old.calls }
         ensures failing { IsListed self.old.calls → self.new ≡ after_failed_call self.old }
         ensures passing { ¬ IsListed self.old.calls → self.new ≡ after_call self.old }
 
-        // At each other call a file is too long exactly where it exceeds the limit, and memory is wanting only where one is short enough.
+        // At every other call a file is too long if and only if it exceeds the limit; a fetch runs out of memory only
+        // if the file is short enough.
         ensures too_long { IsErrOf result FetchError.TooLong ↔ FindsFileOver self.old name.now limit }
         ensures memory { IsErrOf result FetchError.Memory → HasFileWithin self.old.files name.now limit }
     {
@@ -88,14 +90,14 @@ impl Shelf for MemShelf {
         self.files.fetch(alloc, name, limit)
     }
 
-    /// Where it fails, and where there is no memory, no file changes.
+    /// If the call fails, or memory runs out, no file changes.
     fn keep(&mut self, alloc: Global, name: &str, bytes: &[u8]) -> Result<(), KeepError>
         ensures kept { OnOk result (self.new.files ≡ map.insert self.old.files name.now bytes.now) }
         ensures err { OnErr result (self.new.files ≡ self.old.files) }
         ensures failed { IsErrOf result KeepError.Failed → HasRisen self.old.calls.faults self.new.calls.faults }
         ensures never_falls { self.old.calls.faults ≤ self.new.calls.faults }
 
-        // It fails exactly at the calls that are to fail, and counts no other fault.
+        // Fails at the listed calls only, and counts no other fault.
         ensures listed { IsErrOf result KeepError.Failed ↔ IsListed self.old.calls }
         ensures failing { IsListed self.old.calls → self.new ≡ after_failed_call self.old }
         ensures passing { ¬ IsListed self.old.calls → self.new.calls ≡ one_more self.old.calls }

@@ -10,7 +10,7 @@ use crate::source::Failed;
 use std::alloc::{AllocError, Global};
 use std::marker::Model;
 
-/// A sink in memory. Its room is reserved when it is made, and writing takes no memory.
+/// An output in memory. Its room is allocated when it is made; writing allocates nothing.
 #[derive(Drop)]
 pub struct MemSink {
     bytes: Vec<u8>,
@@ -31,8 +31,9 @@ impl Model for MemSink {
 }
 
 impl MemSink {
-    /// A sink that can hold `room` bytes, of which a call writes at most `most`. The calls whose numbers are in `fail`, counted from 1,
-    /// are to fail; calls after the one of number 2^32 - 1 have no number.
+    /// Creates an output of at most `room` bytes, of which one call writes at most `most`. The calls whose numbers are
+    /// in `fail`, counted from 1, fail. Calls after number 2^32 - 1 have no number. The error is that an allocation
+    /// failed.
     pub fn new(alloc: Global, fail: Vec<u32>, most: usize, room: usize) -> Result<Self, AllocError>
         requires { 0 < most }
         ensures { IfOk result (λ sink. sink ≡ empty_output most room fail.items) }
@@ -45,7 +46,7 @@ impl MemSink {
         })
     }
 
-    /// What was written.
+    /// Returns the bytes written so far.
     pub fn bytes(&self) -> &[u8]
         ensures written { result.now ≡ self.now.written }
         ensures within { length self.now.written ≤ self.now.room }
@@ -59,7 +60,7 @@ impl Sink for MemSink {
 
     ghost faults = { λ s. s.calls.faults };
 
-    /// Writes as many bytes of the piece as there is room for, and as a call may write.
+    /// Writes as many bytes of the piece as there is room for and one call may write.
     fn put(&mut self, piece: &[u8]) -> Result<usize, Failed>
         ensures most { IfOk result (λ k. k ≤ length piece.now) }
         ensures some { 0 < length piece.now → IfOk result (λ k. 0 < k) }
@@ -67,7 +68,7 @@ impl Sink for MemSink {
         ensures failed { OnErr result (HasRisen self.old.calls.faults self.new.calls.faults) }
         ensures never_falls { self.old.calls.faults ≤ self.new.calls.faults }
 
-        // It fails exactly at the calls that are to fail, and where its room is full and the piece is not empty.
+        // Fails at the listed calls, and if its room is full and the piece is not empty; not otherwise.
         ensures fails { IsErr result ↔ (IsListed self.old.calls ⊎ LacksRoom self.old piece.now) }
         ensures count { IfOk result (λ k. k ≡ put_count self.old piece.now) }
         ensures ok { IfOk result (λ k. self.new ≡ after_put self.old (take k piece.now)) }

@@ -8,7 +8,7 @@ use crate::calls::CallCount;
 use crate::source::{Failed, Source};
 use std::marker::Model;
 
-/// A source over bytes in memory.
+/// An input over bytes in memory.
 #[derive(Drop)]
 pub struct MemSource {
     bytes: Vec<u8>,
@@ -29,8 +29,8 @@ impl Model for MemSource {
 }
 
 impl MemSource {
-    /// A source of these bytes, of which a call moves at most `most`. The calls whose numbers are in `fail`, counted from 1, are to
-    /// fail; calls after the one of number 2^32 - 1 have no number.
+    /// Creates an input of these bytes, of which one call moves at most `most`. The calls whose numbers are in `fail`,
+    /// counted from 1, fail. Calls after number 2^32 - 1 have no number.
     pub fn new(bytes: Vec<u8>, fail: Vec<u32>, most: usize) -> Self
         requires { 0 < most }
         ensures { result ≡ record { left = bytes.items; most = most; calls = no_calls fail.items } }
@@ -49,14 +49,14 @@ impl Source for MemSource {
 
     ghost faults = { λ s. s.calls.faults };
 
-    /// Moves as many bytes as there are, as fit, and as a call may move.
+    /// Moves as many bytes as are left, fit into the buffer, and one call may move.
     fn take(&mut self, buffer: &mut [u8]) -> Result<usize, Failed>
         ensures most { IfOk result (λ k. k ≤ length buffer.old) }
         ensures bytes { ReadConsumes (Some self.old.left) (Some self.new.left) result buffer.new }
         ensures failed { OnErr result (HasRisen self.old.calls.faults self.new.calls.faults) }
         ensures never_falls { self.old.calls.faults ≤ self.new.calls.faults }
 
-        // It fails exactly at the calls that are to fail, and counts no other fault.
+        // Fails at the listed calls only, and counts no other fault.
         ensures listed { IsErr result ↔ IsListed self.old.calls }
         ensures count { IfOk result (λ k. k ≡ take_count self.old (length buffer.old)) }
         ensures ok { IfOk result (λ k. self.new ≡ after_take self.old k) }

@@ -8,8 +8,8 @@ use crate::scan::{ScannedLine, find_line};
 use crate::source::Source;
 use std::marker::Model;
 
-/// Reads the lines of a source, of at most 200 bytes each, in a fixed buffer of 256. Contracts see the last whole line, the bytes that were
-/// taken past it, and the answer that is given for good.
+/// Reads the lines of a source, of at most 200 bytes each, through a buffer of 256 bytes. Contracts see the last whole
+/// line, the bytes taken after it, and the final result once there is one.
 #[derive(Drop)]
 pub struct LineReader {
     held: Buffer,
@@ -29,6 +29,7 @@ impl Model for LineReader {
 }
 
 impl LineReader {
+    /// Creates a reader that has read nothing.
     pub fn new() -> Self
         ensures { result ≡ record { line = []; pending = []; stopped = None } }
     {
@@ -39,20 +40,20 @@ impl LineReader {
         }
     }
 
-    /// The last whole line, without its LF; empty before the first.
+    /// Returns the last whole line without its LF; empty before the first.
     pub fn line(&self) -> &[u8]
         ensures { result.now ≡ self.now.line }
     {
         self.line.as_slice()
     }
 
-    /// Reads the next line. After any other answer than a whole line it gives that answer for good, and takes nothing more. It may take up
-    /// to 256 bytes past the line, which it keeps for the next call.
+    /// Reads the next line. Any result other than a whole line is final: later calls return it again and take nothing
+    /// more. A call may take up to 256 bytes after the line; they are kept for the next call.
     pub fn next_line<S: Source>(&mut self, source: &mut S) -> Result<Line, LineError>
         ensures stopped { StaysStopped result self.old self.new source.old source.new }
         ensures line { GoesOn self.old → KeepsLine result self.old.line self.new.line }
         ensures stops { GoesOn self.old → self.new.stopped ≡ stop_after result }
-        // The lines are those of the bytes that are taken, which are those of the source where it tells them.
+        // The lines are those of the bytes taken, which are the source's if it exposes them.
         ensures lines { GoesOn self.old → TakesAs result self.old self.new (S.left source.old) (S.left source.new) }
         ensures within { length self.new.pending ≤ 256 }
         ensures failed { GoesOn self.old → IsErrOf result LineError.Read → SourceFailed S.Source source.old source.new }
@@ -70,7 +71,7 @@ impl LineReader {
     }
 }
 
-/// Reads the next line into `line`; `held` has what was taken past it.
+/// Reads the next line into `line`; `held` keeps the bytes taken after it.
 fn read_line<S: Source>(
     held: &mut Buffer,
     line: &mut LineBytes,

@@ -7,7 +7,7 @@ use limits::MOST_LINE_BYTES;
 /// The byte that ends a line.
 const LF: u8 = b'\n';
 
-/// What stands in front of some bytes.
+/// What some bytes begin with.
 #[derive(Clone, Copy)]
 pub enum ScannedLine {
     /// A line of this many bytes, and its LF.
@@ -18,7 +18,7 @@ pub enum ScannedLine {
     Part,
 }
 
-/// Finds the line in front of the bytes, of which the first `scanned` have no LF.
+/// Returns what the bytes begin with. The first `scanned` bytes have no LF.
 pub fn find_line(bytes: &[u8], scanned: usize) -> ScannedLine
     requires within { scanned ≤ length bytes.now }
     requires short { scanned ≤ MOST_LINE_BYTES }

@@ -5,15 +5,16 @@ ghost use Rattle.desk_base.specs.Moves.{AppendsFront};
 
 use crate::source::Failed;
 
-/// Where bytes are written to.
+/// An output for bytes.
 pub trait Sink {
-    /// The bytes written so far; `None` where the sink does not tell them.
+    /// The bytes written so far; `None` if the output does not expose them.
     ghost written: { Self → Option (List ℕ) };
 
-    /// How often it has failed. The count never falls, and stands still at 2^64 - 1. A sink of a type that counts 0 whatever happens cannot fail.
+    /// The number of failures so far. It never falls, and stays at 2^64 - 1 once it is there. An output whose type
+    /// always counts 0 cannot fail.
     ghost faults: { Self → ℕ };
 
-    /// Appends a front of the piece, which is not empty unless the piece is, and says how long it is.
+    /// Appends a prefix of the piece and returns its length, which is not 0 unless the piece is empty.
     fn put(&mut self, piece: &[u8]) -> Result<usize, Failed>
         ensures most { IfOk result (λ k. k ≤ length piece.now) }
         ensures some { 0 < length piece.now → IfOk result (λ k. 0 < k) }
@@ -22,7 +23,7 @@ pub trait Sink {
         ensures never_falls { faults self.old ≤ faults self.new };
 }
 
-/// Writes all the bytes. Where the sink fails, a front of them is written, and one byte or more is not.
+/// Writes all the bytes. If the output fails, a proper prefix of them has been written.
 pub fn put_all<K: Sink>(sink: &mut K, bytes: &[u8]) -> Result<(), Failed>
     ensures all { OnOk result (Appends (K.written sink.old) (K.written sink.new) bytes.now) }
     ensures err { OnErr result (AppendsFront (K.written sink.old) (K.written sink.new) bytes.now) }

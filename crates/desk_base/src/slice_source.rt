@@ -1,11 +1,11 @@
-//! A slice as a source.
+//! A byte slice as an input.
 
 ghost use Rattle.std.specs.Prelude.{Some};
 
 use crate::source::{Failed, Source};
 use std::io::Read;
 
-/// The bytes of the slice, which then begins behind those that were taken. It does not fail.
+/// The bytes of the slice, which afterwards starts after the bytes taken. It does not fail.
 impl Source for &[u8] {
     ghost left = { λ s. Some s.now };
 

@@ -2,20 +2,21 @@ ghost use Rattle.std.specs.Prelude.{ℕ, ◌≤◌, List, Option, length, IfOk, 
 ghost use Rattle.std.specs.Io.KnownBytes.{ReadConsumes};
 ghost use Rattle.desk_base.specs.Faults.{HasRisen};
 
-/// The object has failed, and its count of faults has risen.
+/// The object failed, and its count of faults has risen.
 #[derive(Clone, Copy, PartialEq, Eq)]
 pub struct Failed;
 
-/// Where bytes are read from.
+/// An input of bytes.
 pub trait Source {
-    /// The bytes still to come; `None` where the source does not tell them.
+    /// The bytes still to come; `None` if the input does not expose them.
     ghost left: { Self → Option (List ℕ) };
 
-    /// How often it has failed. The count never falls, and stands still at 2^64 - 1. A source of a type that counts 0 whatever happens cannot fail.
+    /// The number of failures so far. It never falls, and stays at 2^64 - 1 once it is there. An input whose type
+    /// always counts 0 cannot fail.
     ghost faults: { Self → ℕ };
 
-    /// Moves the next bytes to the front of the buffer, and says how many. 0 into a buffer that is not empty is the end of the input.
-    /// What stands behind them in the buffer is not said.
+    /// Moves the next bytes to the front of the buffer and returns their number. 0 for a buffer that is not empty means
+    /// the end of the input. The bytes after them in the buffer are unspecified.
     fn take(&mut self, buffer: &mut [u8]) -> Result<usize, Failed>
         ensures most { IfOk result (λ k. k ≤ length buffer.old) }
         ensures bytes { ReadConsumes (left self.old) (left self.new) result buffer.new }

@@ -15,21 +15,21 @@ use Rattle.desk_text.specs.declared.problem.WholeText.{WholeText}
 use Rattle.desk_text.specs.declared.text.LineWhy.{LineWhy}
 use Rattle.desk_text.specs.declared.text.LineWhy.TheVariants.{Grammar, Long, Cut, Missing}
 
--- What an input begins with: a text that says this, and the lines that come after it, or the first line that is refused.
+-- The front of an input: a text with these contents and the lines after it, or the first line that is refused.
 pub data Text (A : Type 0) : Type 0 where
   whole : A → Lines → Text A
   refused : ℕ → LineWhy → Text A
 
--- How the texts of a kind are read: their grammar, and what one says that has so many lines.
+-- How texts of a kind are read: their grammar, and the value of contents with a number of lines.
 pub record Reading (A : Type 0) : Type 0 where
   pub grammar : kinds.Grammar
   pub says : Draft → ℕ → A
 
--- the problem that a text of so many lines says
+-- the problem of a text with this number of lines
 abbrev pub problem_of : Draft → ℕ → Problem
 problem_of d lines = record { position = drafted d; winner = d.winner; lines = lines }
 
--- what a text of so many lines says, as it stands there
+-- the contents of a text with this number of lines
 abbrev pub text_of : Draft → ℕ → WholeText
 text_of d lines = record { draft = d; lines = lines }
 
@@ -37,17 +37,17 @@ text_of d lines = record { draft = d; lines = lines }
 abbrev pub problems : Reading Problem
 problems = record { grammar = positions; says = problem_of }
 
--- texts of a kind, as they stand there
+-- the contents of texts of a kind
 abbrev pub texts_of : kinds.Grammar → Reading WholeText
 texts_of g = record { grammar = g; says = text_of }
 
--- the text, after a line of this number of which the text makes that
+-- the text, after a line of this number with this result
 abbrev pub AfterLine : {A : Type 0} → Reading A → Turnout → ℕ → Lines → Text A → (ReaderState → Type 0) → Type 0
 AfterLine r (turnouts.more next) number rest text go_on = go_on next
 AfterLine r (turnouts.complete d) number rest text go_on = text ≡ whole (r.says d number) rest
 AfterLine r (turnouts.wrong why) number rest text go_on = text ≡ refused number (Grammar why)
 
--- the text that the lines are from this stage on, of which the first has this number
+-- the text in the lines from a stage on, the first of which has this number
 abbrev pub ReadsLines : {A : Type 0} → Reading A → ReaderState → ℕ → Lines → Text A → Type 0
 ReadsLines r stage number (full line rest) text =
     (turnout : Turnout) × Feeds r.grammar stage line turnout
@@ -56,7 +56,7 @@ ReadsLines r stage number ended text = text ≡ refused number Missing
 ReadsLines r stage number (cut front) text = text ≡ refused number Cut
 ReadsLines r stage number long text = text ≡ refused number Long
 
--- the text that the lines are from the first on
+-- the text in these lines, from the first line on
 abbrev pub IsTextOf : {A : Type 0} → Reading A → Lines → Text A → Type 0
 IsTextOf r lines text = ReadsLines r Header 1 lines text
 
@@ -64,11 +64,11 @@ IsTextOf r lines text = ReadsLines r Header 1 lines text
 abbrev pub TextAt : List ℕ → Text Problem → Type 0
 TextAt bytes text = IsTextOf problems (lines_of bytes) text
 
--- the crowd's text that the lines are from the first on
+-- the crowd text in these lines, from the first line on
 abbrev pub IsCrowdText : Lines → Text WholeText → Type 0
 IsCrowdText lines text = IsTextOf (texts_of crowds) lines text
 
--- the line is refused because the input ends
+-- the line is refused because the input ended
 abbrev pub is_end : LineWhy → Bool
 is_end (Grammar why) = false
 is_end Long = false
@@ -87,6 +87,6 @@ why_word Long = codes "long"
 why_word Cut = codes "cut"
 why_word Missing = codes "missing"
 
--- the fault line of a line that is refused
+-- the fault line of a refused line
 abbrev pub refusal_line : ℕ → LineWhy → List ℕ
 refusal_line number why = codes "text line " ++ decimal number ++ codes " " ++ why_word why ++ codes "\n"

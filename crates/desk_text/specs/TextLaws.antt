@@ -7,11 +7,12 @@ use Rattle.chess_text.specs.PositionText.{IsWritable, draft_of, position_lines, 
 use Rattle.desk_text.specs.Text.{TextAt, problem_of, whole}
 use Rattle.desk_text.specs.declared.problem.Problem.{Problem}
 
--- the problem of a position that a side is to win, as its text says it
+-- the problem that the text of a position and its winner states
 abbrev pub text_problem : Position → Side → Problem
 text_problem p winner = problem_of (draft_of p winner) (length (position_lines p winner))
 
--- the text of a position and a winner, whatever comes behind it, is read as that position and that winner, and has so many lines
+-- the text of a position and its winner, whatever follows it, is read as that position and winner, with its number of
+-- lines
 abbrev pub TextIsRead : Type 0
 TextIsRead =
     (p : Position) (winner : Side) (rest : List ℕ) → IsWritable p

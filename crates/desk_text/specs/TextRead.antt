@@ -1,4 +1,4 @@
--- What was read of a text.
+-- The bytes read of a text.
 use Rattle.std.specs.Prelude.{◌≡◌, ℕ, ◌+◌, List, ◌++◌, length, Option, IfSome, Result, Ok, Err, IsTrue}
 use Rattle.std.specs.Io.KnownBytes.{Consumes}
 use Rattle.chess_text.specs.Grammar.{crowds}
@@ -13,18 +13,18 @@ use Rattle.desk_text.specs.declared.text.LineWhy.TheVariants.{Missing}
 use Rattle.desk_text.specs.declared.text.TextEnd.{TextEnd}
 use Rattle.desk_text.specs.declared.text.TextEnd.TheVariants.{Fault, Refused}
 
--- these bytes are no text because they end
+-- these bytes are not a text because they end too early
 pub record IsShortOf {A : Type 0} (r : Reading A) (bytes : List ℕ) : Type 0 where
   pub number : ℕ
   pub why : LineWhy
   pub text : IsTextOf r (lines_of bytes) (refused number why)
   pub short : IsTrue (is_end why)
 
--- the next line is missing of a text that begins with these
+-- a text that begins with these lines needs another line
 abbrev pub IsMissingOf : {A : Type 0} → Reading A → (before : List (List ℕ)) → Type 0
 IsMissingOf r before = IsTextOf r (lines_of (text_of_lines before)) (refused (length before + 1) Missing)
 
--- The answer is right where these lines were read of an input, `pending` was taken behind them, and `rest` comes then.
+-- The result is right if these lines of an input were read, `pending` was taken after them, and `rest` follows.
 abbrev pub ReadsText : {A : Type 0} → Reading A → Result A TextEnd → (lines pending rest : List ℕ) → Type 0
 ReadsText r (Ok said) lines pending rest =
     (more : List ℕ) → IsTextOf r (lines_of (lines ++ more)) (whole said (lines_of more))
@@ -32,7 +32,7 @@ ReadsText r (Err Fault) lines pending rest = IsShortOf r (lines ++ pending)
 ReadsText r (Err (Refused number why)) lines pending rest =
     IsTextOf r (lines_of ((lines ++ pending) ++ rest)) (refused number why)
 
--- The answer is right for a source that goes from `before` to `after`.
+-- The result is right for a source that was `before` and is `after`.
 pub record TextReadOf {A : Type 0} (r : Reading A) (answer : Result A TextEnd) (pending : List ℕ)
     (before after : Option (List ℕ)) : Type 0 where
   pub bytes : List ℕ
@@ -42,7 +42,7 @@ pub record TextReadOf {A : Type 0} (r : Reading A) (answer : Result A TextEnd) (
   pub takes : TakesLines (IsMissingOf r) bytes pending
   pub reads : ReadsText r answer (text_of_lines takes.lines) pending rest
 
--- the same of position texts
+-- the same for position texts
 abbrev pub IsShort : (bytes : List ℕ) → Type 0
 IsShort bytes = IsShortOf problems bytes
 
@@ -52,6 +52,6 @@ IsMissing before = IsMissingOf problems before
 abbrev pub TextRead : Result Problem TextEnd → (pending : List ℕ) → (before after : Option (List ℕ)) → Type 0
 TextRead answer pending before after = TextReadOf problems answer pending before after
 
--- and of crowds' texts
+-- the same for crowd texts
 abbrev pub CrowdRead : Result WholeText TextEnd → (pending : List ℕ) → (before after : Option (List ℕ)) → Type 0
 CrowdRead answer pending before after = TextReadOf (texts_of crowds) answer pending before after

@@ -1,5 +1,7 @@
-//! The text at the front of an input: what it says, as the problem that a position text is, or the first line that is refused (`specs/Text`), what is read of a source for it
-//! (`specs/TextRead`), and what is taken of an input that is read by lines (`specs/Taken`).
+//! Reads a text at the front of an input.
+//!
+//! `specs/Text` defines what such a text says: a problem, or the first line that is refused. `specs/TextRead` defines
+//! which bytes of a source are read for it, and `specs/Taken` which bytes of an input are taken if it is read by lines.
 #![tactic(auto)]
 
 mod problem;

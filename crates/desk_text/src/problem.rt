@@ -1,4 +1,4 @@
-//! Texts and problems, and what is asked of one; files of a name, and what is asked of one.
+//! Texts, problems and tasks.
 
 ghost use Rattle.std.specs.Prelude.{◌≡◌};
 
@@ -6,14 +6,14 @@ use chess_game::{Position, Side};
 use chess_text::Draft;
 use limits::Budget;
 
-/// A text that was read whole: what it says, and how many lines it has.
+/// A complete text: its contents and its number of lines.
 #[derive(Drop)]
 pub struct WholeText {
     pub draft: Draft,
     pub lines: u32,
 }
 
-/// What a text says that was read whole: a position, and the side that is to mate. The text has so many lines.
+/// The problem that a position text states: a position and its winner, and the number of lines of the text.
 #[derive(Clone, Copy)]
 pub struct Problem {
     pub position: Position,
@@ -22,7 +22,8 @@ pub struct Problem {
 }
 
 impl Problem {
-    /// That its winner is to mate within so many moves, or up to so many, with this budget for each plan.
+    /// Returns the task of mating within `moves` moves, or of finding the least number up to `moves`, with this budget
+    /// for each plan.
     pub fn task(self, moves: u8, budget: Budget) -> Task
         ensures { result ≡ record { problem = self; moves = moves; budget = budget } }
     {
@@ -34,7 +35,7 @@ impl Problem {
     }
 }
 
-/// A problem, within how many moves its winner is to mate, or up to how many, and the budget of each plan.
+/// A problem with the number of moves, or the greatest number, and the budget of each plan.
 #[derive(Clone, Copy)]
 pub struct Task {
     pub problem: Problem,
@@ -42,7 +43,7 @@ pub struct Task {
     pub budget: Budget,
 }
 
-/// The file of a name, and the budget of the plan that checks its claim.
+/// The name of a strategy file, and the budget of the plan that checks its claim.
 #[derive(Clone, Copy)]
 pub struct FileTask<'a> {
     pub name: &'a str,

@@ -29,7 +29,7 @@ pub enum LineWhy {
 }
 
 impl LineWhy {
-    /// The last word of the fault line.
+    /// Returns the last word of the fault line.
     pub fn word(self) -> &'static [u8]
         ensures word { result.now ≡ why_word self }
         ensures short { length result.now ≤ 7 }
@@ -48,7 +48,7 @@ impl LineWhy {
     }
 }
 
-/// Why no position came: the source has failed, or the line of this number, counted from 1, is refused.
+/// Why no text was read: the source failed, or the line of this number, counted from 1, was refused.
 #[derive(Clone, Copy, PartialEq, Eq)]
 pub enum TextEnd {
     Fault,
@@ -71,7 +71,7 @@ fn problem_of(text: &WholeText) -> Problem
     }
 }
 
-/// Reads the text of a problem at the front of an input. What comes after it is not read, but for the bytes that the reader holds.
+/// Reads a position text at the front of an input. Nothing after it is read, except the bytes that the reader keeps.
 pub fn read_problem<S: Source>(reader: &mut LineReader, source: &mut S) -> Result<Problem, TextEnd>
     requires fresh { (reader.old.pending ≡ []) × (reader.old.stopped ≡ None) }
     ensures reads { TextRead result reader.new.pending (S.left source.old) (S.left source.new) }
@@ -99,7 +99,7 @@ fn whole_text(text: TextReader, lines: u32) -> WholeText
     }
 }
 
-/// Reads a text of a kind at the front of an input. What comes after it is not read, but for the bytes that the reader holds.
+/// Reads a text of a kind at the front of an input. Nothing after it is read, except the bytes that the reader keeps.
 pub fn read_text<S: Source>(
     grammar: Grammar,
     reader: &mut LineReader,

@@ -1,4 +1,4 @@
--- What it is to step, and to bear, along a ray of the table.
+-- Steps and attacks along a ray of the table.
 use Rattle.std.specs.Prelude.{◌≡◌, ℕ, Some, IsTrue}
 use Rattle.game_rules.specs.Game.{Position, IsOccupiedBy, IsEmptySquare, IsOpen, other}
 use Rattle.game_rules.specs.Rays.{IsAlong, IsAt, ray_of, serves_captures, serves_moves}
@@ -6,14 +6,14 @@ use Rattle.game_rules.specs.declared.men.Man.{Man}
 use Rattle.game_rules.specs.declared.men.Ray.{Ray}
 use Rattle.game_rules.specs.declared.men.Square.{Square}
 
--- ray number n of the man leads from a to z in k steps
+-- ray number n of the man goes from a to z in k steps
 pub record IsOnRay (m : Man) (a z : Square) (n k : ℕ) : Type 0 where
   pub ray : Ray
   pub is_ray : ray_of m.kind m.side n ≡ Some ray
   pub leads : IsAt ray k a z
 
--- one ray of the man leads from a to z, at one distance, over no man, and it serves a move or a capture as z is empty
--- or held
+-- exactly one ray of the man goes from a to z, at one distance, past no man; it serves moves if z is empty, and
+-- captures if the other side holds z
 pub record IsOnOneRay (p : Position) (m : Man) (a z : Square) : Type 0 where
   pub number : ℕ
   pub distance : ℕ
@@ -23,7 +23,7 @@ pub record IsOnOneRay (p : Position) (m : Man) (a z : Square) : Type 0 where
   pub move : IsEmptySquare p z → IsTrue (serves_moves m.kind number)
   pub capture : IsOccupiedBy p (other m.side) z → IsTrue (serves_captures m.kind number)
 
--- a ray of the man that serves captures leads from a to z, over no man
+-- a ray of the man that serves captures goes from a to z, past no man
 pub record IsBorneAlong (p : Position) (m : Man) (a z : Square) : Type 0 where
   pub number : ℕ
   pub ray : Ray

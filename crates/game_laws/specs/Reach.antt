@@ -1,4 +1,4 @@
--- What a man reaches from his square on a board that is empty but for him.
+-- The squares that a man reaches from his square on an otherwise empty board.
 use Rattle.std.specs.Prelude.{◌≡◌, ℤ, ◌-ℤ◌, ◌⊎◌, max, unsigned_abs}
 use Rattle.game_rules.specs.Game.{Position, IsDiagonal, IsLeap, IsLeaps, IsLiveAnd, IsOpen, IsStraight, forward}
 use Rattle.game_rules.specs.declared.men.Kind.{Kind}
@@ -7,7 +7,7 @@ use Rattle.game_rules.specs.declared.men.Man.{Man}
 use Rattle.game_rules.specs.declared.men.Side.{Side}
 use Rattle.game_rules.specs.declared.men.Square.{Square}
 
--- the offset is one at which he bears on a square, if nobody is in between
+-- the offset is one at which the man bears on a square if no man is in between
 abbrev pub HasReach : Side → Kind → ℤ → ℤ → Type 0
 HasReach s King dx dy = max (unsigned_abs dx) (unsigned_abs dy) ≡ 1
 HasReach s Queen dx dy = IsStraight dx dy ⊎ IsDiagonal dx dy
@@ -20,6 +20,6 @@ HasReach s Archbishop dx dy = IsDiagonal dx dy ⊎ IsLeap dx dy
 HasReach s Amazon dx dy = (IsStraight dx dy ⊎ IsDiagonal dx dy) ⊎ IsLeap dx dy
 HasReach s Nightrider dx dy = IsLeaps dx dy
 
--- he is live, reaches the square, and nobody is strictly between
+-- the man is live, reaches the square, and no man is strictly between
 abbrev pub ReachesOpenly : Position → Man → Square → Type 0
 ReachesOpenly p m z = IsLiveAnd m (λ a. HasReach m.side m.kind (z.x -ℤ a.x) (z.y -ℤ a.y) × IsOpen p a z)

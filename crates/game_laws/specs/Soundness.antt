@@ -1,4 +1,5 @@
--- A position is sound in one way at most, so that a struct can hold that its position is.
+-- Soundness is a proposition: a position is sound in at most one way. So a field of a struct can say that its position
+-- is.
 use Rattle.std.specs.Prelude.{◌≡◌, ◌≢◌, ℕ, Some, unwrap_or}
 use Rattle.std.specs.Coded.{Coded-set, coded_option, coded_ℕ, ×_prop, →_prop, Π_prop}
 use mathlib.Core.HLevel.{¬_prop}
@@ -13,7 +14,7 @@ use Rattle.game_rules.specs.contracts.men.Man as man
 use Rattle.game_rules.specs.contracts.men.Side as side
 
 module _ (p : Position) (s : Side) where
-  -- the king is the man of this number, and what else is said of him
+  -- the number and the man of the only king, with what HasOneKing says of him
   abbrev IsOneKing : ℕ → Man → Type 0
   IsOneKing n king =
       (man_at p n ≡ Some king) × (((king.side ≡ s) × (king.kind ≡ King)) × ((king.place ≢ Gone)
@@ -35,7 +36,7 @@ module _ (p : Position) (s : Side) where
       (subst (λ other. (g : IsOneKing n other) → one_king n king h ≡ one_king n other g) man
       (λ g. ap (one_king n king) (IsOneKing-prop n king h g)))
 
-  -- his number is that of the only one, and the man of a number is one man
+  -- the number is that of the only king, and a number has one man
   HasOneKing-prop : IsProp (HasOneKing p s)
   HasOneKing-prop h g =
       let number = g.only h.number h.king h.is_man h.is_king.0 h.is_king.1 in

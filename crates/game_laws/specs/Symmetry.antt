@@ -1,4 +1,4 @@
--- Maps of the board that change nothing in the game.
+-- Maps of the board that keep the game.
 use Rattle.std.specs.Prelude.{◌↔◌, ℕ, ℤ, pos, ◌+ℤ◌, ◌-ℤ◌, map}
 use Rattle.game_rules.specs.Game.{Position, Legal, Mate, Sound, Value, other}
 use Rattle.game_rules.specs.declared.men.Man.{Man}
@@ -7,12 +7,12 @@ use Rattle.game_rules.specs.declared.men.Place.TheVariants.{Gone, At}
 use Rattle.game_rules.specs.declared.men.Side.{Side}
 use Rattle.game_rules.specs.declared.men.Square.{Square}
 
--- where each square goes, and which side each side becomes
+-- a map of squares and of sides
 pub record BoardMap : Type 0 where
   pub square : Square → Square
   pub side : Side → Side
 
--- every square goes so far to the right and up
+-- every square goes dx to the right and dy up
 abbrev pub shift : ℤ → ℤ → BoardMap
 shift dx dy = record { square = λ z. record { x = z.x +ℤ dx; y = z.y +ℤ dy }; side = λ s. s }
 
@@ -20,7 +20,7 @@ shift dx dy = record { square = λ z. record { x = z.x +ℤ dx; y = z.y +ℤ dy 
 abbrev pub reflection : BoardMap
 reflection = record { square = λ z. record { x = pos 0 -ℤ z.x; y = z.y }; side = λ s. s }
 
--- the colours are exchanged, and up and down
+-- the colours are exchanged, and up and down with them
 abbrev pub colour_exchange : BoardMap
 colour_exchange = record { square = λ z. record { x = z.x; y = pos 0 -ℤ z.y }; side = other }
 
@@ -32,15 +32,15 @@ abbrev pub mapped_place : BoardMap → Place → Place
 mapped_place f Gone = Gone
 mapped_place f (At x y) = place_on (f.square (record { x = x; y = y }))
 
--- the man of the same kind, where his square goes, of the side that his side becomes
+-- the man of the same kind on the image of his square, of the side to which his side is mapped
 abbrev pub mapped_man : BoardMap → Man → Man
 mapped_man f m = record { side = f.side m.side; kind = m.kind; place = mapped_place f m.place }
 
--- all men mapped, and the side to move
+-- all men and the side to move mapped
 abbrev pub mapped : BoardMap → Position → Position
 mapped f p = record { men = map (mapped_man f) p.men; turn = f.side p.turn }
 
--- the game goes on the mapped board as it goes here
+-- legal moves, soundness, mate and values of a position and of its image correspond
 pub record KeepsGame (f : BoardMap) : Type 0 where
   pub legal : (p : Position) (i : ℕ) (z : Square) (q : Position)
       → Legal p i z q ↔ Legal (mapped f p) i (f.square z) (mapped f q)

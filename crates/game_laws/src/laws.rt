@@ -3,76 +3,79 @@
 ghost use Rattle.game_laws.specs.Laws.{BearsAlongRays, BearsOpenly, ExchangeKeepsValue, KeepsSound, LosesMonotonically, LostAtOnceIsMate, LostIsFlat, MateByRays, MateOrMove, ReflectionKeepsValue, ShiftKeepsGame, ShiftKeepsValue, SparesKings, StepsOnOneRay, WinsMonotonically};
 ghost use Rattle.game_laws.specs.Symmetry.{KeepsGame, colour_exchange, reflection};
 
-/// From a sound position no step takes a king.
+/// States that no step from a sound position captures a king.
 pub fn kings_are_spared()
     ensures { SparesKings }
 {}
 
-/// A legal move keeps a position sound.
+/// States that a legal move keeps a position sound.
 pub fn legal_keeps_sound()
     ensures { KeepsSound }
 {}
 
-/// Who mates within so many moves mates within more, and who is mated within so many is mated within more.
+/// States that a mate within k moves is also a mate within any n ≥ k, for the side that mates and for the side that is
+/// mated.
 pub fn more_moves_lose_nothing()
     ensures wins { WinsMonotonically }
     ensures loses { LosesMonotonically }
 {}
 
-/// To be mated within no move is to be mate, with the loser to move.
+/// States that a position is lost within 0 moves if and only if the loser is to move and is mate.
 pub fn lost_at_once_is_mate()
     ensures { LostAtOnceIsMate }
 {}
 
-/// Where all men are moved by one offset, the game is the same: moves are legal, positions are sound and mate, and the winner
-/// mates within so many moves, exactly where it was so before.
+/// States that moving all men by one offset changes nothing: moves are legal, positions are sound or mate, and the
+/// winner mates within n moves, if and only if that was so before.
 pub fn moving_the_board_keeps_the_game()
     ensures value { ShiftKeepsValue }
     ensures game { ShiftKeepsGame }
 {}
 
-/// Where right and left are exchanged, the game is the same.
+/// States that exchanging right and left changes nothing in the game.
 pub fn reflecting_the_board_keeps_the_game()
     ensures value { ReflectionKeepsValue }
     ensures game { KeepsGame reflection }
 {}
 
-/// Where the colours are exchanged, and up and down with them, the game is the same with the sides exchanged: White mates
-/// within so many moves here exactly where Black does there.
+/// States that exchanging the colours, and up and down with them, changes nothing but the sides: White mates within n
+/// moves of one position if and only if Black does of the other.
 pub fn exchanging_the_colours_keeps_the_game()
     ensures value { ExchangeKeepsValue }
     ensures game { KeepsGame colour_exchange }
 {}
 
-/// Each step lies on exactly one ray of the table at exactly one distance, and that ray serves what the step is.
+/// States that each step lies on exactly one ray of the table at exactly one distance, and that this ray serves that
+/// kind of step.
 pub fn steps_lie_on_one_ray()
     ensures { StepsOnOneRay }
 {}
 
-/// A man bears on the squares that he would reach on an empty board, where nobody is in between.
+/// States that a man bears on a square if and only if he reaches it on an empty board and no man is in between.
 pub fn men_bear_over_open_lines()
     ensures { BearsOpenly }
 {}
 
-/// A man bears along the rays that serve captures, and along a far one where nothing stands in between.
+/// States that a man bears on a square if and only if a ray that serves captures goes there, and no man is in between
+/// if the ray is far.
 pub fn men_bear_along_rays()
     ensures { BearsAlongRays }
 {}
 
-/// Whoever is in check is mated or has a legal move.
+/// States that a side in check at a sound position is mated or has a legal move.
 pub fn mate_or_move()
     ensures { MateOrMove }
 {}
 
-/// To be mate, or to have a legal move and lose with each, is one with to be in check or to have a legal move, and to lose
-/// with each.
+/// States that two forms of losing are equivalent: to be mate, or to have a legal move and lose after each; and to be
+/// in check or have a legal move, and to lose after each.
 pub fn lost_is_flat()
     ensures { LostIsFlat }
 {}
 
-/// In check from a man, only his square and those between him and the king can answer, and each ray of a man leads to one
-/// of them at most, unless it goes along the line: so it is mate where no man has a legal move to one square on each of his
-/// rays.
+/// States which squares decide whether a check is mate. Only the checking man's square and those between him and the
+/// king answer the check, and each ray of a man meets at most one of them, unless it goes along the line. So it is mate
+/// if and only if no man has a legal move to the one square on each of his rays.
 pub fn mate_by_rays()
     ensures { MateByRays }
 {}

@@ -1,8 +1,8 @@
-//! The laws of the game, over all positions of the board without an edge.
+//! States and proves the laws of the game over all positions of the unbounded board.
 //!
-//! Each law is a public function with nothing to do in the module `laws`: its sentence is the documentation, its statement
-//! a definition in `specs/Laws.antt`, and its contract says that the statement holds. The crates above cite the lemmas behind
-//! them.
+//! Each law is a public function of the module `laws` that does nothing: its doc comment is the law in words, its
+//! statement is a definition in `specs/Laws.antt`, and its contract says that the statement is true. The crates above
+//! cite the lemmas in `proofs`.
 #![tactic(auto)]
 
 pub mod laws;

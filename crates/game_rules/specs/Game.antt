@@ -1,4 +1,4 @@
--- Chess on the unbounded board: the laws of the game (FIDE Laws of Chess, Articles 3 and 5), over all squares.
+-- Chess on the unbounded board: the rules of the game (FIDE Laws of Chess, Articles 3 and 5), over all squares.
 use Rattle.std.specs.Prelude.{◌≡◌, ◌≢◌, ◌↔◌, ℕ, zero, suc, ◌<◌, ◌+◌, ◌^◌, max, ℤ, pos, negsuc, ◌+ℤ◌, ◌-ℤ◌, ◌*ℤ◌, unsigned_abs, ◌⊎◌, List, length, Option, Some, None, IsSomeAnd, slice_get, ◌≤◌}
 use Rattle.std.specs.Int.{bit_at}
 use Rattle.std.specs.List.{All, Any}
@@ -33,15 +33,15 @@ place_square (At x y) = Some (record { x = x; y = y })
 abbrev pub square_of : Man → Option Square
 square_of m = place_square m.place
 
--- he is live, and stands on this square
+-- the man is live and stands on this square
 abbrev pub StandsOn : Man → Square → Type 0
 StandsOn m z = square_of m ≡ Some z
 
--- he is live, and his square has this property
+-- the man is live and his square has this property
 abbrev pub IsLiveAnd : Man → (Square → Type 0) → Type 0
 IsLiveAnd m P = IsSomeAnd (square_of m) P
 
--- the mask has one bit a man, counted from the lowest, which is 1 exactly where he is live
+-- bit i - 1 of the mask is 1 if and only if man i is live; no higher bit is 1
 pub record IsMaskOf (p : Position) (mask : ℕ) : Type 0 where
   pub live : (i : ℕ) (m : Man) → slice_get p.men i ≡ Some m → (bit_at mask i ≡ 1) ↔ (m.place ≢ Gone)
   pub no_more : mask < 2 ^ length p.men
@@ -51,13 +51,13 @@ abbrev pub forward : Side → ℤ
 forward White = pos 1
 forward Black = negsuc 0
 
--- one step along a row, a column or a diagonal, or one leap of a knight: one of the two is 1 or -1, and the other at most
--- 2 in size
+-- one step along a row, a column or a diagonal, or one leap of a knight: one coordinate is 1 or -1, and the other is at
+-- most 2 in absolute value
 abbrev pub IsDirection : ℤ → ℤ → Type 0
 IsDirection dx dy =
     ((unsigned_abs dx ≡ 1) × (unsigned_abs dy ≤ 2)) ⊎ ((unsigned_abs dy ≡ 1) × (unsigned_abs dx ≤ 2))
 
--- the square after so many equal steps
+-- the square after k equal steps from a
 abbrev pub after_steps : Square → ℕ → ℤ → ℤ → Square
 after_steps a k dx dy = record { x = a.x +ℤ (pos k *ℤ dx); y = a.y +ℤ (pos k *ℤ dy) }
 
@@ -98,15 +98,15 @@ IsOpen p a b = All (λ m. IsLiveAnd m (IsBetween a b) → ⊥) p.men
 abbrev pub BearsAsRook : Position → Square → Square → Type 0
 BearsAsRook p a z = IsStraight (z.x -ℤ a.x) (z.y -ℤ a.y) × IsOpen p a z
 
--- a bishop does (Articles 3.2 and 3.5)
+-- a bishop on a bears on z (Articles 3.2 and 3.5)
 abbrev pub BearsAsBishop : Position → Square → Square → Type 0
 BearsAsBishop p a z = IsDiagonal (z.x -ℤ a.x) (z.y -ℤ a.y) × IsOpen p a z
 
--- a queen does, as a rook or as a bishop (Article 3.4)
+-- a queen on a bears on z, as a rook or as a bishop (Article 3.4)
 abbrev pub BearsAsQueen : Position → Square → Square → Type 0
 BearsAsQueen p a z = BearsAsRook p a z ⊎ BearsAsBishop p a z
 
--- a knight does (Article 3.6)
+-- a knight on a bears on z (Article 3.6)
 abbrev pub BearsAsKnight : Square → Square → Type 0
 BearsAsKnight a z = IsLeap (z.x -ℤ a.x) (z.y -ℤ a.y)
 
@@ -123,7 +123,7 @@ BearsAs p s Archbishop a z = BearsAsBishop p a z ⊎ BearsAsKnight a z
 BearsAs p s Amazon a z = BearsAsQueen p a z ⊎ BearsAsKnight a z
 BearsAs p s Nightrider a z = IsLeaps (z.x -ℤ a.x) (z.y -ℤ a.y) × IsOpen p a z
 
--- he is live and bears on the square
+-- the man is live and bears on the square
 abbrev pub Bears : Position → Man → Square → Type 0
 Bears p m z = IsLiveAnd m (λ a. BearsAs p m.side m.kind a z)
 
@@ -148,19 +148,19 @@ GoesAs _ p m z = Bears p m z
 abbrev pub Goes : Position → Man → Square → Type 0
 Goes p m z = GoesAs m.kind p m z
 
--- what a man becomes when another has gone to z: he is gone if he stood there (Article 3.1.1)
+-- the change of a man when another one has gone to z: he is captured if he stood there (Article 3.1.1)
 pub record IsLeftBy (z : Square) (before after : Man) : Type 0 where
   pub taken : StandsOn before z → after ≡ record before { place = Gone }
   pub kept : (StandsOn before z → ⊥) → after ≡ before
 
--- q is p after man i has gone to z
+-- q is the position p after man i has gone to z
 pub record IsAfter (p : Position) (i : ℕ) (z : Square) (q : Position) : Type 0 where
   pub same_count : length q.men ≡ length p.men
   pub mover : (m : Man) → man_at p i ≡ Some m → man_at q i ≡ Some (record m { place = At z.x z.y })
   pub others : (k : ℕ) (m n : Man) → k ≢ i → man_at p k ≡ Some m → man_at q k ≡ Some n → IsLeftBy z m n
   pub turn : q.turn ≡ other p.turn
 
--- man i may go to z, and then q is the position
+-- man i may go to z, apart from the safety of his king, and q is the position after that
 pub record Step (p : Position) (i : ℕ) (z : Square) (q : Position) : Type 0 where
   pub man : Man
   pub is_man : man_at p i ≡ Some man
@@ -191,18 +191,18 @@ pub record HasOneKing (p : Position) (s : Side) : Type 0 where
   pub live : king.place ≢ Gone
   pub only : (k : ℕ) (m : Man) → man_at p k ≡ Some m → m.side ≡ s → m.kind ≡ King → k ≡ number
 
--- the side has no king, or one alone, who is live
+-- the side has no king, or exactly one man of it is a king and he is live
 pub record HasOneKingAtMost (p : Position) (s : Side) : Type 0 where
   pub live : (k : ℕ) (m : Man) → man_at p k ≡ Some m → m.side ≡ s → m.kind ≡ King → m.place ≢ Gone
   pub only : (j k : ℕ) (m n : Man) → man_at p j ≡ Some m → man_at p k ≡ Some n → m.side ≡ s → n.side ≡ s → m.kind ≡ King
       → n.kind ≡ King → j ≡ k
 
--- some man is a king, and no side has two of them, or a captured one
+-- at least one man is a king, and no side has two kings or a captured one
 pub record HasKings (p : Position) : Type 0 where
   pub few : (s : Side) → HasOneKingAtMost p s
   pub some : ((k : ℕ) (m : Man) → man_at p k ≡ Some m → m.kind ≡ King → ⊥) → ⊥
 
--- each side has one king, who is live
+-- each side has exactly one king, and he is live
 abbrev pub HasBothKings : Position → Type 0
 HasBothKings p = (s : Side) → HasOneKing p s
 
@@ -216,8 +216,8 @@ IsApart p =
     → StandsOn n z
     → i ≡ j
 
--- each side has one king at most, who is live, and one of the two has one; men stand apart, and the side that is not to
--- move is not in check
+-- each side has at most one king, who is live, and at least one side has a king; live men stand on distinct squares;
+-- the side that is not to move is not in check
 pub record Sound (p : Position) : Type 0 where
   pub kings : HasKings p
   pub apart : IsApart p
@@ -237,28 +237,28 @@ pub record Mate (p : Position) : Type 0 where
 abbrev pub HasMove : Position → Type 0
 HasMove p = (i : ℕ) × (z : Square) × (q : Position) × Legal p i z q
 
--- the loser is to move and is mate, or has a legal move, each of which leads to a position with the property
+-- it is the loser's turn, and he is mate, or has a legal move and each legal move leads to a position with the property
 abbrev pub LostInto : Side → (Position → Type 0) → Position → Type 0
 LostInto winner W q =
     (q.turn ≡ other winner)
     × (Mate q ⊎ (HasMove q × ((i : ℕ) (z : Square) (r : Position) → Legal q i z r → W r)))
 
--- the winner is to move, and mates within n moves of his own, whatever is replied
+-- it is the winner's turn, and he can force mate within n moves of his own
 abbrev pub Win : Side → ℕ → Position → Type 0
 Win winner zero p = ⊥
 Win winner (suc n) p =
     (p.turn ≡ winner)
     × ((i : ℕ) × (z : Square) × (q : Position) × Legal p i z q × LostInto winner (Win winner n) q)
 
--- the loser is to move, and is mated within n moves of the winner, whatever he plays
+-- it is the loser's turn, and he is mated within n moves of the winner, whatever he plays
 abbrev pub Lost : Side → ℕ → Position → Type 0
 Lost winner n = LostInto winner (Win winner n)
 
--- the winner mates within n moves of his own: to move himself, or after the loser's reply
+-- the winner can force mate within n moves of his own, whoever is to move
 abbrev pub Value : Side → ℕ → Position → Type 0
 Value winner n p = Win winner n p ⊎ Lost winner n p
 
--- the least n up to the limit with the value, or none
+-- the least n up to the limit for which the position has the value, or none
 abbrev pub Least : Side → Position → ℕ → Option ℕ → Type 0
 Least winner p limit (Some n) = (n ≤ limit) × Value winner n p × ((k : ℕ) → k < n → Value winner k p → ⊥)
 Least winner p limit None = (k : ℕ) → k ≤ limit → Value winner k p → ⊥

@@ -1,4 +1,4 @@
--- The table of rays: the ways that the men of each kind go, in order.
+-- The table of rays: the directions in which the men of each kind go, in a fixed order.
 use Rattle.std.specs.Prelude.{◌≡◌, ℕ, zero, suc, ◌≤◌, Bool, true, false, List, [], ◌∷◌, ◌++◌, ℤ, pos, negsuc, Option, slice_get}
 use Rattle.game_rules.specs.Game.{forward, after_steps}
 use Rattle.game_rules.specs.declared.men.Kind.{Kind}
@@ -31,7 +31,7 @@ leap_rays =
     leap (pos 2) (pos 1) ∷ leap (pos 1) (pos 2) ∷ leap (negsuc 0) (pos 2) ∷ leap (negsuc 1) (pos 1)
     ∷ leap (negsuc 1) (negsuc 0) ∷ leap (negsuc 0) (negsuc 1) ∷ leap (pos 1) (negsuc 1) ∷ leap (pos 2) (negsuc 0) ∷ []
 
--- the rays of a kind; of the sides' men only the pawns differ
+-- the rays of a kind; only those of pawns depend on the side
 abbrev pub rays_of : Kind → Side → List Ray
 rays_of King s =
     leap (pos 1) (pos 0) ∷ leap (pos 1) (pos 1) ∷ leap (pos 0) (pos 1) ∷ leap (negsuc 0) (pos 1)
@@ -48,28 +48,28 @@ rays_of Nightrider s =
     slide (pos 2) (pos 1) ∷ slide (pos 1) (pos 2) ∷ slide (negsuc 0) (pos 2) ∷ slide (negsuc 1) (pos 1)
     ∷ slide (negsuc 1) (negsuc 0) ∷ slide (negsuc 0) (negsuc 1) ∷ slide (pos 1) (negsuc 1) ∷ slide (pos 2) (negsuc 0) ∷ []
 
--- the ray of this number, counted from 0
+-- ray number n of a kind, counted from 0
 abbrev pub ray_of : Kind → Side → ℕ → Option Ray
 ray_of kind side n = slice_get (rays_of kind side) n
 
--- the ray serves moves onto an empty square: of a pawn's three only the first does
+-- the ray serves moves onto an empty square; of a pawn's three rays only the first does
 abbrev pub serves_moves : Kind → ℕ → Bool
 serves_moves Pawn zero = true
 serves_moves Pawn (suc n) = false
 serves_moves _ n = true
 
--- the ray serves captures, and the man bears along it: of a pawn's three all but the first do
+-- the ray serves captures, and the man bears along it; of a pawn's three rays all but the first do
 abbrev pub serves_captures : Kind → ℕ → Bool
 serves_captures Pawn zero = false
 serves_captures Pawn (suc n) = true
 serves_captures _ n = true
 
--- this many steps along the ray lead from a to b; only a far ray has more than one
+-- k steps along the ray go from a to b; only a far ray allows more than one step
 pub record IsAt (r : Ray) (k : ℕ) (a b : Square) : Type 0 where
   pub begun : 1 ≤ k
   pub one : r.far ≡ false → k ≡ 1
   pub leads : b ≡ after_steps a k r.dx r.dy
 
--- the ray leads from a to b
+-- some number of steps along the ray goes from a to b
 abbrev pub IsAlong : Ray → Square → Square → Type 0
 IsAlong r a b = (k : ℕ) × IsAt r k a b

@@ -1,8 +1,9 @@
-//! Infinite chess: the men, the squares of a board without an edge, and the laws of the game.
+//! Defines infinite chess: men, squares of an unbounded board, and the rules of the game.
 //!
-//! The types are here. The laws are definitions under `specs`: `Game` says what a verdict means, from how the men move
-//! to mate in so many moves, and `Rays` has the table of the ways that the men go. The crate has no algorithm. Whoever
-//! wants to know what is proved above reads these two files and no more.
+//! The types are in this crate's modules, the rules are definitions under `specs`. `Game` defines every term of a
+//! verdict, from how the men move to mate within n moves. `Rays` has the table of the rays along which each kind of man
+//! goes. The crate has no algorithms. These two files are all that a reader needs to understand what the crates above
+//! prove.
 #![tactic(auto)]
 
 mod men;

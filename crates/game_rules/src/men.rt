@@ -1,4 +1,4 @@
-//! Men, places and squares.
+//! Men (pieces and pawns), places and squares.
 ghost use Rattle.std.specs.Prelude.{◌≡◌};
 ghost use Rattle.game_rules.specs.Game.{other};
 
@@ -10,7 +10,7 @@ pub enum Side {
 }
 
 impl Side {
-    /// The side that is not this one.
+    /// Returns the other side.
     pub fn other(self) -> Side
         ensures { result ≡ other self }
     {
@@ -21,7 +21,7 @@ impl Side {
     }
 }
 
-/// What a man is (FIDE Laws, Article 2.2), and four kinds of fairy chess.
+/// The kind of a man: the six kinds of FIDE Laws, Article 2.2, and four kinds of fairy chess.
 #[derive(Clone, Copy, PartialEq, Eq)]
 pub enum Kind {
     King,
@@ -30,25 +30,25 @@ pub enum Kind {
     Bishop,
     Knight,
     Pawn,
-    /// A rook and a knight in one.
+    /// Moves as a rook or as a knight.
     Chancellor,
-    /// A bishop and a knight in one.
+    /// Moves as a bishop or as a knight.
     Archbishop,
-    /// A queen and a knight in one.
+    /// Moves as a queen or as a knight.
     Amazon,
-    /// Makes one or more equal leaps of a knight, over empty squares.
+    /// Makes one or more equal leaps of a knight over empty squares.
     Nightrider,
 }
 
-/// Where a man is. White's pawns go toward greater `y`.
+/// The place of a man: captured, or on a square. White's pawns move toward greater `y`.
 #[derive(Clone, Copy, PartialEq, Eq)]
 pub enum Place {
-    /// Captured.
+    /// The man is captured.
     Gone,
     At { x: i64, y: i64 },
 }
 
-/// One man of a position.
+/// One man of a position: his side, his kind and his place.
 #[derive(Clone, Copy, PartialEq, Eq)]
 pub struct Man {
     pub side: Side,
@@ -56,14 +56,14 @@ pub struct Man {
     pub place: Place,
 }
 
-/// A square of the board, which has no edge: its numbers may pass those of a [`Place`].
+/// A square of the unbounded board. Its coordinates may exceed those of a [`Place`].
 #[derive(Clone, Copy, PartialEq, Eq)]
 pub struct Square {
     pub x: i128,
     pub y: i128,
 }
 
-/// One way that a man goes: a step, and whether he may repeat it over empty squares.
+/// One direction in which a man goes: a step, and whether it may be repeated over empty squares (`far`).
 #[derive(Clone, Copy, PartialEq, Eq)]
 pub struct Ray {
     pub dx: i8,

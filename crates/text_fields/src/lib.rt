@@ -1,4 +1,4 @@
-//! Texts with blanks in them, and the numbers that texts spell.
+//! Splits a text at a blank, and reads decimal numbers.
 #![tactic(auto)]
 
 mod fields;

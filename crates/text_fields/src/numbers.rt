@@ -1,4 +1,4 @@
-//! The numbers that texts spell.
+//! Numbers in decimal spelling.
 
 ghost use Rattle.std.specs.Prelude.{◌≡◌, FitsSigned, IfSome, IfNone};
 ghost use Rattle.std.specs.Int.{w64};
@@ -8,7 +8,8 @@ ghost use Rattle.text_fields.specs.Numbers.{IsNumber};
 use itoa::Buffer;
 use std::str;
 
-/// The number that the text spells, in its one spelling.
+/// Parses a number of 64 bits in its only spelling: no plus, no leading zero, and no minus before zero. Returns `None`
+/// for any other text.
 pub fn read_number(text: &[u8]) -> Option<i64>
     ensures some { IfSome result (λ n. text.now ≡ signed_decimal n) }
     ensures fits { IfSome result (FitsSigned w64) }
