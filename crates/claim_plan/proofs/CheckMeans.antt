@@ -12,7 +12,8 @@ use Rattle.mate_plan.specs.Claim.{Claim, IsClaim, IsClaimed, IsLosersPly, losers
 use Rattle.mate_plan.specs.Turns.{plies_before_turn}
 use Rattle.claim_plan.specs.CheckPlan.{Finding, and_then, check_first, check_plan, check_ply, check_set, check_sets, for_each, rule_at}
 use Rattle.claim_plan.specs.Checked.{IsFirstFailing, RuleHolds, KeepsRule, reply_rules, rules_in_order, set_rules}
-use Rattle.mate_plan.specs.Won.{LeadsInto, Won}
+use Rattle.mate_plan.specs.Won.{Won}
+use Rattle.game_laws.specs.Sets.{LeadsInto}
 use Rattle.claim_plan.specs.declared.names.RuleAt.{RuleAt}
 use Rattle.claim_plan.specs.declared.names.Rule.{Rule}
 use Rattle.claim_plan.specs.declared.names.Rule.TheVariants as rule

@@ -17,7 +17,8 @@ use Rattle.winning_sets.proofs.KeptPlan.{fits_reached}
 use Rattle.mate_plan.specs.Claim.{Claim, IsClaim, IsClaimed, claimed_at}
 use Rattle.claim_plan.specs.WonLaws.{IsOfKept}
 use Rattle.winning_sets.specs.KeptByLoser.{KeptByLoser}
-use Rattle.mate_plan.specs.Won.{IsBegun, IsWonBy, LeadsInto, Won}
+use Rattle.mate_plan.specs.Won.{IsBegun, IsWonBy, Won}
+use Rattle.game_laws.specs.Sets.{LeadsInto}
 use Rattle.winning_sets.proofs.KeptGame.{kept_won}
 
 -- the same positions are won

@@ -7,7 +7,8 @@ use Rattle.game_rules.specs.Game.{HasMove, InCheck, IsApart, Moves, Position}
 use Rattle.rule_formula.specs.Fits.{masks_of}
 use Rattle.mask_sets.specs.Stock.{mask_of}
 use Rattle.mate_plan.specs.Claim.{Claim, IsClaimed, claimed_at, losers_plies}
-use Rattle.mate_plan.specs.Won.{IsBegun, LeadsInto}
+use Rattle.mate_plan.specs.Won.{IsBegun}
+use Rattle.game_laws.specs.Sets.{LeadsInto}
 use Rattle.claim_plan.specs.CheckPlan.{Finding, rule_at}
 use Rattle.claim_plan.specs.declared.names.Rule.{Rule}
 use Rattle.claim_plan.specs.declared.names.Rule.TheVariants as rule

@@ -16,10 +16,11 @@ use Rattle.game_laws.proofs.MoveLemmas.{stands_or_not}
 use Rattle.game_laws.proofs.RayLemmas.{step_one, true_or_not}
 use Rattle.game_laws.proofs.SoundLemmas.{any_at, at_same, stands_moved}
 use Rattle.game_laws.proofs.TableLemmas.{one_number, ray_is}
-use Rattle.mask_sets.specs.Stock.{HasStock, mask_of}
+use Rattle.mask_sets.specs.Stock.{mask_of}
+use Rattle.game_laws.specs.Stock.{HasStock}
 use Rattle.mask_sets.specs.Tuple.{tuple_of}
 use Rattle.mask_sets.proofs.Masks.{mask_tells}
-use Rattle.mask_sets.proofs.Men.{stock_has, stock_man-men}
+use Rattle.game_laws.proofs.StockLemmas.{own_stock, step_stock, stock_has, stock_man-men}
 use Rattle.mate_plan.specs.PlanOf.{last_ply}
 use Rattle.rule_formula.specs.Fits.{IsGameMask}
 use Rattle.rule_formula.specs.Placed.{is_live, place_at, placed}
@@ -36,7 +37,6 @@ use Rattle.winning_sets.specs.Kept.{Kept, moves_left}
 use Rattle.winning_sets.specs.Solve.{IsTupleOf}
 use Rattle.winning_sets.proofs.KeptParts.{moves_counted, value_lost}
 use Rattle.move_choice.specs.Aims.{IsMover}
-use Rattle.move_choice.proofs.Firsts.{own_stock, step_stock}
 use Rattle.winner_session.specs.Firsts.{Firsts}
 use Rattle.first_distances.specs.RayFormula.{masks_after}
 use Rattle.first_distances.proofs.LineLemmas.{tuple_gone}

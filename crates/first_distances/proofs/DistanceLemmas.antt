@@ -7,7 +7,7 @@ use Rattle.game_rules.specs.Game.{Position, Sound, man_at}
 use Rattle.game_rules.specs.declared.men.Ray.{Ray}
 use Rattle.game_rules.specs.declared.men.Side.{Side}
 use Rattle.mask_sets.specs.Stock.{mask_of}
-use Rattle.mask_sets.proofs.Men.{stock_has, stock_man-men}
+use Rattle.game_laws.proofs.StockLemmas.{stock_has, stock_man-men}
 use Rattle.track_word.specs.Tracks.{Values}
 use Rattle.lin_formula.specs.Holds.{Holds}
 use Rattle.lin_formula.specs.Tree.{Tree}

@@ -12,7 +12,7 @@ use Rattle.track_word.specs.Tracks.{Values}
 use Rattle.lin_formula.specs.Tree.{Tree, Or}
 use Rattle.lin_formula.specs.Holds.{Holds, Sets, with_value}
 use Rattle.mask_sets.specs.Tuple.{tuple_of}
-use Rattle.mask_sets.proofs.Men.{stock_man-men}
+use Rattle.game_laws.proofs.StockLemmas.{stock_man-men}
 use Rattle.rule_formula.specs.Placed.{is_live, placed, without}
 use Rattle.rule_formula.specs.Seats.{own, squares}
 use Rattle.rule_formula.specs.Trees.{and_all, man_square, own_tree}

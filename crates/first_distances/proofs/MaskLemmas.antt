@@ -7,8 +7,9 @@ use Rattle.game_rules.specs.Game.{Position, Sound, other}
 use Rattle.game_rules.specs.declared.men.Kind.TheVariants.{King}
 use Rattle.game_rules.specs.declared.men.Man.{Man}
 use Rattle.game_rules.specs.declared.men.Side.{Side}
-use Rattle.mask_sets.specs.Stock.{mask_of, stock_man}
-use Rattle.mask_sets.proofs.Men.{stock_man-men}
+use Rattle.mask_sets.specs.Stock.{mask_of}
+use Rattle.game_laws.specs.Stock.{stock_man}
+use Rattle.game_laws.proofs.StockLemmas.{stock_man-men}
 use Rattle.rule_formula.specs.Fits.{IsGameMask, mask_without}
 use Rattle.rule_formula.specs.Meaning.{IsPrey}
 use Rattle.rule_formula.specs.Options.{is_king, is_prey, is_prey_man, is_side}

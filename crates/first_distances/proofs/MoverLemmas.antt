@@ -4,8 +4,9 @@ use Rattle.game_rules.specs.Game.{Position, man_at}
 use Rattle.game_rules.specs.declared.men.Ray.{Ray}
 use Rattle.game_laws.proofs.LineLemmas.{direction_small_x, direction_small_y}
 use Rattle.game_laws.proofs.TableLemmas.{ray_is}
-use Rattle.mask_sets.specs.Stock.{mask_of, stock_man}
-use Rattle.mask_sets.proofs.Men.{stock_man-men}
+use Rattle.mask_sets.specs.Stock.{mask_of}
+use Rattle.game_laws.specs.Stock.{stock_man}
+use Rattle.game_laws.proofs.StockLemmas.{stock_man-men}
 use Rattle.rule_formula.specs.Trees.{man_ray, man_square, ray_at, ray_or_none}
 use Rattle.rule_formula.proofs.BearLemmas.{stock_number}
 use Rattle.move_choice.specs.Aims.{IsMover}

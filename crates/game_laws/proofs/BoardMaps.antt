@@ -27,7 +27,7 @@ moved_by e a = a +ℤ e
 abbrev unchanged : ℤ → ℤ
 unchanged d = d
 
-abbrev negated : ℤ → ℤ
+abbrev pub negated : ℤ → ℤ
 negated d = pos 0 -ℤ d
 
 moving : (e : ℤ) → IsAxisMap (moved_by e) unchanged
@@ -159,7 +159,7 @@ moved_forth e a = omega (arith, ints)
 negated_back : (a : ℤ) → negated (negated a) ≡ a
 negated_back a = omega (arith, ints)
 
-shift_undone : (dx dy : ℤ) → IsUndone (shift dx dy) (shift (negated dx) (negated dy))
+pub shift_undone : (dx dy : ℤ) → IsUndone (shift dx dy) (shift (negated dx) (negated dy))
 shift_undone dx dy =
     record {
       carrier = shift_carries dx dy;

@@ -1,5 +1,5 @@
 -- Kings: where each side has one, and that one of them is live.
-use Rattle.std.proofs.Common.{◌≡◌, ◌≢◌, ◌⊎◌, inl, inr, ℕ, Some, sym, ap, ◌∙◌, refl}
+use Rattle.std.proofs.Common.{◌≡◌, ◌≢◌, ◌⊎◌, inl, inr, Some, sym, ap, ◌∙◌, refl}
 use Rattle.std.specs.List.{Any}
 use Rattle.game_rules.specs.Game.{Position, HasBothKings, HasKings, HasOneKing, HasOneKingAtMost, man_at}
 use Rattle.game_rules.specs.declared.men.Kind.{Kind}

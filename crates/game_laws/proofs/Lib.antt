@@ -13,4 +13,5 @@ pub mod CrossLemmas
 pub mod AnswerLemmas
 pub mod SymmetryLemmas
 pub mod BoardMaps
+pub mod StockLemmas
 pub mod KingLemmas

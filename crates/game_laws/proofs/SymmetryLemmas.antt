@@ -4,7 +4,7 @@ use Rattle.std.specs.Prelude.{IsSomeAnd}
 use Rattle.std.specs.List.{All, Any, slice_get}
 use Rattle.std.proofs.lemmas.List.{length-map}
 use Rattle.std.proofs.lemmas.Option.{get_or_from_slice_get, same_Some, slice_get-get_or, slice_get_within}
-use Rattle.game_rules.specs.Game.{Position, Attacked, Bears, GoesAs, HasOneKingAtMost, InCheck, IsAfter, IsApart, IsBetween, IsEmptySquare, IsOccupiedBy, IsLeftBy, IsLiveAnd, IsOpen, Legal, LostInto, Mate, Sound, StandsOn, Step, Value, Win, forward, man_at, other, place_square}
+use Rattle.game_rules.specs.Game.{Position, Attacked, Bears, GoesAs, HasMove, HasOneKingAtMost, InCheck, IsAfter, IsApart, IsBetween, IsEmptySquare, IsOccupiedBy, IsLeftBy, IsLiveAnd, IsOpen, Legal, Lost, LostInto, Mate, Sound, StandsOn, Step, Value, Win, forward, man_at, other, place_square}
 use Rattle.game_rules.specs.declared.men.Kind.{Kind}
 use Rattle.game_rules.specs.declared.men.Kind.TheVariants.{King, Queen, Rook, Bishop, Knight, Pawn, Chancellor, Archbishop, Amazon, Nightrider}
 use Rattle.game_rules.specs.declared.men.Man.{Man}
@@ -83,11 +83,11 @@ module _ (f : BoardMap) where
   get_from (a ∷ ms) zero n is = (a, refl, same_Some (mapped_man f a) n is)
   get_from (a ∷ ms) (suc i) n is = get_from ms i n is
 
-  man_to : (p : Position) (i : ℕ) (m : Man) → man_at p i ≡ Some m → man_at (mapped f p) i ≡ Some (mapped_man f m)
+  pub man_to : (p : Position) (i : ℕ) (m : Man) → man_at p i ≡ Some m → man_at (mapped f p) i ≡ Some (mapped_man f m)
   man_to p zero m is = cc
   man_to p (suc i) m is = get_to p.men i m is
 
-  man_from : (p : Position) (i : ℕ) (n : Man) → man_at (mapped f p) i ≡ Some n → (m : Man) × (man_at p i ≡ Some m) × (mapped_man f m ≡ n)
+  pub man_from : (p : Position) (i : ℕ) (n : Man) → man_at (mapped f p) i ≡ Some n → (m : Man) × (man_at p i ≡ Some m) × (mapped_man f m ≡ n)
   man_from p zero n is = cc
   man_from p (suc i) n is = get_from p.men i n is
 
@@ -220,7 +220,7 @@ module _ (f g : BoardMap) (u : IsUndone f g) where
           turn = ap f.side after.turn ∙ u.carrier.opponent p.turn;
         }
 
-  step_to : {p : Position} {i : ℕ} {z : Square} {q : Position} → Step p i z q → Step (mapped f p) i (f.square z) (mapped f q)
+  pub step_to : {p : Position} {i : ℕ} {z : Square} {q : Position} → Step p i z q → Step (mapped f p) i (f.square z) (mapped f q)
   step_to {p} {i} {z} {q} step =
       record {
         man = mapped_man f step.man;
@@ -231,7 +231,7 @@ module _ (f g : BoardMap) (u : IsUndone f g) where
         after = after_to p i z q step.after;
       }
 
-  check_to : (p : Position) (s : Side) → InCheck p s → InCheck (mapped f p) (f.side s)
+  pub check_to : (p : Position) (s : Side) → InCheck p s → InCheck (mapped f p) (f.side s)
   check_to p s h =
       any_to f p (λ m. (m.side ≡ s) × (m.kind ≡ King) × IsLiveAnd m (Attacked p (other s)))
       (λ m. (m.side ≡ f.side s) × (m.kind ≡ King) × IsLiveAnd m (Attacked (mapped f p) (other (f.side s))))
@@ -244,7 +244,7 @@ module _ (f g : BoardMap) (u : IsUndone f g) where
 
 -- the same, and back
 module _ (f g : BoardMap) (u : IsUndone f g) where
-  check_from : (p : Position) (s : Side) → InCheck (mapped f p) (f.side s) → InCheck p s
+  pub check_from : (p : Position) (s : Side) → InCheck (mapped f p) (f.side s) → InCheck p s
   check_from p s h =
       subst (λ r. InCheck r s) (again f g u p)
       (subst (InCheck (mapped g (mapped f p))) (u.side s) (check_to g f (undone_back u) (mapped f p) (f.side s) h))
@@ -261,6 +261,15 @@ module _ (f g : BoardMap) (u : IsUndone f g) where
   legal_same p i z q l =
       subst (λ w. Legal p i w q) (u.square z)
       (subst (Legal p i (g.square (f.square z))) (again f g u q) (legal_from p l))
+
+  step_same : (p : Position) (i : ℕ) (z : Square) (q : Position) → Step (mapped f p) i (f.square z) (mapped f q) → Step p i z q
+  step_same p i z q step =
+      subst (λ w. Step p i w q) (u.square z)
+      (subst (Step p i (g.square (f.square z))) (again f g u q)
+      (subst (λ a. Step a i (g.square (f.square z)) (mapped g (mapped f q))) (again f g u p) (step_to g f (undone_back u) step)))
+
+  has_move_to : {p : Position} → HasMove p → HasMove (mapped f p)
+  has_move_to (i, z, q, l) = (i, f.square z, mapped f q, legal_to f g u l)
 
   mate_to : {p : Position} → Mate p → Mate (mapped f p)
   mate_to {p} mate =
@@ -327,21 +336,33 @@ module _ (f g : BoardMap) (u : IsUndone f g) where
     ),
   )
 
+  lost_to : (winner : Side) (n : ℕ) (q : Position) → Lost winner n q → Lost (f.side winner) n (mapped f q)
+  lost_to winner n q h = lost_into_to winner (Win winner n) (Win (f.side winner) n) (λ r. win_to winner n r) q h
+
   value_to : (winner : Side) (n : ℕ) (p : Position) → Value winner n p → Value (f.side winner) n (mapped f p)
   value_to winner n p (inl h) = inl (win_to winner n p h)
-  value_to winner n p (inr h) = inr (lost_into_to winner (Win winner n) (Win (f.side winner) n) (λ r. win_to winner n r) p h)
+  value_to winner n p (inr h) = inr (lost_to winner n p h)
 
--- what the map keeps, and the one that undoes it, is one with what was
+-- a value of the mapped position, for the side that the winner becomes, is one of the position
+from_mapped : {f g : BoardMap} (u : IsUndone f g) (V : Side → Position → Type 0)
+    → ((s : Side) (q : Position) → V s q → V (g.side s) (mapped g q))
+    → (winner : Side) (p : Position) → V (f.side winner) (mapped f p) → V winner p
+from_mapped {f} {g} u V back winner p h =
+    subst (λ s. V s p) (u.side winner)
+    (subst (V (g.side (f.side winner))) (again f g u p) (back (f.side winner) (mapped f p) h))
+
+-- a map that another undoes keeps the game, since each of the two keeps it in one direction
 pub keeps_game : {f g : BoardMap} → IsUndone f g → KeepsGame f
 keeps_game {f} {g} u =
+    let back : IsUndone g f = undone_back u in
     record {
+      step = λ p i z q. (step_to f g u {p = p} {i = i} {z = z} {q = q}, step_same f g u p i z q);
+      check = λ p s. (check_to f g u p s, check_from f g u p s);
       legal = λ p i z q. (legal_to f g u {p = p} {i = i} {z = z} {q = q}, legal_same f g u p i z q);
-      sound = λ p. (sound_to f g u p, λ h. subst Sound (again f g u p) (sound_to g f (undone_back u) (mapped f p) h));
-      mate = λ p. (mate_to f g u {p = p}, λ h. subst Mate (again f g u p) (mate_to g f (undone_back u) h));
-      value = λ winner n p. (
-        value_to f g u winner n p,
-        λ h.
-            subst (λ s. Value s n p) (u.side winner)
-            (subst (Value (g.side (f.side winner)) n) (again f g u p) (value_to g f (undone_back u) (f.side winner) n (mapped f p) h)),
-      );
+      sound = λ p. (sound_to f g u p, λ h. subst Sound (again f g u p) (sound_to g f back (mapped f p) h));
+      mate = λ p. (mate_to f g u {p = p}, λ h. subst Mate (again f g u p) (mate_to g f back h));
+      has_move = λ p. (has_move_to f g u {p = p}, λ h. subst HasMove (again f g u p) (has_move_to g f back h));
+      win = λ winner n p. (win_to f g u winner n p, from_mapped u (λ s. Win s n) (λ s. win_to g f back s n) winner p);
+      lost = λ winner n p. (lost_to f g u winner n p, from_mapped u (λ s. Lost s n) (λ s. lost_to g f back s n) winner p);
+      value = λ winner n p. (value_to f g u winner n p, from_mapped u (λ s. Value s n) (λ s. value_to g f back s n) winner p);
     }

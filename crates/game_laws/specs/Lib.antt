@@ -3,5 +3,7 @@ pub mod Reach
 pub mod OnRay
 pub mod Answer
 pub mod Symmetry
+pub mod Stock
+pub mod Sets
 pub mod Laws
 pub mod Soundness

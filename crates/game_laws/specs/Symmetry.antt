@@ -1,6 +1,6 @@
 -- Maps of the board that keep the game.
 use Rattle.std.specs.Prelude.{◌↔◌, ℕ, ℤ, pos, ◌+ℤ◌, ◌-ℤ◌, map}
-use Rattle.game_rules.specs.Game.{Position, Legal, Mate, Sound, Value, other}
+use Rattle.game_rules.specs.Game.{Position, HasMove, InCheck, Legal, Lost, Mate, Sound, Step, Value, Win, other}
 use Rattle.game_rules.specs.declared.men.Man.{Man}
 use Rattle.game_rules.specs.declared.men.Place.{Place}
 use Rattle.game_rules.specs.declared.men.Place.TheVariants.{Gone, At}
@@ -40,10 +40,16 @@ mapped_man f m = record { side = f.side m.side; kind = m.kind; place = mapped_pl
 abbrev pub mapped : BoardMap → Position → Position
 mapped f p = record { men = map (mapped_man f) p.men; turn = f.side p.turn }
 
--- legal moves, soundness, mate and values of a position and of its image correspond
+-- steps, checks, legal moves, soundness, mate, wins and losses of a position and of its image correspond
 pub record KeepsGame (f : BoardMap) : Type 0 where
+  pub step : (p : Position) (i : ℕ) (z : Square) (q : Position)
+      → Step p i z q ↔ Step (mapped f p) i (f.square z) (mapped f q)
+  pub check : (p : Position) (s : Side) → InCheck p s ↔ InCheck (mapped f p) (f.side s)
   pub legal : (p : Position) (i : ℕ) (z : Square) (q : Position)
       → Legal p i z q ↔ Legal (mapped f p) i (f.square z) (mapped f q)
   pub sound : (p : Position) → Sound p ↔ Sound (mapped f p)
   pub mate : (p : Position) → Mate p ↔ Mate (mapped f p)
+  pub has_move : (p : Position) → HasMove p ↔ HasMove (mapped f p)
+  pub win : (winner : Side) (n : ℕ) (p : Position) → Win winner n p ↔ Win (f.side winner) n (mapped f p)
+  pub lost : (winner : Side) (n : ℕ) (p : Position) → Lost winner n p ↔ Lost (f.side winner) n (mapped f p)
   pub value : (winner : Side) (n : ℕ) (p : Position) → Value winner n p ↔ Value (f.side winner) n (mapped f p)

@@ -11,7 +11,7 @@ use Rattle.game_rules.specs.declared.men.Side.{Side}
 use Rattle.game_rules.specs.declared.men.Square.{Square}
 use Rattle.game_rules.specs.Game.{Position}
 use Rattle.game_rules.specs.Rays.{leap, ray_of}
-use Rattle.mask_sets.specs.Stock.{stock_man}
+use Rattle.game_laws.specs.Stock.{stock_man}
 use Rattle.track_word.specs.Atom.{IsAtom, IsBound, term_vars}
 use Rattle.track_word.specs.declared.atoms.Rel.{Rel}
 use Rattle.track_word.specs.declared.atoms.Rel.TheVariants.{Le, Eq}

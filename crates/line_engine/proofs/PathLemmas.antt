@@ -9,7 +9,7 @@ use Rattle.game_rules.specs.declared.men.Man.{Man}
 use Rattle.game_rules.specs.declared.men.Side.{Side}
 use Rattle.game_rules.specs.Rays.{rays_of, serves_captures, serves_moves}
 use Rattle.chess_game.proofs.AnswerBounds.{rays_few as kind_rays_few}
-use Rattle.mask_sets.specs.Stock.{stock_man}
+use Rattle.game_laws.specs.Stock.{stock_man}
 use Rattle.rule_formula.specs.declared.opt.Opt.{Opt}
 use Rattle.rule_formula.specs.Meaning.{IsPrey}
 use Rattle.rule_formula.specs.Options.{captures_to, is_prey, is_side, man_options, option, options_of, options_to, ray_options, rays_to}

@@ -3,7 +3,7 @@ use Rattle.std.proofs.Common.{◌≡◌, ℕ, zero, suc, List, [], ◌∷◌, �
 use Rattle.game_rules.specs.declared.men.Man.{Man}
 use Rattle.game_rules.specs.declared.men.Place.TheVariants.{At}
 use Rattle.game_rules.specs.Game.{place_square}
-use Rattle.mask_sets.specs.Stock.{stock_man}
+use Rattle.game_laws.specs.Stock.{stock_man}
 use Rattle.track_word.specs.declared.tracks.Var.{Var}
 use Rattle.line_formula.specs.Atoms.{with_term}
 use Rattle.line_formula.specs.Small.{AreNear, IsNearSquare}

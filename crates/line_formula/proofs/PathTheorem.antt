@@ -22,7 +22,7 @@ use Rattle.rule_formula.specs.Fits.{Fits, IsGameMask, target_of}
 use Rattle.mask_sets.specs.Stock.{mask_of}
 use Rattle.rule_formula.specs.Meaning.{BearsAlong, BearsBy, IsBearing, IsOption, IsOptionOfSide, StepsBy, TakesOption}
 use Rattle.rule_formula.specs.Placed.{is_live, men_from, place_at, placed, without}
-use Rattle.mask_sets.specs.Stock.{stock_man}
+use Rattle.game_laws.specs.Stock.{stock_man}
 use Rattle.rule_formula.specs.Seats.{var}
 use Rattle.rule_formula.specs.Trees.{man_square, ray_at}
 use Rattle.rule_formula.proofs.AfterTheorem.{after_is, moved, moved_other, moved_same}
@@ -31,7 +31,7 @@ use Rattle.rule_formula.proofs.BearTheorem.{bears_of, sees_of}
 use Rattle.rule_formula.proofs.BearingTheorem.{bearings_are, checks_are}
 use Rattle.rule_formula.proofs.ChainLemmas.{AllHold}
 use Rattle.mask_sets.proofs.Masks.{mask_tells}
-use Rattle.mask_sets.proofs.Men.{stock_has, stock_man-men}
+use Rattle.game_laws.proofs.StockLemmas.{stock_has, stock_man-men}
 use Rattle.rule_formula.proofs.GameTheorem.{arrives, fits_mask, live_by_mask, prey_live, sound_fits}
 use Rattle.rule_formula.proofs.KindLemmas.{ray_is}
 use Rattle.rule_formula.proofs.LawTheorem.{no_king_taken, self_placed, square_self, squares_of}

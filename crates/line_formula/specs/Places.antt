@@ -3,7 +3,7 @@ use Rattle.std.specs.Prelude.{ℕ, ◌==◌, if◌then◌else◌, List, [], ◌�
 use Rattle.game_rules.specs.declared.men.Man.{Man}
 use Rattle.game_rules.specs.declared.men.Square.{Square}
 use Rattle.track_word.specs.Tracks.{Values}
-use Rattle.mask_sets.specs.Stock.{stock_man}
+use Rattle.game_laws.specs.Stock.{stock_man}
 use Rattle.rule_formula.specs.Trees.{man_square}
 use Rattle.line_formula.specs.declared.leg.Leg.{Leg}
 

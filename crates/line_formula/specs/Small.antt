@@ -5,7 +5,7 @@ use Rattle.game_rules.specs.declared.men.Man.{Man}
 use Rattle.game_rules.specs.declared.men.Ray.{Ray}
 use Rattle.game_rules.specs.declared.men.Square.{Square}
 use Rattle.game_rules.specs.Game.{StandsOn}
-use Rattle.mask_sets.specs.Stock.{stock_man}
+use Rattle.game_laws.specs.Stock.{stock_man}
 use Rattle.line_formula.specs.declared.gap.Gap.{Gap}
 use Rattle.line_formula.specs.declared.leg.Leg.{Leg}
 use Rattle.line_formula.specs.declared.leg.TheConstants.{MOST_LEGS}

@@ -1,7 +1,7 @@
 //! The men, by number.
 
 ghost use Rattle.std.specs.Prelude.{◌≡◌, ◌≤◌, ◌^◌, Some, length, unsigned_abs};
-ghost use Rattle.mask_sets.specs.Stock.{stock_man};
+ghost use Rattle.game_laws.specs.Stock.{stock_man};
 ghost use Rattle.rule_formula.specs.Placed.{is_live as live_in};
 ghost use Rattle.rule_formula.specs.Trees.{ray_at as ray_of_man};
 ghost use Rattle.line_formula.specs.Places.{home};

@@ -12,7 +12,7 @@ use Rattle.game_laws.specs.OnRay.{IsOnOneRay}
 use Rattle.game_laws.proofs.CheckLemmas.{some_and}
 use Rattle.game_laws.proofs.RayLemmas.{step_one}
 use Rattle.chess_game.proofs.AnswerBounds.{rays_few}
-use Rattle.mate_plan.specs.Won.{LeadsInto}
+use Rattle.game_laws.specs.Sets.{LeadsInto}
 use Rattle.move_choice.specs.Aims.{HasRay}
 use Rattle.move_choice.specs.Along.{LeadsAnywhere}
 use Rattle.move_choice.proofs.Firsts.{man_high}

@@ -12,7 +12,7 @@ use Rattle.game_laws.proofs.SoundLemmas.{side_or_other}
 use Rattle.chess_game.specs.declared.moves.Move.{Move}
 use Rattle.chess_game.specs.declared.way.Frame.{Frame}
 use Rattle.mask_sets.specs.Sets.{HaveAtMost, IsIn, Table}
-use Rattle.mate_plan.specs.Won.{LeadsInto}
+use Rattle.game_laws.specs.Sets.{LeadsInto}
 use Rattle.winning_sets.specs.Kept.{moves_left}
 use Rattle.winning_sets.specs.Reach.{Reach}
 use Rattle.winning_sets.specs.Solve.{IsSolution, Solution, end_of}

@@ -13,8 +13,9 @@ use Rattle.chess_game.specs.declared.way.Frame.{Frame}
 use Rattle.mask_sets.specs.Sets.{HaveAtMost, IsIn, Table, set_at, set_of}
 use Rattle.set_plan.proofs.Takings.{same_some}
 use Rattle.mate_plan.specs.Plan.{turn_at}
-use Rattle.mate_plan.specs.Won.{LeadsInto}
-use Rattle.mask_sets.specs.Stock.{HasStock, mask_of}
+use Rattle.game_laws.specs.Sets.{LeadsInto}
+use Rattle.mask_sets.specs.Stock.{mask_of}
+use Rattle.game_laws.specs.Stock.{HasStock}
 use Rattle.rule_formula.specs.Fits.{masks_of}
 use Rattle.mask_sets.specs.Tuple.{tuple_of}
 use Rattle.rule_formula.proofs.StockLemmas.{stock_unique}
@@ -27,7 +28,7 @@ use Rattle.winning_sets.proofs.Tuples.{tuple_count}
 use Rattle.move_choice.specs.Aims.{AreNext}
 use Rattle.move_choice.specs.Choice.{Leads, Pick, target}
 use Rattle.move_choice.specs.declared.choice.Choice.{Choice}
-use Rattle.move_choice.proofs.Firsts.{step_stock, stock_trans}
+use Rattle.game_laws.proofs.StockLemmas.{step_stock, stock_trans}
 use Rattle.loser_session.specs.Unwon.{AreUnwonPlies, AreUnwonSets, HaveRoom, IsUnwon, IsUnwonSet, sets_into, table_into}
 use Rattle.loser_session.specs.Leading.{LeadsNowhere}
 use Rattle.loser_session.proofs.SetsInto.{are_unwon}

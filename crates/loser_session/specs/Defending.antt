@@ -6,7 +6,7 @@ use Rattle.game_rules.specs.declared.men.Side.{Side}
 use Rattle.chess_game.specs.declared.moves.Move.{Move}
 use Rattle.chess_game.specs.declared.way.Frame.{Frame}
 use Rattle.mate_plan.specs.PlanOf.{last_ply}
-use Rattle.mate_plan.specs.Won.{LeadsInto}
+use Rattle.game_laws.specs.Sets.{LeadsInto}
 use Rattle.winning_sets.specs.Kept.{moves_left}
 use Rattle.winning_sets.specs.Reach.{Reach}
 use Rattle.winning_sets.specs.Solve.{IsSolution}

@@ -2,7 +2,7 @@
 ghost use Rattle.std.specs.Prelude.{◌≡◌, ◌≤◌, ℕ, length, true, false};
 ghost use Rattle.game_rules.specs.Game.{Sound};
 ghost use Rattle.mask_sets.specs.Sets.{HaveAtMost, IsIn};
-ghost use Rattle.mate_plan.specs.Won.{LeadsInto};
+ghost use Rattle.game_laws.specs.Sets.{LeadsInto};
 ghost use Rattle.move_choice.specs.Aims.{AreNext};
 ghost use Rattle.loser_session.specs.Leading.{LeadsNowhere, LeadsThere};
 

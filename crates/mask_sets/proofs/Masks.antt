@@ -9,7 +9,7 @@ use Rattle.game_rules.specs.declared.men.Place.{Place}
 use Rattle.game_rules.specs.declared.men.Place.TheVariants.{Gone, At}
 use Rattle.game_rules.specs.Game.{IsMaskOf, Position, place_square, square_of}
 use Rattle.mask_sets.specs.Stock.{live_bit, mask_of, mask_of_men}
-use Rattle.mask_sets.proofs.Men.{stock_has}
+use Rattle.game_laws.proofs.StockLemmas.{stock_has}
 
 place_bit_small : (x : Place) → live_bit (place_square x) < 2
 place_bit_small Gone = omega arith

@@ -1,19 +1,8 @@
--- Men by side and kind, wherever they are, and the mask of those that are live.
-use Rattle.std.specs.Prelude.{◌≡◌, ℕ, zero, suc, ◌+◌, ◌*◌, List, [], ◌∷◌, length, Option, Some, None, slice_get}
+-- The mask of the live men.
+use Rattle.std.specs.Prelude.{ℕ, ◌+◌, ◌*◌, List, [], ◌∷◌, Option, Some, None}
 use Rattle.game_rules.specs.declared.men.Man.{Man}
 use Rattle.game_rules.specs.declared.men.Square.{Square}
-use Rattle.game_rules.specs.Game.{Position, man_at, square_of}
-
--- the man of this number in a stock
-abbrev pub stock_man : List Man → ℕ → Option Man
-stock_man stock zero = None
-stock_man stock (suc i) = slice_get stock i
-
--- the men of the position have the sides and the kinds of the stock, wherever they are
-pub record HasStock (stock : List Man) (q : Position) : Type 0 where
-  pub count : length q.men ≡ length stock
-  pub men : (k : ℕ) (m n : Man) → stock_man stock k ≡ Some m → man_at q k ≡ Some n
-      → (n.side ≡ m.side) × (n.kind ≡ m.kind)
+use Rattle.game_rules.specs.Game.{Position, square_of}
 
 abbrev pub live_bit : Option Square → ℕ
 live_bit None = 0

@@ -14,7 +14,8 @@ use Rattle.lin_formula.specs.declared.formula.SetId.{SetId}
 use Rattle.rule_formula.specs.declared.opt.Opt.{Opt}
 use Rattle.rule_formula.specs.Bearings.{along_rays, bearing, bearings_of, bearings_to, king_number, man_bearings}
 use Rattle.rule_formula.specs.Fits.{is_game_mask, masks_of, masks_to, target_of}
-use Rattle.mask_sets.specs.Stock.{mask_of, stock_man}
+use Rattle.mask_sets.specs.Stock.{mask_of}
+use Rattle.game_laws.specs.Stock.{stock_man}
 use Rattle.rule_formula.specs.Options.{is_side, options_of}
 use Rattle.rule_formula.specs.Placed.{is_live}
 use Rattle.rule_formula.specs.Trees.{bear_of, image_of}

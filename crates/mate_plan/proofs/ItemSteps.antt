@@ -12,7 +12,7 @@ use Rattle.lin_formula.specs.Tree as tree
 use Rattle.rule_formula.specs.declared.opt.Opt.{Opt}
 use Rattle.rule_formula.specs.Meaning.{IsBearer, IsOptionOf}
 use Rattle.rule_formula.specs.Placed.{is_live, without}
-use Rattle.mask_sets.specs.Stock.{stock_man}
+use Rattle.game_laws.specs.Stock.{stock_man}
 use Rattle.rule_formula.specs.Seats.{elsewhere, new_seat, new_seats, own, vars_to}
 use Rattle.rule_formula.specs.Trees.{Suits, ahead, and_all, atoms_as, bear_of, clear, clear_as, difference, ex_swept, image_body, image_of, is_other, line_atoms, man_square, on, point_of, point_to, pre_body, pre_of, pre_tree, ray_at, ray_atoms, safe_of, with_square}
 use Rattle.rule_formula.specs.Ways.{before, onto}

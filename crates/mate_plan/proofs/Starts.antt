@@ -10,7 +10,7 @@ use Rattle.lin_formula.specs.Tree.{Tree}
 use Rattle.lin_formula.specs.SetOf.{SetOf, Nothing, as_set, tables}
 use Rattle.lin_formula.specs.declared.formula.SetId.{SetId}
 use Rattle.rule_formula.specs.Placed.{is_live}
-use Rattle.mask_sets.specs.Stock.{stock_man}
+use Rattle.game_laws.specs.Stock.{stock_man}
 use Rattle.rule_formula.specs.Seats.{own}
 use Rattle.rule_formula.specs.Trees.{man_square, point_of, point_to, tracks_of, with_square}
 use Rattle.set_plan.specs.Same.{SameItem}

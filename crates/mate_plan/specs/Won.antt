@@ -4,11 +4,8 @@ use Rattle.auto_core.specs.Automaton.{Automaton}
 use Rattle.auto_core.specs.Integers.{DecidesIntegers}
 use Rattle.game_rules.specs.Game.{HasMove, InCheck, IsApart, Moves, Position, other}
 use Rattle.game_rules.specs.declared.men.Side.{Side}
+use Rattle.game_laws.specs.Sets.{LeadsInto}
 use Rattle.mate_plan.specs.Claim.{Claim, IsClaimed, claimed_at}
-
--- some legal move leads from here into the set
-abbrev pub LeadsInto : (Position → Type 0) → Position → Type 0
-LeadsInto S r = (s : Position) × Moves r s × S s
 
 -- the winner is to move and some legal move leads into the set of ply 1, or the loser is to move in a position of that
 -- of ply 0

@@ -24,9 +24,11 @@ use Rattle.game_laws.proofs.SoundLemmas.{at_same, fate, fate_kind, fate_side}
 use Rattle.chess_game.specs.Way.{IsFreeFrom, IsHit, IsHitFrom, IsInside}
 use Rattle.chess_game.specs.declared.moves.Move.{Move}
 use Rattle.chess_game.specs.declared.way.Frame.{Frame}
-use Rattle.mask_sets.specs.Stock.{HasStock, mask_of}
+use Rattle.mask_sets.specs.Stock.{mask_of}
+use Rattle.game_laws.specs.Stock.{HasStock}
 use Rattle.mask_sets.specs.Tuple.{tuple_of}
-use Rattle.mask_sets.proofs.Men.{all_men, stock_man-men}
+use Rattle.mask_sets.proofs.Men.{all_men}
+use Rattle.game_laws.proofs.StockLemmas.{stock_man-men}
 use Rattle.move_choice.specs.Choice.{AreHisSteps, FirstOf, LeadsTo, IsAlongRay, IsBefore, IsCapture, IsQuiet, Leads, target}
 use Rattle.move_choice.specs.Aims.{AreNext, IsAlong, IsFreeBetween, IsHitAlong, IsLeast, IsLeastFound, IsMet, IsMover, tuple_along}
 use Rattle.mask_sets.specs.Places.{coordinates_before}
@@ -211,34 +213,6 @@ module _ {p : Position} {table : Table} (next : AreNext p table) (f : Frame) {i 
     leads = h.leads;
     first = λ d q has into before. elim (which has into) [ inl quiet ↦ none d q quiet into | inr taking ↦ h.first d q taking into before ];
   }
-
--- a position has the stock of its own men, and so has one after a step
-pub own_stock : (p : Position) → HasStock p.men p
-own_stock p = record {
-  count = refl;
-  men = λ k m n is_m is_n. let same : m ≡ n = same_Some m n (sym is_m ∙ (stock_man-men p k ∙ is_n)) in (ap (λ a. a.side) (sym same), ap (λ a. a.kind) (sym same));
-}
-
-pub step_stock : {stock : List Man} {p q : Position} {i : ℕ} {z : Square} → HasStock stock p → IsAfter p i z q → HasStock stock q
-step_stock {p} {q} has after = record {
-  count = after.same_count ∙ has.count;
-  men = λ k m n is_m is_n.
-      let w = at_same q p k n (sym after.same_count) is_n in
-      let same = has.men k m w.0 is_m w.1 in
-      let fated = fate after k w.0 n w.1 is_n in
-      (sym (fate_side fated) ∙ same.0, sym (fate_kind fated) ∙ same.1);
-}
-
--- the stock of a position of the stock is the stock
-pub stock_trans : {stock : List Man} {p q : Position} → HasStock stock p → HasStock p.men q → HasStock stock q
-stock_trans {p} {q} one two = record {
-  count = two.count ∙ one.count;
-  men = λ k m n is_m is_n.
-      let w = at_same q p k n (sym two.count) is_n in
-      let a = one.men k m w.0 is_m w.1 in
-      let b = two.men k w.0 n (stock_man-men p k ∙ w.1) is_n in
-      (b.0 ∙ a.0, b.1 ∙ a.1);
-}
 
 -- the way of a man along a ray
 pub along_is : {p : Position} {i n : ℕ} {r : Ray} (fixed : Bor (List ℤ)) (place : ℕ) → IsMover p i n r → fixed.now ≡ tuple_of p

@@ -16,7 +16,7 @@ use Rattle.game_rules.specs.declared.men.Side.{Side}
 use Rattle.game_rules.specs.declared.men.Square.{Square}
 use Rattle.mask_sets.specs.Places.{coordinates_before}
 use Rattle.mask_sets.specs.Sets.{IsAskable, IsIn, Table}
-use Rattle.mask_sets.specs.Stock.{HasStock}
+use Rattle.game_laws.specs.Stock.{HasStock}
 use Rattle.mask_sets.specs.Tuple.{tuple_of}
 
 -- any position of the men of p can be asked for, and the sets hold no position to which a step from p leads that leaves

@@ -9,7 +9,7 @@ use Rattle.game_rules.specs.Game.{IsLeftBy, Position, StandsOn, man_at, other, I
 use Rattle.game_rules.specs.declared.men.Ray.{Ray}
 use Rattle.game_laws.proofs.RayLemmas.{true_or_not}
 use Rattle.rule_formula.specs.Placed.{is_live, men_from, place_at, placed, without}
-use Rattle.mask_sets.specs.Stock.{stock_man}
+use Rattle.game_laws.specs.Stock.{stock_man}
 use Rattle.rule_formula.specs.Meaning.{IsOption, StepsBy, Takes}
 use Rattle.rule_formula.proofs.BearLemmas.{man_placed}
 use Rattle.rule_formula.proofs.MoveLemmas.{kept_live, never_live, nobody_there, option_untaken, place_gone, place_is, same_man, same_number, some_number, taken_gone}

@@ -14,7 +14,7 @@ use Rattle.game_rules.specs.Rays.{serves_captures}
 use Rattle.game_laws.proofs.RayLemmas.{near_open, true_or_not}
 use Rattle.rule_formula.proofs.RayLemmas.{LiesOn, IsSteps, IsFair, IsWithin, along_moves, far, is_along, near, slide_steps_same}
 use Rattle.rule_formula.specs.Placed.{place_at, placed}
-use Rattle.mask_sets.specs.Stock.{stock_man}
+use Rattle.game_laws.specs.Stock.{stock_man}
 use Rattle.rule_formula.proofs.KindLemmas.{IsRayOf, between_is, reach_along}
 use Rattle.rule_formula.proofs.PlacedLemmas.{from_placed, placed_man}
 use Rattle.mask_sets.proofs.Men.{all_men}

@@ -17,12 +17,13 @@ use Rattle.game_laws.proofs.CheckLemmas.{any_is}
 use Rattle.rule_formula.specs.declared.opt.Bearing.{Bearing}
 use Rattle.rule_formula.specs.Bearings.{IsBearingOf, along_rays, bearing, bearings_of, bearings_to, is_king_man, king_number, king_to, man_bearings}
 use Rattle.rule_formula.specs.Fits.{Fits, IsGameMask}
-use Rattle.mask_sets.specs.Stock.{mask_of, stock_man}
+use Rattle.mask_sets.specs.Stock.{mask_of}
+use Rattle.game_laws.specs.Stock.{stock_man}
 use Rattle.rule_formula.specs.Meaning.{BearsBy}
 use Rattle.rule_formula.specs.Options.{is_king, is_side}
 use Rattle.rule_formula.specs.Placed.{is_live}
 use Rattle.rule_formula.proofs.BearLemmas.{IsNumber, stock_number}
-use Rattle.mask_sets.proofs.Men.{stock_has, stock_man-men}
+use Rattle.game_laws.proofs.StockLemmas.{stock_has, stock_man-men}
 use Rattle.rule_formula.proofs.ChainLemmas.{last_or_before}
 use Rattle.rule_formula.proofs.FitLemmas.{AreAlike, alike_back, alike_of}
 use Rattle.rule_formula.proofs.GameTheorem.{live_in_mask}

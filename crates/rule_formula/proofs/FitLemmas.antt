@@ -9,7 +9,7 @@ use Rattle.game_rules.specs.Game.{Position}
 use Rattle.track_word.specs.declared.tracks.Var.{Var}
 use Rattle.track_word.specs.Tracks.{Values, values_at}
 use Rattle.lin_formula.specs.Free.{IsOneOf}
-use Rattle.mask_sets.specs.Stock.{HasStock}
+use Rattle.game_laws.specs.Stock.{HasStock}
 use Rattle.rule_formula.specs.Placed.{men_from, place_at, placed}
 use Rattle.mask_sets.specs.Tuple.{tuple_of, tuple_to}
 use Rattle.rule_formula.specs.Seats.{own, squares}

@@ -21,7 +21,7 @@ use Rattle.rule_formula.specs.Seats.{at, own, squares, vars_to}
 use Rattle.rule_formula.specs.Trees.{Suits, and_all, clear, clear_as, is_other, on, ray_atoms}
 use Rattle.rule_formula.proofs.ChainLemmas.{Each, and_all_holds, clear_holds}
 use Rattle.rule_formula.proofs.BearLemmas.{man_placed, stock_number}
-use Rattle.mask_sets.proofs.Men.{stock_has}
+use Rattle.game_laws.proofs.StockLemmas.{stock_has}
 use Rattle.rule_formula.proofs.MoveLemmas.{EachOther}
 use Rattle.rule_formula.proofs.PlacedLemmas.{length_placed, placed_man}
 use Rattle.lin_formula.specs.Tree as tree

@@ -11,12 +11,13 @@ use Rattle.game_laws.proofs.RayLemmas.{true_or_not}
 use Rattle.rule_formula.proofs.StockLemmas.{fits_placed}
 use Rattle.rule_formula.specs.declared.opt.Opt.{Opt}
 use Rattle.rule_formula.specs.Fits.{Fits, IsGameMask, target_of}
-use Rattle.mask_sets.specs.Stock.{HasStock, mask_of, stock_man}
+use Rattle.mask_sets.specs.Stock.{mask_of}
+use Rattle.game_laws.specs.Stock.{HasStock, stock_man}
 use Rattle.rule_formula.specs.Meaning.{IsOptionOf, IsOptionOfSide, IsPrey, StepsBy, TakesOption}
 use Rattle.rule_formula.specs.Placed.{is_live, place_at, placed, without}
 use Rattle.rule_formula.proofs.AfterTheorem.{after_is, moved, moved_other, moved_same}
 use Rattle.rule_formula.proofs.BearLemmas.{man_placed, stands_at, stock_number}
-use Rattle.mask_sets.proofs.Men.{stock_has, stock_man-men}
+use Rattle.game_laws.proofs.StockLemmas.{stock_has, stock_man-men}
 use Rattle.mask_sets.proofs.Masks.{mask_one, mask_small, mask_tells}
 use Rattle.rule_formula.proofs.LawTheorem.{live_at, squares_of}
 use Rattle.rule_formula.proofs.MaskLemmas.{live_bit_is, without_is, without_less}

@@ -13,7 +13,7 @@ use Rattle.game_laws.proofs.SoundLemmas.{any_at, other_other}
 use Rattle.rule_formula.specs.declared.opt.Opt.{Opt}
 use Rattle.rule_formula.specs.Laws.{SomeOptionLeads, StepsTo}
 use Rattle.rule_formula.specs.Placed.{is_live, men_from, place_at, placed}
-use Rattle.mask_sets.specs.Stock.{stock_man}
+use Rattle.game_laws.specs.Stock.{stock_man}
 use Rattle.rule_formula.specs.Trees.{man_square}
 use Rattle.rule_formula.specs.Meaning.{IsOptionOf, TakesOption}
 use Rattle.rule_formula.proofs.BearLemmas.{man_placed}

@@ -16,7 +16,7 @@ use Rattle.rule_formula.specs.declared.opt.Opt.{Opt}
 use Rattle.game_rules.specs.declared.men.Ray.{Ray}
 use Rattle.game_rules.specs.Rays.{rays_of, serves_captures, serves_moves}
 use Rattle.rule_formula.specs.Placed.{is_live}
-use Rattle.mask_sets.specs.Stock.{stock_man}
+use Rattle.game_laws.specs.Stock.{stock_man}
 use Rattle.rule_formula.specs.Options.{captures_to, is_king, is_prey, is_prey_man, is_side, man_options, option, options_of, options_to, ray_options, rays_to}
 use Rattle.rule_formula.specs.Meaning.{IsOption, IsOptionOfSide, IsPrey, Serves}
 use Rattle.rule_formula.proofs.BearLemmas.{stock_number}

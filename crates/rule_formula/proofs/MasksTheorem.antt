@@ -13,11 +13,12 @@ use Rattle.game_rules.specs.declared.men.Man.{Man}
 use Rattle.game_rules.specs.declared.men.Place.TheVariants.{Gone}
 use Rattle.game_rules.specs.Game.{Position, man_at}
 use Rattle.rule_formula.specs.Fits.{IsGameMask, has_kings, is_king_at, is_part, masks_of, masks_to}
-use Rattle.mask_sets.specs.Stock.{mask_of, stock_man}
+use Rattle.mask_sets.specs.Stock.{mask_of}
+use Rattle.game_laws.specs.Stock.{stock_man}
 use Rattle.rule_formula.specs.Options.{is_king}
 use Rattle.rule_formula.specs.Placed.{is_live}
 use Rattle.rule_formula.proofs.BearLemmas.{stock_number}
-use Rattle.mask_sets.proofs.Men.{stock_has, stock_man-men}
+use Rattle.game_laws.proofs.StockLemmas.{stock_has, stock_man-men}
 use Rattle.rule_formula.proofs.ChainLemmas.{last_or_before}
 use Rattle.mask_sets.proofs.Masks.{mask_tells}
 use Rattle.rule_formula.proofs.MaskLemmas.{live_bit_is}

@@ -13,7 +13,8 @@ use Rattle.lin_formula.specs.SetOf.{Member, SetOf, Where, members}
 use Rattle.rule_formula.specs.declared.opt.Bearing.{Bearing}
 use Rattle.rule_formula.specs.declared.opt.Opt.{Opt}
 use Rattle.rule_formula.specs.Fits.{Fits, target_of}
-use Rattle.mask_sets.specs.Stock.{mask_of, stock_man}
+use Rattle.mask_sets.specs.Stock.{mask_of}
+use Rattle.game_laws.specs.Stock.{stock_man}
 use Rattle.rule_formula.specs.Laws.{StepsTo}
 use Rattle.rule_formula.specs.Mean.{BearingsMean, BearsOnKing, GameMeans, HoldsFitting, IsBefore, IsGame, IsImageOf, OptionsMean, PointMeans, RulesMean, mask_tracks}
 use Rattle.rule_formula.specs.Meaning.{IsBearer, IsOptionOf, IsOptionOfSide, IsPrey, IsReached, TakesOption, Serves}
@@ -23,7 +24,7 @@ use Rattle.mask_sets.specs.Tuple.{tuple_of}
 use Rattle.rule_formula.specs.Seats.{squares}
 use Rattle.rule_formula.specs.Trees.{bear_of, image_of, point_of, pre_of, safe_of, tracks_of}
 use Rattle.rule_formula.proofs.BearLemmas.{stock_number}
-use Rattle.mask_sets.proofs.Men.{stock_has, stock_man-men}
+use Rattle.game_laws.proofs.StockLemmas.{stock_has, stock_man-men}
 use Rattle.rule_formula.proofs.BearingTheorem.{alike_man, alike_ray, bearings_are, checks_are}
 use Rattle.rule_formula.proofs.FitLemmas.{AreAlike, alike_back, alike_of, placed_values, tuple_placed, values_of, squares_values}
 use Rattle.mask_sets.proofs.Masks.{mask_tells}

@@ -11,7 +11,7 @@ use Rattle.game_rules.specs.declared.men.Ray.{Ray}
 use Rattle.rule_formula.specs.declared.opt.Opt.{Opt}
 use Rattle.game_rules.specs.Rays.{ray_of}
 use Rattle.rule_formula.specs.Placed.{HoldsApart, IsMember, is_live, placed, without}
-use Rattle.mask_sets.specs.Stock.{stock_man}
+use Rattle.game_laws.specs.Stock.{stock_man}
 use Rattle.rule_formula.specs.Seats.{squares}
 use Rattle.rule_formula.specs.Trees.{bear_of, bear_tree, image_of, image_tree, man_ray, pre_of, pre_tree, ray_at, ray_or_none, safe_of, safe_tree}
 use Rattle.rule_formula.specs.Meaning.{BearsAlong, BearHolds, IsBearer, IsBearing, ImageHolds, IsOption, IsOptionOf, PreHolds, IsReached, SafeHolds, Reaches, StepsBy, TakesOption}

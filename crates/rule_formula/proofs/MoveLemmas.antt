@@ -18,7 +18,7 @@ use Rattle.game_laws.proofs.RayLemmas.{true_or_not}
 use Rattle.game_laws.proofs.CheckLemmas.{any_is}
 use Rattle.rule_formula.proofs.RayLemmas.{LiesOn, is_along, lies_on, IsSteps, IsWithin, along_moves, one_step, steps_same}
 use Rattle.rule_formula.specs.Placed.{is_live, place_at, placed, without}
-use Rattle.mask_sets.specs.Stock.{stock_man}
+use Rattle.game_laws.specs.Stock.{stock_man}
 use Rattle.rule_formula.specs.Meaning.{IsOption, IsPrey, StepsBy, Takes}
 use Rattle.rule_formula.proofs.BearLemmas.{IsClearTo, bears_along, each_placed, man_placed, not_at_end, not_at_start, stands_at}
 use Rattle.rule_formula.proofs.KindLemmas.{IsRayOf, ray_is}

@@ -10,12 +10,12 @@ use Rattle.lin_formula.specs.Holds.{Holds, Sets}
 use Rattle.track_word.specs.Tracks.{Values}
 use Rattle.game_rules.specs.declared.men.Ray.{Ray}
 use Rattle.rule_formula.specs.Placed.{HoldsApart, IsMember, is_live, placed, without}
-use Rattle.mask_sets.specs.Stock.{stock_man}
+use Rattle.game_laws.specs.Stock.{stock_man}
 use Rattle.rule_formula.specs.Seats.{at, elsewhere, new_seat, new_seats, old_seats, own, spare, squares, vars_to}
 use Rattle.rule_formula.specs.Trees.{ex_swept, image_body, image_tree, pre_body, pre_tree}
 use Rattle.rule_formula.specs.Meaning.{IsOption, StepsBy}
 use Rattle.rule_formula.proofs.BearLemmas.{IsNumber, stock_number}
-use Rattle.mask_sets.proofs.Men.{stock_has}
+use Rattle.game_laws.proofs.StockLemmas.{stock_has}
 use Rattle.rule_formula.proofs.FormulaLemmas.{GoesClear, among_holds, move_chain_holds}
 use Rattle.rule_formula.proofs.KindLemmas.{IsRayOf, ray_is}
 use Rattle.rule_formula.proofs.MoveLemmas.{EachOther, IsMove, move_of, option_untaken, same_number, steps_by, was_live}

@@ -20,10 +20,11 @@ use Rattle.game_laws.proofs.SoundLemmas.{any_at, side_or_other}
 use Rattle.game_laws.proofs.CheckLemmas.{any_is}
 use Rattle.rule_formula.proofs.RayLemmas.{LiesOn, is_along}
 use Rattle.rule_formula.specs.Placed.{is_live, placed}
-use Rattle.mask_sets.specs.Stock.{stock_man}
+use Rattle.game_laws.specs.Stock.{stock_man}
 use Rattle.rule_formula.specs.Meaning.{IsOptionOf, IsPrey, Serves, TakesOption, Takes}
 use Rattle.rule_formula.proofs.BearLemmas.{bears_from, each_placed, man_placed, stands_at, stock_number}
-use Rattle.mask_sets.proofs.Men.{stock_has, all_men}
+use Rattle.mask_sets.proofs.Men.{all_men}
+use Rattle.game_laws.proofs.StockLemmas.{stock_has}
 use Rattle.rule_formula.proofs.ChainLemmas.{Each, each_more}
 use Rattle.rule_formula.proofs.PlacedLemmas.{from_placed, placed_man, stands_placed}
 use Rattle.rule_formula.proofs.ReachLemmas.{IsRayTo, ray_to}

@@ -10,7 +10,8 @@ use Rattle.lin_formula.specs.Tree.{Tree, free_vars}
 use Rattle.lin_formula.specs.SetOf.{Member, members}
 use Rattle.rule_formula.specs.declared.opt.ManPair.{ManPair}
 use Rattle.rule_formula.specs.Fits.{IsGameMask}
-use Rattle.mask_sets.specs.Stock.{HasStock, mask_of}
+use Rattle.mask_sets.specs.Stock.{mask_of}
+use Rattle.game_laws.specs.Stock.{HasStock}
 use Rattle.rule_formula.specs.Mean.{PairsMean}
 use Rattle.rule_formula.specs.Meaning.{AreTwins}
 use Rattle.rule_formula.specs.Pairs.{IsPairOf, is_later, later_to, man_pairs, pair, pairs_of, pairs_to}

@@ -5,9 +5,9 @@ use Rattle.game_rules.specs.declared.men.Side.{Side}
 use Rattle.game_rules.specs.declared.men.Man.{Man}
 use Rattle.game_rules.specs.declared.men.Square.{Square}
 use Rattle.game_rules.specs.Game.{man_at, place_square}
-use Rattle.mask_sets.proofs.Men.{stock_man-men}
+use Rattle.game_laws.proofs.StockLemmas.{stock_man-men}
 use Rattle.rule_formula.specs.Placed.{men_from, place_at, placed}
-use Rattle.mask_sets.specs.Stock.{stock_man}
+use Rattle.game_laws.specs.Stock.{stock_man}
 
 get_from : (n i k : ℕ) (ms : List Man) (live : ℕ → Bool) (f : ℕ → Square) (m : Man) → k ≡ n + i → slice_get ms i ≡ Some m
     → slice_get (men_from n ms live f) i ≡ Some (record m { place = place_at (live k) (f k) })

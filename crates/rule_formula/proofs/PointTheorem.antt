@@ -11,13 +11,13 @@ use Rattle.lin_formula.specs.Tree.{Tree}
 use Rattle.lin_formula.specs.Holds.{Holds, Sets}
 use Rattle.track_word.specs.Tracks.{Values}
 use Rattle.rule_formula.specs.declared.seats.Seat.{Seat}
-use Rattle.mask_sets.specs.Stock.{stock_man}
+use Rattle.game_laws.specs.Stock.{stock_man}
 use Rattle.rule_formula.specs.Seats.{at, own, squares}
 use Rattle.rule_formula.specs.Trees.{and_maybe, man_square, point_of, point_to, with_square}
 use Rattle.rule_formula.specs.Meaning.{HasLiveMan, PointHolds}
 use Rattle.rule_formula.proofs.BearLemmas.{stock_number}
 use Rattle.rule_formula.proofs.ChainLemmas.{Each, each_more}
-use Rattle.mask_sets.proofs.Men.{stock_man-men}
+use Rattle.game_laws.proofs.StockLemmas.{stock_man-men}
 use Rattle.lin_formula.specs.Tree as tree
 
 abbrev pub MaybeHolds : Option Tree → Sets → Values → Type 0

@@ -19,7 +19,7 @@ use Rattle.rule_formula.specs.declared.atoms.Extent.TheVariants.{Onto, Before}
 use Rattle.rule_formula.specs.declared.seats.Seat.{Seat}
 use Rattle.rule_formula.specs.Paths.{IsJourney, IsRayStep}
 use Rattle.rule_formula.specs.Placed.{IsLiveIn, is_live, without}
-use Rattle.mask_sets.specs.Stock.{stock_man}
+use Rattle.game_laws.specs.Stock.{stock_man}
 use Rattle.rule_formula.specs.Seats.{IsSeat, elsewhere, new_seat, new_seats, old_seats, own, seats_with, spare, swept, vars_to}
 use Rattle.rule_formula.specs.Trees.{AreApart, IsCounted, IsDrawn, Suits, ahead, and_all, bear_of, bear_tree, clear, clear_as, difference, ex_swept, image_body, image_of, image_tree, is_other, line, line_atoms, man_square, on, on_as, ordered, past, point_of, point_to, pre_body, pre_of, pre_tree, ray_at, ray_atoms, safe_of, tracks_of, twins_tree, unless_same, atoms_as, with_square}
 use Rattle.rule_formula.specs.Meaning.{IsBearer, IsOptionOf}

@@ -14,12 +14,12 @@ use Rattle.lin_formula.specs.Tree.{Tree}
 use Rattle.lin_formula.specs.Tree as tree
 use Rattle.lin_formula.specs.Holds.{Holds, Sets}
 use Rattle.rule_formula.specs.Placed.{IsLiveIn, is_live}
-use Rattle.mask_sets.specs.Stock.{stock_man}
+use Rattle.game_laws.specs.Stock.{stock_man}
 use Rattle.rule_formula.specs.Seats.{own, squares, vars_to}
 use Rattle.rule_formula.specs.Trees.{difference, twins_tree}
 use Rattle.rule_formula.specs.Meaning.{TwinsHolds}
 use Rattle.rule_formula.proofs.BearLemmas.{man_placed, stands_at}
-use Rattle.mask_sets.proofs.Men.{stock_has}
+use Rattle.game_laws.proofs.StockLemmas.{stock_has}
 use Rattle.rule_formula.proofs.FormulaLemmas.{among_holds}
 use Rattle.rule_formula.proofs.MoveLemmas.{same_man}
 use Rattle.rule_formula.proofs.PlacedLemmas.{placed_man, stands_placed}

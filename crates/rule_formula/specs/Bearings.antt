@@ -10,7 +10,7 @@ use Rattle.rule_formula.specs.declared.opt.Bearing.{Bearing}
 use Rattle.rule_formula.specs.Meaning.{IsBearer}
 use Rattle.rule_formula.specs.Options.{is_king, is_side}
 use Rattle.rule_formula.specs.Placed.{is_live}
-use Rattle.mask_sets.specs.Stock.{stock_man}
+use Rattle.game_laws.specs.Stock.{stock_man}
 
 abbrev pub is_king_man : Side → Option Man → Bool
 is_king_man s None = false

@@ -9,7 +9,8 @@ use Rattle.game_rules.specs.Game.{HasKings, IsApart, Position, man_at}
 use Rattle.rule_formula.specs.declared.opt.Opt.{Opt}
 use Rattle.rule_formula.specs.Options.{is_king}
 use Rattle.rule_formula.specs.Placed.{is_live}
-use Rattle.mask_sets.specs.Stock.{HasStock, mask_of, stock_man}
+use Rattle.mask_sets.specs.Stock.{mask_of}
+use Rattle.game_laws.specs.Stock.{HasStock, stock_man}
 
 -- q may come up in a game from p with this side to move: the same men, of whom none is back who was gone,
 -- live men on distinct squares, and one king a side at most, who is live, and some king

@@ -10,7 +10,8 @@ use Rattle.rule_formula.specs.declared.opt.Opt.{Opt}
 use Rattle.rule_formula.specs.declared.opt.ManPair.{ManPair}
 use Rattle.rule_formula.specs.Bearings.{IsBearingOf, bearings_of}
 use Rattle.rule_formula.specs.Fits.{Fits, IsGameMask, masks_of, target_of}
-use Rattle.mask_sets.specs.Stock.{HasStock, mask_of}
+use Rattle.mask_sets.specs.Stock.{mask_of}
+use Rattle.game_laws.specs.Stock.{HasStock}
 use Rattle.rule_formula.specs.Laws.{StepsTo}
 use Rattle.rule_formula.specs.Meaning.{AreTwins, BearsBy, IsOptionOf, TakesOption}
 use Rattle.rule_formula.specs.Options.{options_of}

@@ -11,7 +11,7 @@ use Rattle.game_rules.specs.Game.{Position, Bears, IsEmptySquare, StandsOn, Step
 use Rattle.game_rules.specs.declared.men.Ray.{Ray}
 use Rattle.game_rules.specs.Rays.{IsAlong, ray_of, serves_captures, serves_moves}
 use Rattle.rule_formula.specs.Placed.{HoldsApart, IsMember, is_live, placed, without}
-use Rattle.mask_sets.specs.Stock.{stock_man}
+use Rattle.game_laws.specs.Stock.{stock_man}
 use Rattle.rule_formula.specs.Seats.{squares}
 use Rattle.rule_formula.specs.declared.opt.Opt.{Opt}
 use Rattle.lin_formula.specs.Tree.{Tree}

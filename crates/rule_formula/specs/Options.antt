@@ -8,7 +8,7 @@ use Rattle.game_rules.specs.declared.men.Man.{Man}
 use Rattle.rule_formula.specs.declared.opt.Opt.{Opt}
 use Rattle.game_rules.specs.Rays.{rays_of, serves_captures, serves_moves}
 use Rattle.rule_formula.specs.Placed.{is_live}
-use Rattle.mask_sets.specs.Stock.{stock_man}
+use Rattle.game_laws.specs.Stock.{stock_man}
 
 abbrev pub is_side : Side → Side → Bool
 is_side White White = true

@@ -6,7 +6,7 @@ ghost use Rattle.game_rules.specs.Rays.{ray_of};
 ghost use Rattle.lin_formula.specs.TreeOf.{tree_of};
 ghost use Rattle.rule_formula.specs.Paths.{HasJourney, IsRayStep};
 ghost use Rattle.rule_formula.specs.Placed.{IsLiveIn, is_live as live_in};
-ghost use Rattle.mask_sets.specs.Stock.{stock_man};
+ghost use Rattle.game_laws.specs.Stock.{stock_man};
 ghost use Rattle.rule_formula.specs.Trees.{bear_of, image_of, pre_of, ray_at, safe_of, tracks_of, twins_tree};
 ghost use Rattle.rule_formula.specs.Meaning.{IsBear, IsBearer, IsImage, IsOptionOf, IsPre, IsSafe, IsTwins};
 ghost use Rattle.rule_formula.specs.Seats.{own as own_seat, vars_to};

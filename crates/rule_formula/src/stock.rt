@@ -2,7 +2,7 @@
 
 ghost use Rattle.std.specs.Prelude.{◌≡◌, ◌≤◌, Some, length};
 ghost use Rattle.rule_formula.specs.Placed.{is_live as live_in};
-ghost use Rattle.mask_sets.specs.Stock.{stock_man};
+ghost use Rattle.game_laws.specs.Stock.{stock_man};
 
 use chess_game::Position;
 use game_rules::{Man, Side};

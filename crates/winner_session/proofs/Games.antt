@@ -12,7 +12,8 @@ use Rattle.game_laws.proofs.SoundLemmas.{other_differs, other_other}
 use Rattle.chess_game.specs.declared.moves.Move.{Move}
 use Rattle.chess_game.specs.declared.way.Frame.{Frame}
 use Rattle.rule_formula.specs.Fits.{masks_of}
-use Rattle.mask_sets.specs.Stock.{HasStock, mask_of}
+use Rattle.mask_sets.specs.Stock.{mask_of}
+use Rattle.game_laws.specs.Stock.{HasStock}
 use Rattle.mask_sets.specs.Tuple.{tuple_of}
 use Rattle.mask_sets.specs.Sets.{HaveAtMost, IsIn, Table, set_at}
 use Rattle.mate_plan.specs.Plan.{turn_at}
@@ -31,7 +32,7 @@ use Rattle.winning_sets.proofs.ValidLemmas.{valid_formed, valid_moves, valid_sou
 use Rattle.move_choice.specs.Aims.{AreNext}
 use Rattle.move_choice.specs.Choice.{Pick, target}
 use Rattle.move_choice.specs.declared.choice.Choice.{Choice}
-use Rattle.move_choice.proofs.Firsts.{own_stock, step_stock, stock_trans}
+use Rattle.game_laws.proofs.StockLemmas.{own_stock, step_stock, stock_trans}
 use Rattle.winner_session.specs.Game.{Game, Continues, HasRoom, IsGame, IsLostAfter, IsPicked, LostIn, Plays, Stands, WinPick, WinnerContinues, made, made_in, moved_to, start_of}
 use Rattle.winner_session.proofs.Held.{HasHeld, Losing, has_held, held_won, losing_lost}
 

@@ -6,7 +6,8 @@ use Rattle.auto_core.specs.Automaton.{Automaton}
 use Rattle.auto_core.specs.Integers.{IsAccepted}
 use Rattle.game_rules.specs.declared.men.Side.{Side}
 use Rattle.game_rules.specs.Game.{Position, Lost, Value, other}
-use Rattle.mask_sets.specs.Stock.{HasStock, mask_of}
+use Rattle.mask_sets.specs.Stock.{mask_of}
+use Rattle.game_laws.specs.Stock.{HasStock}
 use Rattle.mask_sets.specs.Tuple.{tuple_of}
 use Rattle.mate_plan.specs.Claim.{IsClaimed, IsLosersPly}
 use Rattle.mate_plan.specs.Plan.{turn_at}

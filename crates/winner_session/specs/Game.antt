@@ -7,7 +7,7 @@ use Rattle.chess_game.specs.declared.moves.Move.{Move}
 use Rattle.chess_game.specs.declared.way.Frame.{Frame}
 use Rattle.mate_plan.specs.Plan.{turn_at}
 use Rattle.mate_plan.specs.Turns.{plies_before_turn}
-use Rattle.mate_plan.specs.Won.{LeadsInto}
+use Rattle.game_laws.specs.Sets.{LeadsInto}
 use Rattle.winning_sets.specs.Claimed.{IsHeld, IsValid}
 use Rattle.winning_sets.specs.Reach.{Reach}
 use Rattle.winning_sets.specs.Solve.{Solution, end_of, kept_at}

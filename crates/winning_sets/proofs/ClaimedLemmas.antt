@@ -7,12 +7,13 @@ use Rattle.game_rules.specs.Game.{HasKings, InCheck, IsApart, Position, Sound, V
 use Rattle.game_rules.specs.declared.men.Side.{Side}
 use Rattle.game_laws.proofs.SoundLemmas.{other_other}
 use Rattle.rule_formula.specs.Fits.{Fits, IsGameMask}
-use Rattle.mask_sets.specs.Stock.{HasStock, mask_of}
+use Rattle.mask_sets.specs.Stock.{mask_of}
+use Rattle.game_laws.specs.Stock.{HasStock}
 use Rattle.rule_formula.specs.Placed.{is_live, placed}
 use Rattle.mask_sets.specs.Tuple.{tuple_of}
 use Rattle.rule_formula.proofs.GameTheorem.{placed_fits}
 use Rattle.rule_formula.proofs.LawTheorem.{squares_of}
-use Rattle.mask_sets.proofs.Men.{stock_man-men}
+use Rattle.game_laws.proofs.StockLemmas.{stock_man-men}
 use Rattle.rule_formula.proofs.StockLemmas.{stock_placed}
 use Rattle.mate_plan.specs.Claim.{Claim, IsClaim, IsClaimed, IsLosersPly, claimed_at}
 use Rattle.mate_plan.specs.Won.{Won}

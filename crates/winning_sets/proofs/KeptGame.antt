@@ -5,7 +5,8 @@ use Rattle.game_rules.specs.declared.men.Side.{Side}
 use Rattle.game_laws.proofs.SoundLemmas.{other_other}
 use Rattle.game_laws.proofs.ValueLemmas.{lost_flat}
 use Rattle.mate_plan.specs.PlanOf.{last_ply}
-use Rattle.mate_plan.specs.Won.{IsBegun, IsWonBy, LeadsInto}
+use Rattle.mate_plan.specs.Won.{IsBegun, IsWonBy}
+use Rattle.game_laws.specs.Sets.{LeadsInto}
 use Rattle.winning_sets.specs.KeptByLoser.{KeptAreOfGame, KeptByLoser, KeptIsWon}
 use Rattle.winning_sets.specs.OfGame.{AreOfGame}
 use Rattle.winning_sets.specs.Reach.{Reach}

@@ -8,7 +8,8 @@ use Rattle.game_rules.specs.Game.{Position, man_at, other}
 use Rattle.game_rules.specs.declared.men.Man.{Man}
 use Rattle.game_rules.specs.declared.men.Side.{Side}
 use Rattle.game_laws.proofs.SoundLemmas.{other_other}
-use Rattle.mask_sets.specs.Stock.{HasStock, mask_of, stock_man}
+use Rattle.mask_sets.specs.Stock.{mask_of}
+use Rattle.game_laws.specs.Stock.{HasStock, stock_man}
 use Rattle.rule_formula.specs.Placed.{is_live, placed}
 use Rattle.mask_sets.specs.Tuple.{tuple_of}
 use Rattle.rule_formula.specs.Seats.{squares}
@@ -17,7 +18,7 @@ use Rattle.rule_formula.proofs.FitLemmas.{placed_values, tuple_placed, values_of
 use Rattle.rule_formula.proofs.LawTheorem.{squares_of}
 use Rattle.mate_plan.specs.Plan.{turn_at}
 use Rattle.rule_formula.proofs.StockLemmas.{stock_placed}
-use Rattle.mask_sets.proofs.Men.{stock_man-men}
+use Rattle.game_laws.proofs.StockLemmas.{stock_man-men}
 use Rattle.set_plan.proofs.Takings.{same_some}
 
 -- they are as many as its live men have variables

@@ -8,7 +8,8 @@ use Rattle.game_rules.specs.Game.{Position, Sound}
 use Rattle.game_rules.specs.declared.men.Man.{Man}
 use Rattle.game_rules.specs.declared.men.Side.{Side}
 use Rattle.rule_formula.specs.Fits.{IsGameMask, masks_of}
-use Rattle.mask_sets.specs.Stock.{HasStock, mask_of}
+use Rattle.mask_sets.specs.Stock.{mask_of}
+use Rattle.game_laws.specs.Stock.{HasStock}
 use Rattle.rule_formula.specs.Placed.{is_live}
 use Rattle.mask_sets.specs.Tuple.{tuple_of}
 use Rattle.rule_formula.specs.Trees.{tracks_of}

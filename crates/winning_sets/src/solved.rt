@@ -2,7 +2,7 @@
 ghost use Rattle.std.specs.Prelude.{◌≡◌, ◌↔◌, ◌+◌, ◌≤◌, ℕ, [], slice_index_or, IfSome, IsTrue, length, option_copied};
 ghost use Rattle.game_rules.specs.Game.{Value};
 ghost use Rattle.rule_formula.specs.Fits.{masks_of};
-ghost use Rattle.mask_sets.specs.Stock.{HasStock};
+ghost use Rattle.game_laws.specs.Stock.{HasStock};
 ghost use Rattle.winning_sets.specs.Claimed.{IsValid, IsWonClaim, solution_of};
 ghost use Rattle.winning_sets.specs.Solve.{HasCoordinates, IsKeptIn, IsMostStates, IsSolution, end_of, kept_at, planned, reach_at, states_of};
 

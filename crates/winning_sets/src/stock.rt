@@ -1,6 +1,6 @@
 //! Positions of one game.
 ghost use Rattle.std.specs.Prelude.{◌≡◌, ◌↔◌, IsTrue};
-ghost use Rattle.mask_sets.specs.Stock.{HasStock};
+ghost use Rattle.game_laws.specs.Stock.{HasStock};
 
 use chess_game::{Man, Position};
 

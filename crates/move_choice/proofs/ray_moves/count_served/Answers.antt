@@ -5,7 +5,7 @@ use Rattle.mask_sets.specs.Stock.{mask_of}
 use Rattle.mask_sets.proofs.Masks.{mask_one}
 use Rattle.mask_sets.specs.Sets.{IsSetFor, set_at}
 use Rattle.move_choice.proofs.Counted.{none_unset, quiet_counted, quiet_counted_all}
-use Rattle.move_choice.proofs.Firsts.{own_stock}
+use Rattle.game_laws.proofs.StockLemmas.{own_stock}
 use Rattle.move_choice.proofs.ray_moves.count_served.Goals.{In-Some}
 use Rattle.move_choice.proofs.ray_moves.count_served.Goals as goal
 

@@ -4,7 +4,8 @@ use Rattle.game_rules.specs.Rays.{serves_moves}
 use Rattle.mask_sets.specs.Stock.{mask_of}
 use Rattle.mask_sets.proofs.Masks.{mask_one}
 use Rattle.mask_sets.specs.Sets.{set_at}
-use Rattle.move_choice.proofs.Firsts.{own_stock, quiet_first_hit, quiet_none_hit, quiet_none_there}
+use Rattle.move_choice.proofs.Firsts.{quiet_first_hit, quiet_none_hit, quiet_none_there}
+use Rattle.game_laws.proofs.StockLemmas.{own_stock}
 use Rattle.move_choice.proofs.ray_pick.quiet.Goals.{In-Some}
 use Rattle.move_choice.proofs.ray_pick.quiet.Goals as goal
 

@@ -1,5 +1,6 @@
 use Rattle.std.proofs.Common.{◌≡◌, true}
-use Rattle.move_choice.proofs.Firsts.{capture_none_in, capture_none_legal, capture_some_in, own_stock, step_stock}
+use Rattle.move_choice.proofs.Firsts.{capture_none_in, capture_none_legal, capture_some_in}
+use Rattle.game_laws.proofs.StockLemmas.{own_stock, step_stock}
 use Rattle.move_choice.proofs.ray_pick.take.Goals as goal
 
 pub returns-in_default : goal.returns-in_default
