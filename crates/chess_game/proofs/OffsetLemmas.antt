@@ -1,8 +1,7 @@
 -- Lemmas on offsets and on equal steps.
-use Rattle.std.proofs.Common.{◌≡◌, ℕ, ◌<◌, ◌*◌, ℤ, pos, negsuc, ◌+ℤ◌, ◌*ℤ◌, unsigned_abs, ◌-ℤ◌, neg_ℤ, ap, subst, sym, ◌∙◌, arith}
+use Rattle.std.proofs.Common.{◌≡◌, ℕ, ◌<◌, ◌*◌, ℤ, pos, ◌+ℤ◌, ◌*ℤ◌, unsigned_abs, ◌-ℤ◌, ap, subst, sym, ◌∙◌, arith}
 use Rattle.std.specs.Prelude.{◌<ℤ◌}
 use Rattle.std.proofs.lemmas.Int.{ints}
-use Rattle.std.proofs.Math.IntN.{pos-*ℤ-pos, pos-*ℤ-negsuc}
 use Rattle.game_rules.specs.Game.{IsBetween, IsDirection, after_steps}
 use Rattle.game_rules.specs.declared.men.Square.{Square}
 use Rattle.game_laws.proofs.LineLemmas.{direction_turned, far_steps, square_is, step_direction, step_steps}
@@ -53,15 +52,6 @@ part_unit ox oy ex ey ux uy s t is_x is_y is_s is_t h =
     subst (λ n. IsTimes ux uy ex ey n) same_t (subst (λ d. IsTimes ux d ex ey h.part) same_y (subst (λ d. IsTimes d h.dy ex ey h.part) same_x h.to_part)) in
     let fewer : h.part < h.whole = h.fewer in
     (omega arith, whole, part)
-
--- a multiple of a positive number, and of a negative one
-pub times_up : (t : ℕ) (d : ℤ) → pos 0 <ℤ d → pos t *ℤ d ≡ pos (t * unsigned_abs d)
-times_up t (pos n) above = pos-*ℤ-pos t n
-times_up t (negsuc n) above = absurd (omega (arith, ints, above))
-
-pub times_down : (t : ℕ) (d : ℤ) → d <ℤ pos 0 → pos t *ℤ d ≡ neg_ℤ (pos (t * unsigned_abs d))
-times_down t (pos n) below = absurd (omega (arith, ints, below))
-times_down t (negsuc n) below = pos-*ℤ-negsuc t n
 
 pub z_from : (o z a : ℤ) (t : ℕ) (d : ℤ) → o ≡ z -ℤ a → o ≡ pos t *ℤ d → z ≡ a +ℤ (pos t *ℤ d)
 z_from o z a t d is times = rw (← times) (omega (arith, ints))

@@ -1,11 +1,10 @@
 -- Which positions are sound, and the first reason why one is not.
-use Rattle.std.proofs.Common.{◌≡◌, ◌⊎◌, inl, inr, ℕ, zero, suc, ◌<◌, ◌≤◌, length, Option, Some, None, sym, ap, subst, ◌∙◌, arith, refl}
+use Rattle.std.proofs.Common.{◌≡◌, ◌⊎◌, inl, inr, ℕ, zero, suc, ◌<◌, ◌≤◌, length, Option, Some, None, subst, ◌∙◌, arith, refl}
 use Rattle.std.proofs.lemmas.Option.{slice_get_cases}
-use Rattle.std.specs.Prelude.{IsNone, IsSomeAnd}
-use Rattle.game_rules.specs.Game.{Position, HasBothKings, HasOneKing, Sound, SoundWithKings, StandsOn, man_at, place_square}
+use Rattle.std.specs.Prelude.{IsSomeAnd}
+use Rattle.game_rules.specs.Game.{Position, HasBothKings, HasOneKing, Sound, SoundWithKings, StandsOn, man_at}
 use Rattle.game_rules.specs.declared.men.Man.{Man}
-use Rattle.game_rules.specs.declared.men.Place.{Place}
-use Rattle.game_rules.specs.declared.men.Place.TheVariants.{At, Gone}
+use Rattle.game_rules.specs.declared.men.Place.TheVariants.{Gone}
 use Rattle.game_rules.specs.declared.men.Side.{Side}
 use Rattle.game_rules.specs.declared.men.Side.TheVariants.{White, Black}
 use Rattle.game_rules.specs.declared.men.Square.{Square}
@@ -29,13 +28,6 @@ man_of_some (Some m) P h = (m, refl, h)
 
 pub number_cases : (i j : ℕ) → (i < j) ⊎ ((i ≡ j) ⊎ (j < i))
 number_cases i j = grind arith
-
-pub gone_none : (q : Place) → q ≡ Gone → IsNone (place_square q)
-gone_none q is = rw is refl
-
-pub none_gone : (q : Place) → IsNone (place_square q) → q ≡ Gone
-none_gone Gone h = refl
-none_gone (At x y) h = cc
 
 -- the first king is the only one, and live
 pub one_king : (p : Position) (s : Side) (i : ℕ) → IsKingAt p s i → ((k : ℕ) → k < i → IsKingAt p s k → ⊥)

@@ -46,14 +46,3 @@ IsTidy-written men turn low high =
       full = simp (length-append, length-drop, length-replicate) (omega arith);
       rest = drop-append_seam men (drop (length men) (replicate 8 nobody)) ∙ drop-replicate (length men) 8 nobody;
     }
-
--- other men written over the front
-pub IsTidy-changed : (a : Inside) (men : List Man) (turn : Side) → IsTidy a → length men ≡ a.count
-    → IsTidy (record { men = men ++ drop a.count a.men; count = a.count; turn = turn })
-IsTidy-changed a men turn h same =
-    record {
-      low = h.low;
-      high = h.high;
-      full = simp (length-append, length-drop) (omega (arith, h.full, h.high, same));
-      rest = (rw (← same) (drop-append_seam men (drop (length men) a.men))) ∙ h.rest;
-    }

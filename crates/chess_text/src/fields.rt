@@ -40,7 +40,7 @@ fn split_fields(text: &[u8]) -> Option<(&[u8], &[u8])>
 }
 
 /// Parses two numbers of 64 bits with one blank between them.
-pub fn read_pair(text: &[u8]) -> Result<(i64, i64), PairWhy>
+pub(crate) fn read_pair(text: &[u8]) -> Result<(i64, i64), PairWhy>
     ensures pair { IfOk result (λ p. text.now ≡ pair_text p.0 p.1) }
     ensures fits { IfOk result (λ p. FitsSigned w64 p.0 × FitsSigned w64 p.1) }
     ensures refused { IfErr result (IsPairRefusal text.now) }

@@ -19,7 +19,7 @@ pub enum ScannedLine {
 }
 
 /// Returns what the bytes begin with. The first `scanned` bytes have no LF.
-pub fn find_line(bytes: &[u8], scanned: usize) -> ScannedLine
+pub(crate) fn find_line(bytes: &[u8], scanned: usize) -> ScannedLine
     requires within { scanned ≤ length bytes.now }
     requires short { scanned ≤ MOST_LINE_BYTES }
     requires free { HasNoLf (take scanned bytes.now) }

@@ -3,7 +3,7 @@ use Rattle.std.specs.Prelude.{◌≡◌, ℕ, ◌+◌, ◌++◌, Bool, true, fal
 use Rattle.std.specs.Fmt.{decimal}
 use Rattle.desk_base.specs.Lines.{Lines, full, ended, cut, long, lines_of}
 use Rattle.chess_text.specs.Draft.{Draft}
-use Rattle.chess_text.specs.Grammar.{crowds, positions}
+use Rattle.chess_text.specs.Grammar.{positions}
 use Rattle.chess_text.specs.PositionText.{Feeds, Turnout, drafted}
 use Rattle.chess_text.specs.PositionText as turnouts
 use Rattle.chess_text.specs.declared.man_line.TextWhy.TheVariants as grammar
@@ -63,10 +63,6 @@ IsTextOf r lines text = ReadsLines r Header 1 lines text
 -- the text at the front of an input
 abbrev pub TextAt : List ℕ → Text Problem → Type 0
 TextAt bytes text = IsTextOf problems (lines_of bytes) text
-
--- the crowd text in these lines, from the first line on
-abbrev pub IsCrowdText : Lines → Text WholeText → Type 0
-IsCrowdText lines text = IsTextOf (texts_of crowds) lines text
 
 -- the line is refused because the input ended
 abbrev pub is_end : LineWhy → Bool

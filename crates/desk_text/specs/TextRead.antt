@@ -1,13 +1,11 @@
 -- The bytes read of a text.
 use Rattle.std.specs.Prelude.{◌≡◌, ℕ, ◌+◌, List, ◌++◌, length, Option, IfSome, Result, Ok, Err, IsTrue}
 use Rattle.std.specs.Io.KnownBytes.{Consumes}
-use Rattle.chess_text.specs.Grammar.{crowds}
 use Rattle.chess_text.specs.PositionText.{text_of_lines}
 use Rattle.desk_base.specs.Lines.{lines_of}
 use Rattle.desk_text.specs.Taken.{TakesLines}
-use Rattle.desk_text.specs.Text.{IsTextOf, Reading, is_end, problems, refused, texts_of, whole}
+use Rattle.desk_text.specs.Text.{IsTextOf, Reading, is_end, problems, refused, whole}
 use Rattle.desk_text.specs.declared.problem.Problem.{Problem}
-use Rattle.desk_text.specs.declared.problem.WholeText.{WholeText}
 use Rattle.desk_text.specs.declared.text.LineWhy.{LineWhy}
 use Rattle.desk_text.specs.declared.text.LineWhy.TheVariants.{Missing}
 use Rattle.desk_text.specs.declared.text.TextEnd.{TextEnd}
@@ -51,7 +49,3 @@ IsMissing before = IsMissingOf problems before
 
 abbrev pub TextRead : Result Problem TextEnd → (pending : List ℕ) → (before after : Option (List ℕ)) → Type 0
 TextRead answer pending before after = TextReadOf problems answer pending before after
-
--- the same for crowd texts
-abbrev pub CrowdRead : Result WholeText TextEnd → (pending : List ℕ) → (before after : Option (List ℕ)) → Type 0
-CrowdRead answer pending before after = TextReadOf (texts_of crowds) answer pending before after
