@@ -1,4 +1,4 @@
--- What stands after the options of a path.
+-- The men after the options of a path.
 use Rattle.std.specs.Prelude.{◌≡◌, ◌≤◌, List, length}
 use Rattle.game_rules.specs.Game.{Position}
 use Rattle.line_formula.specs.declared.leg.Leg.{Leg}
@@ -16,14 +16,14 @@ use Rattle.line_engine.specs.declared.crowd.Crowd.{Crowd}
 abbrev pub position_of : Crowd → Position
 position_of c = record { men = c.men.now; turn = c.turn }
 
--- the legs of the path, the men who are live after it, and the side that is to move
+-- the legs of the path, the men who are live after it, and the side to move
 pub record IsAfterPath (p : Position) (path : List Opt) (legs : List Leg) (force : Force) : Type 0 where
   pub few : length path ≤ MOST_LEGS
   pub legs_are : legs ≡ legs_at p path
   pub mask : force.mask ≡ mask_at p path
   pub side : force.side ≡ turn_at p path
 
--- of each of the rays along which the other side may bear on the king of the side that has moved last, that nobody does
+-- for each ray along which the other side may bear on the king of the side that moved last: no man does
 abbrev pub safe_after : Position → List Opt → List Tree
 safe_after p path =
     safe_parts (home p.men) (legs_at p path) p.men (is_live (mask_at p path)) (dangers_at p path)

@@ -1,4 +1,4 @@
-//! Positions of two to 32 men.
+//! Crowds: positions of two to 32 men.
 
 ghost use Rattle.std.specs.Prelude.{◌≡◌, ◌↔◌, ◌≤◌, IfSome, IsSome, IsTrue, length};
 ghost use Rattle.line_formula.specs.Small.{AreNear, IsNearSquare};
@@ -7,8 +7,8 @@ ghost use Rattle.line_engine.specs.Crowds.{IsCrowd, IsNearPlace};
 use chess_game::MOST_CROWD;
 use game_rules::{Man, Place, Side};
 
-/// Two to 32 men, numbered from 1, the side to move, and the side that is to mate. No coordinate of a live man is farther than
-/// 2^60 from 0, so that sums over a path's moves are within an `i64`.
+/// A crowd: two to 32 men, numbered from 1, the side to move and the winner. Coordinates of live men are from -2^60 to
+/// 2^60, so that sums over the moves of a path fit into an `i64`.
 #[derive(Clone, Copy)]
 pub struct Crowd<'a> {
     pub men: &'a [Man],
@@ -29,7 +29,8 @@ fn is_near(place: Place) -> bool
 }
 
 impl<'a> Crowd<'a> {
-    /// The crowd of these men, if there are two to 32 and none of the live ones stands too far out.
+    /// Creates the crowd of these men. Returns `None` unless there are two to 32 and every live one is within 2^60 of
+    /// 0.
     pub fn new(men: &'a [Man], turn: Side, winner: Side) -> Option<Crowd<'a>>
         ensures holds { IsSome result ↔ IsCrowd men.now }
         ensures men { IfSome result (λ c. c.men.now ≡ men.now) }

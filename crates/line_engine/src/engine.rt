@@ -1,4 +1,4 @@
-//! The plan of a crowd, path by path.
+//! Executes the plan of a crowd, path by path.
 
 ghost use Rattle.std.specs.Prelude.{◌≡◌, ◌↔◌, ◌<◌, ◌≤◌, ◌+◌, ◌^◌, ◌∷◌, [], suc, true, Contains, IfErr, IfOk, IsTrue, Some, length};
 ghost use Rattle.auto_core.specs.Automaton.{Automaton};
@@ -28,7 +28,7 @@ use line_formula::{Force, MOST_LEGS, options};
 use rule_formula::Opt;
 use std::alloc::{AllocError, Global};
 
-/// Within how many moves of the winner a mate in a crowd is asked for at most.
+/// The greatest number of moves of the winner for a crowd.
 pub const MOST_CROWD_MOVES: u8 = 2;
 
 /// A path after which a side is to move, with what is reached there, and how many moves of both sides are left after that one.
@@ -39,7 +39,7 @@ struct Ply<'a> {
     left: u8,
 }
 
-/// Where the moves of the path are legal and the winner mates within what is left, of so many moves of both sides.
+/// Returns the distances at which the moves of the path are legal and the winner mates with the moves left, of both sides.
 #[cycle(kept)]
 fn kept(
     work: &mut EngineState,
@@ -330,7 +330,7 @@ fn no_distance(alloc: Global) -> Result<Auto, AllocError>
     Ok(one)
 }
 
-/// How many moves of both sides there are until the winner has made so many.
+/// Returns the number of moves of both sides until the winner has made `moves` moves.
 fn plies(crowd: &Crowd, moves: u8) -> u8
     requires { moves ≤ MOST_CROWD_MOVES }
     ensures { result ≡ plan.plies crowd.now.turn crowd.now.winner moves }
@@ -342,7 +342,10 @@ fn plies(crowd: &Crowd, moves: u8) -> u8
     }
 }
 
-/// Whether the winner mates within so many moves of his own. Each step of the plan has this budget of states.
+/// Returns whether the winner mates within `moves` moves of his own. Each step of the plan has this budget of states.
+///
+/// The error is the first step that exceeds the budget, or that an allocation failed. The run is exponential in the
+/// number of moves of both sides.
 pub fn decide_crowd(
     alloc: Global,
     crowd: &Crowd,

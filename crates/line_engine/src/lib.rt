@@ -1,5 +1,7 @@
-//! Whether the winner mates in a crowded position, of up to 32 men. The plan of `line_plan` is gone through path by path: after each
-//! option the set of the distances at which its move is legal too, and, from the last ply back, those from which the winner still mates.
+//! Decides whether the winner mates in a crowd, a position of up to 32 men.
+//!
+//! It executes the plan of `line_plan` path by path. After each option it computes the set of the distances at which
+//! this move is legal too. From the last move back it computes the distances from which the winner still mates.
 #![tactic(auto)]
 
 mod crowd;

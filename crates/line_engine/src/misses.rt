@@ -1,6 +1,6 @@
-//! Whether a formula takes nothing away from a set, as far as that is seen at little cost: where its first part holds at no tuple of
-//! the set. The sets are then not put together; and if the budget has room for all tuples of states of what the formula is made of, none of
-//! its steps can exceed the budget, and its automaton is not made either.
+//! A cheap test whether subtracting a formula leaves a set unchanged: its first conjunct is disjoint from the set. Then
+//! the sets are not combined. If in addition the budget has room for all products of states of the formula's parts, no
+//! step of the formula can exceed the budget, and it is not compiled either.
 
 ghost use Rattle.std.specs.Prelude.{◌≡◌, ◌<◌, ◌≤◌, ◌^◌, None, IfOk, IfSome, IsTrue, MatchOption, length};
 ghost use Rattle.lin_formula.specs.Tree as tree;
@@ -98,7 +98,8 @@ impl EngineState {
         }
     }
 
-    /// Whether the budget has room for so many states with those of a formula, by its parts or by its automaton.
+    /// Returns whether the budget has room for the product of `own` states and those of a formula, by its parts or by its
+    /// automaton.
     fn fits_with(&mut self, own: u32, f: &Formula) -> Result<bool, AllocError>
         requires plain { IsPlain (tree_of f.now) }
         ensures fits { IfOk result (λ fits. IsTrue fits → FitsWith (tree_of f.now) self.old.memo.budget own) }
@@ -112,7 +113,7 @@ impl EngineState {
         Ok(self.product(Some(own), as_made).is_some())
     }
 
-    /// Whether a formula is seen to hold at no tuple of a set, so that leaving it out leaves the set as it is, within the budget.
+    /// Returns true only if subtracting the formula leaves the set unchanged and no step of that exceeds the budget.
     pub(crate) fn misses(&mut self, set: &Auto, f: &Formula) -> Result<bool, AllocError>
         requires { IsAsked set.now (tree_of f.now) }
         ensures missed { IfOk result (λ missed. IsTrue missed → IsMissed set.now (tree_of f.now) self.old.memo.budget) }

@@ -1,4 +1,4 @@
-//! A path of options, and what stands after it.
+//! A path of options, and the men after it.
 
 ghost use Rattle.std.specs.Prelude.{◌≡◌, ◌∷◌, ◌<◌, ◌≤◌, IfOk, Some, length, true};
 ghost use Rattle.game_rules.specs.Game.{square_of};
@@ -14,7 +14,7 @@ use rule_formula::Opt;
 use std::alloc::{AllocError, Global};
 use track_word::Var;
 
-/// The leg of an option.
+/// Returns the leg of a path that an option is.
 pub(crate) fn leg(men: &[Man], option: Opt) -> Leg
     requires low { 1 ≤ option.man }
     requires high { option.man ≤ length men.now }
@@ -37,7 +37,7 @@ fn without(mask: u32, taken: u8) -> u32
     mask - (1 << (taken - 1))
 }
 
-/// The mask of the men who are live after a move by the option from a position with this mask.
+/// Returns the mask of the live men after a move by the option from a position with this mask.
 pub(crate) fn target(option: Opt, mask: u32) -> u32
     requires high { option.taken ≤ 32 }
     requires live { 0 < option.taken → is_live mask option.taken ≡ true }
@@ -50,7 +50,7 @@ pub(crate) fn target(option: Opt, mask: u32) -> u32
     }
 }
 
-/// The list with one more element, which stands first.
+/// Returns a list with one more element at the front.
 pub(crate) fn with_first<T: Copy>(alloc: Global, first: T, rest: &[T]) -> Result<Vec<T>, AllocError>
     ensures { IfOk result (λ all. all.items ≡ first ∷ rest.now) }
 {
@@ -62,7 +62,7 @@ pub(crate) fn with_first<T: Copy>(alloc: Global, first: T, rest: &[T]) -> Result
     Ok(all)
 }
 
-/// The mask of the live men.
+/// Returns the mask of the live men.
 #[tactic(auto, using(crate::proofs::NodeLemmas::masks))]
 pub(crate) fn mask_of(men: &[Man]) -> u32
     requires { length men.now ≤ 32 }
@@ -74,7 +74,7 @@ pub(crate) fn mask_of(men: &[Man]) -> u32
     }
 }
 
-/// The bit of a man: 1 exactly where he is live.
+/// Returns the bit of a man: 1 if and only if he is live.
 fn live_bit(man: Man) -> u32
     ensures { result ≡ bit_of (square_of man) }
 {
@@ -84,7 +84,7 @@ fn live_bit(man: Man) -> u32
     }
 }
 
-/// The variables of so many distances.
+/// Returns the variables of `count` distances.
 #[tactic(auto, using(crate::proofs::NodeLemmas::distance_lists))]
 pub(crate) fn distances(alloc: Global, count: u8) -> Result<Vec<Var>, AllocError>
     requires { count ≤ 16 }

@@ -1,4 +1,4 @@
-//! Where one more move of a path is legal: part by part.
+//! Narrows a set to the distances at which one more move is legal, part by part.
 
 ghost use Rattle.std.specs.Prelude.{◌≡◌, ◌≤◌, ◌<◌, ◌+◌, ◌*◌, ◌^◌, ◌∷◌, [], All, Contains, IfOk, if◌then◌else◌, length, map, suc};
 ghost use Rattle.game_rules.specs.Game.{Sound};
@@ -229,8 +229,8 @@ fn safe(
     without_bearings(work, after, so_far, dangers.as_slice())
 }
 
-/// The distances at which the moves before and the further move are legal, one after the other. The table has the set of those at
-/// which the moves before are.
+/// Returns the distances at which the moves before and the further move are legal. The table has the set of those at
+/// which the moves before are legal.
 pub(crate) fn reach(
     work: &mut EngineState,
     step: &PathStep,
@@ -304,7 +304,8 @@ fn with_bearings(
     Ok(so_far)
 }
 
-/// The distances at which the side that is to move is in check. The table has the set of those at which the moves are legal.
+/// Returns the distances at which the side to move is in check. The table has the set of those at which the moves are
+/// legal.
 pub(crate) fn checked(
     work: &mut EngineState,
     node: &PathNode,

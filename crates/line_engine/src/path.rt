@@ -1,4 +1,4 @@
-//! Paths of options, with what stands after them.
+//! Paths of options, with the men after them.
 
 ghost use Rattle.line_engine.specs.Nodes.{IsAfterPath, position_of};
 ghost use Rattle.line_formula.specs.Paths.{leg_of};
@@ -9,7 +9,7 @@ use crate::crowd::Crowd;
 use line_formula::{Force, Leg, Scene};
 use rule_formula::Opt;
 
-/// A path of options, the last of which stands first, with its legs, and the men who are live after it and the side to move.
+/// A path of options, the last one first, with its legs, and the live men and the side to move after it.
 #[derive(Clone, Copy)]
 pub(crate) struct PathNode<'a> {
     pub(crate) crowd: Crowd<'a>,
@@ -19,7 +19,7 @@ pub(crate) struct PathNode<'a> {
     ghost is: { IsAfterPath (position_of crowd) path.now legs.now force },
 }
 
-/// A further move of a path: what stands before and after it, and the option by which it goes.
+/// A further move of a path: the men before and after it, and its option.
 #[derive(Clone, Copy)]
 pub(crate) struct PathStep<'a> {
     pub(crate) before: PathNode<'a>,
@@ -33,14 +33,14 @@ pub(crate) struct PathStep<'a> {
 }
 
 impl<'a> PathNode<'a> {
-    /// How many moves the path has.
+    /// Returns the number of moves of the path.
     pub(crate) fn count(&self) -> u8
         ensures { result ≡ length self.now.path.now }
     {
         self.legs.len() as u8
     }
 
-    /// The men on their first squares, and the legs after which they are looked at.
+    /// Returns the men on their initial squares with the legs of the path.
     pub(crate) fn scene(&self) -> Scene<'a>
         ensures men { result.men.now ≡ self.now.crowd.men.now }
         ensures legs { result.legs.now ≡ self.now.legs.now }
@@ -51,7 +51,7 @@ impl<'a> PathNode<'a> {
         }
     }
 
-    /// Whether the winner is to move.
+    /// Returns whether it is the winner's turn.
     pub(crate) fn is_winners(&self) -> bool
         ensures { result ≡ is_side self.now.force.side self.now.crowd.winner }
     {

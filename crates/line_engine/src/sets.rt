@@ -1,4 +1,4 @@
-//! Sets of distances, narrowed, joined and shortened. A set is none where it is empty.
+//! Sets of distances: narrowed, joined and shortened. An empty set is `None`.
 
 ghost use Rattle.std.specs.Prelude.{◌≡◌, ◌≤◌, ◌+◌, ◌^◌, ◌++◌, ◌∷◌, [], ℕ, suc, IfOk};
 ghost use Rattle.lin_formula.specs.SetOf.{Table, as_set};
@@ -26,7 +26,7 @@ const FIRST: SetId = SetId(0);
 
 const SECOND: SetId = SetId(1);
 
-/// A table of one set.
+/// Returns a table of one set.
 pub(crate) fn one_set(alloc: Global, a: Auto) -> Result<SetTable, AllocError>
     ensures { IfOk result (λ sets. sets ≡ a ∷ []) }
 {
@@ -48,7 +48,7 @@ fn two_sets(alloc: Global, a: Auto, b: Auto) -> Result<SetTable, AllocError>
     }
 }
 
-/// That so many distances are in the set of this name.
+/// Returns the formula that `count` distances are in the set of this name.
 fn in_set(alloc: Global, set: SetId, count: u8) -> Result<Formula, AllocError>
     requires { count ≤ 16 }
     ensures { IfOk result (λ f. tree_of f ≡ tree.Among set.0 (distances_to count)) }
@@ -88,7 +88,7 @@ fn some(alloc: Global, var: Var, body: Formula) -> Result<Formula, AllocError>
     }
 }
 
-/// That so many distances are in the first set or in the second.
+/// Returns the formula that `count` distances are in the first set or in the second.
 fn in_either(alloc: Global, count: u8) -> Result<Formula, AllocError>
     requires { count ≤ 16 }
     ensures { IfOk result (λ f. tree_of f ≡ tree.Or (tree.Among 0 (distances_to count)) (tree.Among 1 (distances_to count))) }
@@ -99,7 +99,7 @@ fn in_either(alloc: Global, count: u8) -> Result<Formula, AllocError>
     Ok(f)
 }
 
-/// That so many distances are in the first set and not in the second.
+/// Returns the formula that `count` distances are in the first set and not in the second.
 fn in_one_alone(alloc: Global, count: u8) -> Result<Formula, AllocError>
     requires { count ≤ 16 }
     ensures { IfOk result
@@ -112,7 +112,7 @@ fn in_one_alone(alloc: Global, count: u8) -> Result<Formula, AllocError>
     Ok(f)
 }
 
-/// That so many distances are in the first set, with some further one.
+/// Returns the formula that `count` distances are in the first set, with some further one.
 fn in_set_with_more(alloc: Global, count: u8) -> Result<Formula, AllocError>
     requires { count ≤ 15 }
     ensures { IfOk result (λ f. tree_of f ≡ tree.Ex (var count) (tree.Among 0 (distances_to (suc count)))) }
@@ -133,7 +133,7 @@ fn in_one_alone_with_more(alloc: Global, count: u8) -> Result<Formula, AllocErro
     Ok(f)
 }
 
-/// What the set of the table has, and the part says too, which may speak of one distance more.
+/// Returns the intersection of the table's set with the part, which may use one more distance.
 pub(crate) fn narrowed(
     work: &mut EngineState,
     count: u8,
@@ -155,7 +155,7 @@ pub(crate) fn narrowed(
     work.set_of(&f, reached)
 }
 
-/// The same of what there is so far.
+/// Narrows the progress by a part.
 pub(crate) fn narrow(
     work: &mut EngineState,
     count: u8,
@@ -179,7 +179,7 @@ pub(crate) fn narrow(
     narrowed(work, count, &sets, part)
 }
 
-/// What there is so far without what the formula says. Where that is seen to be nothing, it is left as it is.
+/// Subtracts a formula from the progress. If it is seen to subtract nothing, the set is kept as it is.
 pub(crate) fn leave_out(
     work: &mut EngineState,
     count: u8,
@@ -207,7 +207,7 @@ pub(crate) fn leave_out(
     narrow(work, count, Some(a), part)
 }
 
-/// What there is so far with a further set.
+/// Joins a further set to the progress.
 pub(crate) fn join(
     work: &mut EngineState,
     count: u8,
@@ -235,7 +235,7 @@ pub(crate) fn join(
     work.set_of(&f, &sets)
 }
 
-/// The tuples of a set of one distance more than so many, without their last distance.
+/// Returns the tuples of a set of `count + 1` distances without their last distance.
 pub(crate) fn shortened(
     work: &mut EngineState,
     count: u8,
@@ -255,7 +255,7 @@ pub(crate) fn shortened(
     work.set_of(&f, &sets)
 }
 
-/// The same of those that another set has not.
+/// Returns the tuples that are in the first set and not in the second, without their last distance.
 pub(crate) fn shortened_rest(
     work: &mut EngineState,
     count: u8,
@@ -277,7 +277,7 @@ pub(crate) fn shortened_rest(
     work.set_of(&f, &sets)
 }
 
-/// The tuples of the one set that the other has not.
+/// Returns the difference of two sets.
 pub(crate) fn difference(
     work: &mut EngineState,
     count: u8,
@@ -305,7 +305,7 @@ pub(crate) fn difference(
     work.set_of(&f, &sets)
 }
 
-/// The same set again.
+/// Returns a copy of a set.
 pub(crate) fn copied(set: &Option<Auto>) -> Result<Option<Auto>, AllocError>
     ensures { IfOk result (λ again. again ≡ set.now) }
 {

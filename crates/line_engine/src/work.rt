@@ -1,4 +1,4 @@
-//! What is kept from one set of the plan to the next.
+//! State that is kept between the sets of a plan.
 
 ghost use Rattle.std.specs.Prelude.{◌≡◌, ◌≤◌, ◌+◌, ◌^◌, IfNone, IfOk, IfSome};
 ghost use Rattle.auto_core.specs.Reduced.{AllReached};
@@ -18,7 +18,7 @@ use lin_formula::Formula;
 use set_plan::{has_no_tuple, step_count};
 use std::alloc::Global;
 
-/// Compiled formulas, within a budget, and the number of the next step.
+/// Compiled formulas within a budget, and the number of the next step.
 #[derive(Drop)]
 pub(crate) struct EngineState {
     pub(crate) alloc: Global,
@@ -27,7 +27,7 @@ pub(crate) struct EngineState {
 }
 
 impl EngineState {
-    /// Before the first step.
+    /// Creates the state before the first step.
     pub(crate) fn new(alloc: Global, budget: Budget) -> EngineState
         ensures budget { result.memo.budget ≡ budget }
         ensures at { result.at ≡ 1 }
@@ -39,7 +39,7 @@ impl EngineState {
         }
     }
 
-    /// The set of a formula over sets that are not empty, or none if it is empty.
+    /// Returns the set of a formula over nonempty sets, or `None` if it is empty.
     pub(crate) fn set_of(
         &mut self,
         f: &Formula,

@@ -1,22 +1,25 @@
-//! What the sets of the plan are: laws of the definitions, each the contract of a function that does nothing.
+//! Laws of the plan's sets. Each is the contract of a function that does nothing.
 ghost use Rattle.line_plan.specs.Laws.{KeptIsWon, PlanDecides, PlanEndsOnce, ReachIsLegal};
 
-/// The set of a path has exactly the distances at which its moves are legal, one after the other.
+/// States that one step of the plan keeps sets legal: if the set of a path of fewer than 16 moves has exactly the
+/// distances at which its moves are legal, so has the set of the path with one more option.
 pub fn reach_is_legal()
     ensures { ReachIsLegal }
 {}
 
-/// What is kept after a path are exactly the distances from which the winner mates in what is left.
+/// States that the set kept after a path has exactly the distances at which its moves are legal and the winner then
+/// mates with the moves left. Path and moves left are 16 moves at most.
 pub fn kept_is_won()
     ensures { KeptIsWon }
 {}
 
-/// The verdict of the plan is whether the winner mates within so many moves.
+/// States that the verdict of the plan is true if and only if the winner mates within the number of moves, for at most
+/// 7 moves.
 pub fn plan_decides()
     ensures { PlanDecides }
 {}
 
-/// Within a budget the plan comes to one end or stops at one step, and never both.
+/// States that within a budget the plan has one end or stops at one step, and never both.
 pub fn plan_ends_once()
     ensures { PlanEndsOnce }
 {}
