@@ -43,20 +43,20 @@ no_sets mask = Nothing
 abbrev pub level_with : Level → ℕ → SetOf → Level
 level_with level mask s k = if k == mask then s else level k
 
--- beside the sets that there are so far, that of the mask
+-- adds the set of the mask to the level so far
 abbrev pub with_mask : (ℕ → Program SetOf) → ℕ → Level → Program Level
 with_mask f mask level = do
   s ← f mask
   Give (level_with level mask s)
 
--- beside the sets that there are so far, one for each of the masks, one after the other
+-- adds a set for each of the masks to the level so far, in order
 abbrev pub for_masks : List ℕ → (ℕ → Program SetOf) → Level → Program Level
 for_masks masks f level = each masks (with_mask f) level
 
 abbrev pub name : ℕ → ℕ → Part → PartName
 name ply mask p = record { ply = ply; mask = mask; part = p }
 
--- whose turn it is after so many moves
+-- the side to move after `ply` moves
 abbrev pub turn_at : Side → ℕ → Side
 turn_at first zero = first
 turn_at first (suc ply) = other (turn_at first ply)
@@ -74,7 +74,7 @@ module _ (rules : Rules) where
   abbrev pub difference : ℕ → ℕ → Part → SetOf → SetOf → Program SetOf
   difference ply mask p s t = difference_set (rules.tracks mask) (name ply mask p) s t
 
-  -- the choices whose target is a mask
+  -- the options whose target is a mask
   abbrev pub choices_into : Side → ℕ → ℕ → List Opt
   choices_into side mask to = filter (λ o. rules.target mask o == to) (rules.choices side mask)
 
@@ -98,32 +98,32 @@ module _ (rules : Rules) where
   abbrev pub bear_items : Side → ℕ → SetOf → List Item
   bear_items side mask source = map (bear_item mask source) (rules.bearings side mask)
 
-  -- where the side's moves lead from a level into a mask
+  -- the positions with the mask that the side's moves reach from a level
   abbrev pub image_set : Side → ℕ → ℕ → Level → Program SetOf
   image_set side ply mask level = union ply mask kind.Image (image_items side mask level)
 
-  -- where some move of the side leads from a set into a level, as a part of its own
+  -- the positions of a set from which the side has a move into a level, as a part of its own
   abbrev pub pre_set : Side → ℕ → ℕ → Part → SetOf → Level → Program SetOf
   pre_set side ply mask p source into = union ply mask p (pre_items side mask source into)
 
-  -- where the side is in check in a set
+  -- the positions of a set in which the side is in check
   abbrev pub check_set : Side → ℕ → ℕ → SetOf → Program SetOf
   check_set side ply mask source = union ply mask kind.Check (bear_items (other side) mask source)
 
   abbrev pub safe_item : ℕ → SetOf → Bearing → Item
   safe_item mask source b = record { formula = rules.safe mask b; sets = λ _. source }
 
-  -- the set made narrower by one bearing
+  -- the set narrowed by one bearing
   abbrev pub narrow_by : ℕ → ℕ → Bearing → Made → Program Made
   narrow_by ply mask b so_far = make (name ply mask kind.Safe) so_far.1 (safe_item mask so_far.0 b)
 
-  -- the set made narrower by each of the bearings in turn, as a part of its own
+  -- the set narrowed by each of the bearings in turn, as a part of its own
   abbrev pub narrow : ℕ → ℕ → List Bearing → SetOf → Program SetOf
   narrow ply mask bearings s = do
     made ← each bearings (narrow_by ply mask) (s, 1)
     Give made.0
 
-  -- what is reached at a ply with one mask, from what is reached at the ply before, where the side moves
+  -- the reached set of a ply and a mask, from what is reached at the ply before, where the side is to move
   abbrev pub reach_set : Side → ℕ → Level → ℕ → Program SetOf
   reach_set side ply level mask = do
     moved ← image_set side ply mask level
@@ -132,14 +132,14 @@ module _ (rules : Rules) where
   abbrev pub reach_level : Side → ℕ → Level → Program Level
   reach_level side ply level = for_masks rules.masks (reach_set side ply level) no_sets
 
-  -- what is kept at a ply of the winner with one mask, from what is kept at the next ply
+  -- the kept set of a ply of the winner and a mask, from what is reached there and what is kept at the next ply
   abbrev pub win_set : Side → ℕ → Level → Level → ℕ → Program SetOf
   win_set side ply reach kept1 mask = pre_set side ply mask kind.Win (reach mask) kept1
 
   abbrev pub win_level : Side → ℕ → Level → Level → Program Level
   win_level side ply reach kept1 = for_masks rules.masks (win_set side ply reach kept1) no_sets
 
-  -- what is kept at a ply of the loser with one mask, where some position is reached
+  -- the kept set of a ply of the loser and a mask, if some position is reached there
   abbrev pub lost_set : Side → ℕ → ℕ → SetOf → Level → Level → Program SetOf
   lost_set side ply mask reach reach1 rests = do
     escape ← pre_set side ply mask kind.Escape reach rests
@@ -149,13 +149,13 @@ module _ (rules : Rules) where
     reply ← pre_set side ply mask kind.Reply quiet reach1
     union_of_two (rules.tracks mask) (name ply mask kind.Lost) check reply
 
-  -- the first two parts of it: what is reached without a move into the rests
+  -- its first two parts: the reached positions without a move into the unkept positions of the next ply
   abbrev pub calm_set : Side → ℕ → ℕ → SetOf → Level → Program SetOf
   calm_set side ply mask reach rests = do
     escape ← pre_set side ply mask kind.Escape reach rests
     difference ply mask kind.Calm reach escape
 
-  -- two further parts of it: what is calm and not in check, and has a move
+  -- its next two parts: the calm positions that are not in check and have a move
   abbrev pub reply_set : Side → ℕ → ℕ → SetOf → SetOf → Level → Program SetOf
   reply_set side ply mask calm check reach1 = do
     quiet ← difference ply mask kind.Quiet calm check
@@ -165,11 +165,11 @@ module _ (rules : Rules) where
   lost_set_if side ply reach reach1 rests mask =
       Ask (Empty (reach mask ∷ [])) (Give Nothing) (lost_set side ply mask (reach mask) reach1 rests)
 
-  -- what is reached and not kept at a ply with one mask
+  -- the positions that are reached and not kept, at a ply and a mask
   abbrev pub rest_set : ℕ → Level → Level → ℕ → Program SetOf
   rest_set ply reach kept mask = difference ply mask kind.Rest (reach mask) (kept mask)
 
-  -- what is kept at a ply of the loser
+  -- the kept level of a ply of the loser
   abbrev pub lost_level : Side → ℕ → Level → Level → Level → Program Level
   lost_level side ply reach reach1 kept1 = do
     rests ← for_masks rules.masks (rest_set (suc ply) reach1 kept1) no_sets
@@ -179,20 +179,20 @@ module _ (rules : Rules) where
   abbrev pub point_set : ℕ → Program Made
   point_set mask = make (name 0 mask kind.Point) 1 (record { formula = rules.point; sets = λ _. Nothing })
 
-  -- the starting position alone
+  -- the level of the starting position alone
   abbrev pub point_level : ℕ → Program Level
   point_level mask = do
     made ← point_set mask
     Give (level_with no_sets mask made.0)
 
-  -- what is reached so far, the last ply first, with one more ply
+  -- the reached levels so far, the last ply first, with one more ply
   abbrev pub reach_more : Side → ℕ → List Level → Program (List Level)
   reach_more first ply [] = Give []
   reach_more first ply (level ∷ levels) = do
     more ← reach_level (turn_at first ply) (suc ply) level
     Give (more ∷ level ∷ levels)
 
-  -- what is reached at each ply up to the last, the last one first
+  -- the reached levels of all plies up to the last, the last ply first
   abbrev pub forward : Side → ℕ → ℕ → Program (List Level)
   forward first mask zero = do
     level ← point_level mask
@@ -201,14 +201,14 @@ module _ (rules : Rules) where
     levels ← forward first mask ply
     reach_more first ply levels
 
-  -- what is kept at a ply so many plies before the last
+  -- the kept level of the ply that is this number of plies before the last
   abbrev pub kept_level : Side → ℕ → ℕ → Level → Level → Level → Program Level
   kept_level first ply left reach reach1 kept1 =
       if is_even left then win_level (turn_at first ply) ply reach kept1 else lost_level (turn_at first ply) ply reach
       reach1 kept1
 
-  -- what is kept at each ply, the first one first: from what is reached at a ply, what is reached at the plies before,
-  -- the last one first, what is kept at the ply, and what is kept at those after it
+  -- the kept levels, the first ply first: from what is reached at a ply, what is reached at the plies before it, the
+  -- last one first, what is kept at the ply, and what is kept at the plies after it
   abbrev pub backward : Side → Level → List Level → Level → List Level → Program (List Level)
   backward first reach1 [] kept1 later = Give (kept1 ∷ later)
   backward first reach1 (reach ∷ before) kept1 later = do
@@ -220,7 +220,7 @@ module _ (rules : Rules) where
   backward_from first [] = Give []
   backward_from first (reach ∷ before) = backward first reach before no_sets []
 
-  -- the sets that are kept at each ply, the first ply first
+  -- the kept levels of all plies, the first ply first
   abbrev pub plan : Side → ℕ → ℕ → Program (List Level)
   plan first mask last = do
     levels ← forward first mask last
