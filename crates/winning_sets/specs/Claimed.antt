@@ -1,4 +1,4 @@
--- Solutions whose sets were claimed, and which solutions are valid, wherever their sets come from.
+-- Solutions with claimed sets, and which solutions are valid, by the origin of their sets.
 use Rattle.std.specs.Prelude.{◌≡◌, ℕ, suc, ◌≤◌, List, [], ◌∷◌, ◌++◌, Some, None}
 use Rattle.limits.specs.declared.numbers.TheConstants.{MOST_MOVES}
 use Rattle.auto_core.specs.Automaton.{Automaton}
@@ -33,7 +33,7 @@ claim_of s =
       sets = sets_from 0 (masks_of s.position) s.kept;
     }
 
--- what a position with claimed sets is as a solution
+-- a position with claimed sets, as a solution
 abbrev pub solution_of : ClaimedSets → Solution
 solution_of c =
     record {
@@ -45,8 +45,7 @@ solution_of c =
       reach = [];
     }
 
--- the sets of the solution are those of a won claim, formed as sets of a solution are, and no set is told of what is
--- reached
+-- the sets of the solution are those of a won claim, stored as the sets of a solution are; it has no reached sets
 pub record IsWonClaim (s : Solution) : Type 0 where
   pub claim : IsClaim (claim_of s)
   pub won : Won (claim_of s)
@@ -54,7 +53,7 @@ pub record IsWonClaim (s : Solution) : Type 0 where
   pub formed : (ply mask : ℕ) (a : Automaton) → kept_at s ply mask ≡ Some a → IsSetAt s.position.men mask a
   pub unreached : (ply mask : ℕ) → reach_at s ply mask ≡ None
 
--- what its sets have to be, by where they come from
+-- the property that the sets must have, by their origin
 abbrev pub IsValidBy : Origin → Solution → Type 0
 IsValidBy Plan s = IsSolution s
 IsValidBy Claimed s = IsWonClaim s
@@ -62,7 +61,7 @@ IsValidBy Claimed s = IsWonClaim s
 abbrev pub IsValid : Solution → Type 0
 IsValid s = IsValidBy s.origin s
 
--- the position is one of those that the winner's moves are to lead into at the ply: it is kept, or it is claimed
+-- the position is one that the winner's moves must reach at the ply: it is kept, or it is claimed
 abbrev pub IsHeldFrom : Origin → Solution → ℕ → Position → Type 0
 IsHeldFrom Plan s ply q = Kept s.winner s.position s.moves ply q
 IsHeldFrom Claimed s ply q = IsClaimed (claim_of s) ply q

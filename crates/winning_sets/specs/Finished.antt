@@ -1,4 +1,4 @@
--- What a solver keeps of the plies that are finished.
+-- The state of a solver for its finished plies.
 use Rattle.std.specs.Prelude.{◌≡◌, ℕ, suc, ◌<◌, ◌≤◌, List, length, map, reverse, take, All, Option}
 use Rattle.auto_core.specs.Automaton.{Automaton}
 use Rattle.game_rules.specs.Game.{Position, Sound}
@@ -11,9 +11,9 @@ use Rattle.mate_plan.specs.Plan.{forward}
 use Rattle.mate_plan.specs.PlanOf.{rules_of}
 use Rattle.winning_sets.specs.Lent.{AreEmpties}
 
--- of a sound position the names in a table of the sets that are reached at each ply, the first one first, in the order
--- of the masks, and sets to lend where there is no name: up to each ply they are those with which the plan's way
--- forward ends within the budget
+-- The table has, for a sound position, the names of the sets reached at each ply, the first ply first and in the order
+-- of the masks, and an empty set for each mask without a name. Up to each ply they are those with which the plan's way
+-- forward ends within the budget.
 pub record AreFinished (p : Position) (budget : ℕ) (masks : List ℕ) (empties table : List Automaton)
     (levels : List (List (Option SetId))) : Type 0 where
   pub sound : Sound p

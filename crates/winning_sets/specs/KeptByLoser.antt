@@ -1,4 +1,4 @@
--- What is kept at the plies of the loser: laws, stated.
+-- Statements about the positions kept at the plies of the loser.
 use Rattle.std.specs.Prelude.{ℕ}
 use Rattle.game_rules.specs.Game.{Position, Sound, Value}
 use Rattle.game_rules.specs.declared.men.Side.{Side}
@@ -12,12 +12,12 @@ pub record KeptByLoser (winner : Side) (p : Position) (moves ply : ℕ) (q : Pos
   pub losers : IsLosersPly winner p moves ply
   pub kept : Kept winner p moves ply q
 
--- what is kept there is sound, with the loser to move
+-- the positions kept there are sound, and it is the loser's turn
 abbrev pub KeptAreOfGame : Type 0
 KeptAreOfGame =
     (winner : Side) (p : Position) (moves : ℕ) → Sound p → AreOfGame winner p moves (KeptByLoser winner p moves)
 
--- where the winner mates in time, what is kept at the plies of the loser is won
+-- if the winner mates in time, the positions kept at the plies of the loser are won
 abbrev pub KeptIsWon : Type 0
 KeptIsWon =
     (winner : Side) (p : Position) (moves : ℕ) → Sound p → Value winner moves p

@@ -1,4 +1,4 @@
--- What the sets that a plan makes are.
+-- The meaning of the sets that a plan computes.
 use Rattle.std.specs.Prelude.{◌≡◌, ◌↔◌, ◌⊎◌, ℕ, suc, ◌+◌, ◌-◌, ◌/◌, ◌<◌, ◌≤◌, List, length, Some, All, IsSomeAnd, ℤ, slice_get}
 use Rattle.track_word.specs.Tracks.{IsAscending}
 use Rattle.auto_core.specs.Automaton.{Automaton}
@@ -16,34 +16,34 @@ use Rattle.winning_sets.specs.Reach.{Reach}
 use Rattle.winning_sets.specs.Solve.{AreKept, IsKeptIn, IsTupleOf, Solution, end_of, kept_at}
 use Rattle.mate_plan.specs.declared.names.PartName.{PartName}
 
--- of each tuple it is known whether the set has it
+-- each tuple is known to be in the set or not to be in it
 abbrev pub IsDecided : SetOf → Type 0
 IsDecided s = (tuple : List ℤ) → Member s tuple ⊎ (¬ Member s tuple)
 
 abbrev pub AreDecided : List Level → Type 0
 AreDecided levels = All (λ level. (mask : ℕ) → IsDecided (level mask)) levels
 
--- the level has at each mask exactly the coordinates of the positions with this mask
+-- the set of each mask has exactly the coordinates of the positions with this mask
 pub record IsLevelOf (Set : Position → Type 0) (level : Level) : Type 0 where
   pub same : (mask : ℕ) (tuple : List ℤ) → Member (level mask) tuple ↔ IsTupleOf Set mask tuple
 
--- there is one level for each number up to the last, and it is that of its positions
+-- there is one level for each number up to `last`, and it is the level of that number's positions
 pub record AreLevelsOf (Set : ℕ → Position → Type 0) (last : ℕ) (levels : List Level) : Type 0 where
   pub count : length levels ≡ suc last
   pub each : (number : ℕ) (level : Level) → slice_get levels number ≡ Some level → IsLevelOf (Set number) level
 
--- the entries are those of the whole program, which gives these levels
+-- the entries are those of a whole run of the program, which gives these levels
 abbrev pub Gives : Side → Position → ℕ → List (Entry PartName) → List Level → Type 0
 Gives winner p moves entries levels = Takes (plan_of winner p moves) entries (Some levels)
 
--- what a plan goes through forward is what is reached, the last ply first
+-- the levels that a plan computes forward are those of the reached positions, the last ply first
 abbrev pub ForwardIsReach : Type 0
 ForwardIsReach =
     (p : Position) (ply : ℕ) (entries : List (Entry PartName)) (levels : List Level) → Sound p → length p.men ≤ 8
     → Takes (forward (rules_of p) p.turn (mask_of p) ply) entries (Some levels)
     → AreLevelsOf (λ number. Reach p (ply - number)) ply levels
 
--- what a plan gives is what is kept, the first ply first
+-- the levels that a plan gives are those of the kept positions, the first ply first
 abbrev pub PlanIsKept : Type 0
 PlanIsKept =
     (winner : Side) (p : Position) (moves : ℕ) (entries : List (Entry PartName)) (levels : List Level) → Sound p
@@ -51,7 +51,7 @@ PlanIsKept =
     → 0 < last_ply winner p.turn moves → AreDecided levels → Gives winner p moves entries levels
     → AreLevelsOf (Kept winner p moves) (last_ply winner p.turn moves) levels
 
--- the winner has left the moves that he has not made: he makes every second one, and the first where he is to move
+-- the winner makes every second move, and the first one if it is his turn at the start
 abbrev pub MovesAreCounted : Type 0
 MovesAreCounted =
     (winner : Side) (moves ply : ℕ)
@@ -62,7 +62,7 @@ MovesAreCounted =
 abbrev pub NoneIsKeptLast : Type 0
 NoneIsKeptLast = (winner : Side) (p q : Position) (moves : ℕ) → Kept winner p moves (last_ply winner p.turn moves) q → ⊥
 
--- the winner mates in time exactly where the starting position is in the first set that the plan gives
+-- the winner mates in time if and only if the starting position is in the plan's first set
 abbrev pub FirstIsValue : Type 0
 FirstIsValue =
     (winner : Side) (p : Position) (moves : ℕ) (entries : List (Entry PartName)) (levels : List Level) → Sound p
@@ -70,11 +70,11 @@ FirstIsValue =
     → AreDecided levels → Gives winner p moves entries levels
     → Value winner moves p ↔ IsSomeAnd (slice_get levels 0) (λ level. Member (level (mask_of p)) (tuple_of p))
 
--- of an automaton that decides a set of integers it is known which tuples it has
+-- an automaton that decides a set of integers is known to accept or not to accept each tuple
 abbrev pub TablesAreDecided : Type 0
 TablesAreDecided = (a : Automaton) → IsAscending a.tracks → DecidesIntegers a → IsDecided (Table a)
 
--- with the kept sets, a position is in the set of its own mask exactly where it is kept
+-- a position is in the kept set of its mask if and only if it is kept
 abbrev pub KeepsIsKept : Type 0
 KeepsIsKept =
     (s : Solution) (ply : ℕ) (q : Position) → Sound s.position → length s.position.men ≤ 8

@@ -1,4 +1,4 @@
-//! The set without a tuple.
+//! The empty set of tuples.
 ghost use Rattle.std.specs.Prelude.{◌≤◌, IfOk, length};
 ghost use Rattle.track_word.specs.Tracks.{IsAscending};
 ghost use Rattle.winning_sets.specs.Lent.{IsEmptyOn};
@@ -9,7 +9,7 @@ use limits::MOST_TRACKS;
 use std::alloc::{AllocError, Global};
 use track_word::Var;
 
-/// An automaton of one state, which does not accept.
+/// Returns an automaton of one state that accepts nothing.
 pub(crate) fn empty_set(alloc: Global, tracks: Vec<Var>) -> Result<Auto, AllocError>
     requires ascending { IsAscending tracks.items }
     requires few { length tracks.items ≤ MOST_TRACKS }

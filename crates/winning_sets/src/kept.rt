@@ -1,4 +1,4 @@
-//! What is kept at each ply, from the last ply back to the first.
+//! The kept sets of each ply, from the last ply back to the first.
 ghost use Rattle.std.specs.Prelude.{◌≡◌, ◌≤◌, ◌++◌, ◌∷◌, [], All, IfOk, OnErr, OnOk, length};
 ghost use Rattle.mate_plan.specs.Bench.{IsLater};
 ghost use Rattle.mate_plan.specs.Levels.{AreNamesIn};
@@ -14,7 +14,7 @@ use mate_plan::{
 use set_plan::PlanError;
 use std::alloc::AllocError;
 
-/// Adds the level of another ply.
+/// Adds the level of the next ply.
 pub(crate) fn push_level(levels: &mut Vec<LevelNames>, level: LevelNames) -> Result<(), AllocError>
     ensures ok { OnOk result (levels.new.items ≡ levels.old.items ++ level ∷ []) }
     ensures err { OnErr result (levels.new.items ≡ levels.old.items) }
@@ -34,7 +34,7 @@ struct Keeping<'a> {
     next_kept: &'a LevelNames,
 }
 
-/// What is kept at a ply, so many plies before the last one, from what is reached at this ply and the next, and what is kept at the next.
+/// Computes the kept level of a ply, from what is reached at this ply and the next, and what is kept at the next.
 fn kept_at(
     bench: &PlanContext,
     work: &mut PlanState,
@@ -69,7 +69,7 @@ fn kept_at(
     }
 }
 
-/// What is kept at each ply, from what is reached at each ply. Nothing is kept at the last one.
+/// Computes the kept levels of all plies from the reached levels. The level of the last ply has no sets.
 pub(crate) fn kept_levels(
     bench: &PlanContext,
     work: &mut PlanState,

@@ -11,7 +11,7 @@ use mate_plan::{LevelNames, mask_tracks};
 use set_plan::SetStore;
 use std::alloc::{AllocError, Global};
 
-/// For each of the masks the set without a tuple.
+/// Returns the empty set for each of the masks.
 pub(crate) fn empty_sets(alloc: Global, p: &Position, masks: &[u8]) -> Result<Vec<Auto>, AllocError>
     ensures { IfOk result (λ sets. AreEmpties p.now.men masks.now sets.items) }
 {
@@ -24,7 +24,7 @@ pub(crate) fn empty_sets(alloc: Global, p: &Position, masks: &[u8]) -> Result<Ve
     Ok(sets)
 }
 
-/// The set of a name, or the other one where there is no name.
+/// Returns the set of a name, or the other set if there is no name.
 pub(crate) fn lent<'a>(sets: &'a SetStore, other: &'a Auto, id: Option<SetId>) -> &'a Auto
     requires { IfSome id (λ k. k.0 < length sets.now) }
     ensures { result.now ≡ set_or sets.now other.now id }
@@ -35,7 +35,7 @@ pub(crate) fn lent<'a>(sets: &'a SetStore, other: &'a Auto, id: Option<SetId>) -
     }
 }
 
-/// Copies of the sets of the names, and of the others where there is no name.
+/// Returns copies of the sets of the names, or of the other sets for those without a name.
 pub(crate) fn lent_sets(
     alloc: Global,
     sets: &SetStore,
@@ -52,7 +52,7 @@ pub(crate) fn lent_sets(
     Ok(PlySets::new(copies))
 }
 
-/// Copies of the sets of the names at each ply.
+/// Returns copies of the sets of the names at each ply.
 pub(crate) fn copied(
     alloc: Global,
     sets: &SetStore,

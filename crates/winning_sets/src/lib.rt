@@ -1,5 +1,7 @@
-//! Which positions the winner mates from within so many moves of his own, as sets of tuples of coordinates. `specs/Reach` and `specs/Kept`
-//! say which positions the sets have, `specs/Solve` what is answered.
+//! Solves a position: computes the sets of positions from which the winner mates within n moves.
+//!
+//! The sets are automata over the coordinates of the live men. `specs/Reach` and `specs/Kept` define which positions
+//! the sets contain, and `specs/Solve` the results.
 #![tactic(auto)]
 
 mod claimed;

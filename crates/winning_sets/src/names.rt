@@ -1,4 +1,4 @@
-//! Names of steps, and why there is no answer.
+//! Names of steps, and the reasons for failure.
 
 ghost use Rattle.std.specs.Prelude.{◌≡◌};
 ghost use Rattle.winning_sets.specs.Solve.{solve_error_of};
@@ -6,14 +6,14 @@ ghost use Rattle.winning_sets.specs.Solve.{solve_error_of};
 use mate_plan::{Part, PartName};
 use set_plan::PlanError;
 
-/// A step of a plan.
+/// The name of a step of a plan.
 #[derive(Clone, Copy, PartialEq, Eq)]
 pub struct StepName {
-    /// The number of moves of the winner that the plan is for.
+    /// The number of moves of the winner of the plan.
     pub moves: u8,
-    /// How many moves were made since the starting position.
+    /// The number of moves made since the starting position.
     pub ply: u8,
-    /// The live men: bit `i - 1` stands for man `i`.
+    /// The live men: bit `i - 1` is 1 if and only if man `i` is live.
     pub mask: u8,
     pub part: Part,
     /// The number of the step in its part, counted from 1.
@@ -29,7 +29,7 @@ pub enum SolveError {
     Memory,
 }
 
-/// Why a plan of so many moves has no end.
+/// Returns the error of the plan for this number of moves.
 pub(crate) fn solve_error(moves: u8, error: PlanError<PartName>) -> SolveError
     ensures { result ≡ solve_error_of moves error }
 {

@@ -1,6 +1,6 @@
-//! Where sets come from.
+//! The origin of sets.
 
-/// Where the kept sets of a solved position come from.
+/// The origin of the kept sets of a solved position.
 #[derive(Clone, Copy, PartialEq, Eq)]
 pub enum Origin {
     /// The plan: there is one for each ply and each mask.

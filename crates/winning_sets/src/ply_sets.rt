@@ -20,12 +20,14 @@ impl Model for PlySets {
 }
 
 impl PlySets {
+    /// Creates the sets of a ply.
     pub fn new(sets: Vec<Auto>) -> PlySets
         ensures { result ≡ sets.items }
     {
         PlySets { sets }
     }
 
+    /// Returns the sets in the order of the masks.
     pub fn as_slice(&self) -> &[Auto]
         ensures { result.now ≡ self.now }
     {

@@ -19,8 +19,9 @@ use mask_sets::MaskSets;
 use std::alloc::Global;
 use std::marker::Model;
 
-/// A position with the sets of the positions that are reached from it, and of those of them from which the winner still mates in time; or with
-/// the sets of a claim that is won. A set has the coordinates of the live men, two for each, in their order.
+/// A solved position: the sets of the positions reached from it, and of those from which the winner still mates in
+/// time; or the sets of a won claim. A set is over the coordinates of the live men, two for each man, in the order of
+/// the men.
 #[derive(Drop)]
 pub struct Solved {
     origin: Origin,
@@ -63,7 +64,7 @@ impl Model for Solved {
 }
 
 impl Solved {
-    /// A solution of the plan with its sets, ply by ply and in each ply in the order of the masks.
+    /// Creates a solution from the sets of its plan, ply by ply, and at each ply in the order of the masks.
     pub(crate) fn new(
         position: Position,
         winner: Side,
@@ -87,7 +88,7 @@ impl Solved {
         }
     }
 
-    /// A position with the sets of a claim that is won. It takes no memory.
+    /// Creates a solution from the sets of a won claim. Allocates nothing.
     pub fn from_sets(alloc: Global, claimed: ClaimedSets) -> Solved
         requires masks { claimed.masks.items ≡ masks_of claimed.position }
         requires valid { IsWonClaim (solution_of claimed) }
@@ -104,43 +105,43 @@ impl Solved {
         }
     }
 
-    /// Where the kept sets come from.
+    /// Returns the origin of the kept sets.
     pub fn origin(&self) -> Origin
         ensures { result ≡ self.now.origin }
     {
         self.origin
     }
 
-    /// The starting position.
+    /// Returns the starting position.
     pub fn position(&self) -> Position
         ensures { result ≡ self.now.position }
     {
         self.position
     }
 
-    /// The side that is to mate.
+    /// Returns the winner, the side that mates.
     pub fn winner(&self) -> Side
         ensures { result ≡ self.now.winner }
     {
         self.winner
     }
 
-    /// Within how many of his moves the winner is to mate.
+    /// Returns the number of moves within which the winner mates.
     pub fn moves(&self) -> u8
         ensures { result ≡ self.now.moves }
     {
         self.moves
     }
 
-    /// The last ply, at which the winner is to move and has no move left.
+    /// Returns the last ply, where it is the winner's turn and he has no move left.
     pub fn last_ply(&self) -> u8
         ensures { result ≡ end_of self.now }
     {
         last_ply(self.winner, self.position.turn(), self.moves)
     }
 
-    /// The set of the positions at a ply, with the live men of a mask, from which the winner mates in time; or the claimed one. A claim has
-    /// none at the plies of the winner.
+    /// Returns the kept or claimed set of a ply and a mask: the positions from which the winner mates in time. A claim
+    /// has no sets at the plies of the winner.
     pub fn set(&self, ply: u8, mask: u8) -> Option<&Auto>
         ensures set { option_copied result ≡ kept_at self.now ply mask }
         ensures few { IfSome result (λ a. length a.now.accept ≤ MOST_STATES) }
@@ -149,8 +150,8 @@ impl Solved {
         set_at(self.masks.as_slice(), self.kept.as_slice(), ply, mask)
     }
 
-    /// The set of the positions that are reached at a ply, with the live men of a mask. There is none where the plan has no step, and
-    /// none with a claim.
+    /// Returns the set of the positions reached at a ply with the live men of a mask. There is none if the plan has no
+    /// step or the sets are claimed.
     pub fn reach(&self, ply: u8, mask: u8) -> Option<&Auto>
         ensures set { option_copied result ≡ reach_at self.now ply mask }
         ensures few { IfSome result (λ a. length a.now.accept ≤ MOST_STATES) }
@@ -159,7 +160,7 @@ impl Solved {
         set_at(self.masks.as_slice(), self.reach.as_slice(), ply, mask)
     }
 
-    /// The greatest number of states among the sets that `set` hands out.
+    /// Returns the greatest number of states of the sets that `set` returns.
     pub fn most_states(&self) -> u32
         ensures most { IsMostStates self.now result }
         ensures few { result ≤ MOST_STATES }
@@ -191,7 +192,7 @@ impl Solved {
         most
     }
 
-    /// The masks of the starting position, ascending.
+    /// Returns the masks of the starting position in ascending order.
     pub fn masks(&self) -> &[u8]
         ensures masks { result.now ≡ masks_of self.now.position }
         ensures valid { IsValid self.now }
@@ -199,7 +200,7 @@ impl Solved {
         self.masks.as_slice()
     }
 
-    /// The kept sets of a ply in the order of the masks, and none past the last ply.
+    /// Returns the kept sets of a ply in the order of the masks, and none after the last ply.
     pub fn kept_sets(&self, ply: u8) -> &[Auto]
         ensures sets { result.now ≡ slice_index_or self.now.kept ply [] }
         ensures valid { IsValid self.now }
@@ -207,7 +208,8 @@ impl Solved {
         sets_of_ply(self.kept.as_slice(), ply)
     }
 
-    /// The reached sets of a ply in the order of the masks. There is none where the plan has no step, past the last ply, and with a claim.
+    /// Returns the reached sets of a ply in the order of the masks. There are none if the plan has no step, after the
+    /// last ply, and for a claim.
     pub fn reached_sets(&self, ply: u8) -> &[Auto]
         ensures sets { result.now ≡ slice_index_or self.now.reach ply [] }
         ensures valid { IsValid self.now }
@@ -225,7 +227,7 @@ impl Solved {
         }
     }
 
-    /// Whether the position of these men, with the turn of the ply, is in the set of its own live men.
+    /// Returns whether the position of these men, with the turn of the ply, is in the set of its live men.
     pub fn keeps(&self, ply: u8, p: &Position) -> bool
         ensures keeps { IsTrue result ↔ IsKeptIn self.now ply p.now }
         ensures valid { IsValid self.now }
@@ -243,7 +245,7 @@ impl Solved {
         MaskSets::new(self.masks(), self.kept_sets(ply)).contains(p)
     }
 
-    /// Whether the winner mates within so many moves from the starting position.
+    /// Returns whether the winner mates within the number of moves from the starting position.
     pub fn verdict(&self) -> bool
         ensures mates { IsTrue result ↔ Value self.now.winner self.now.moves self.now.position }
         ensures valid { IsValid self.now }

@@ -1,4 +1,4 @@
-//! Solving a position for one number of moves after another.
+//! Solves a position for one number of moves after another.
 ghost use Rattle.std.specs.Prelude.{◌≡◌, ◌+◌, ◌<◌, ◌≤◌, [], IfErr, IfOk, IfNone, IfSome, OnErr, OnOk, length};
 ghost use Rattle.game_rules.specs.Game.{Sound};
 ghost use Rattle.set_plan.specs.Outcome.{IsPlanError};
@@ -23,7 +23,7 @@ use set_plan::PlanError;
 use std::alloc::{AllocError, Global};
 use std::marker::Model;
 
-/// A position that is solved for one number of moves after another. The sets that are reached at a ply are made once.
+/// A solver of one position for one number of moves after another. The reached sets of a ply are computed once.
 #[derive(Drop)]
 pub struct Solver {
     alloc: Global,
@@ -61,7 +61,7 @@ impl Model for Solver {
 }
 
 impl Solver {
-    /// A solver of a position. Each step has this budget.
+    /// Creates a solver of a position. Each step has this budget of states.
     pub fn new(alloc: Global, p: &Position, winner: Side, budget: Budget) -> Solver
         requires sound { Sound p.now }
         ensures { result ≡ record { position = p.now; winner = winner; budget = budget; reach = [] } }
@@ -79,7 +79,7 @@ impl Solver {
         }
     }
 
-    /// The last ply at which all that is reached is known, or 0 where nothing is. It never falls.
+    /// Returns the last ply whose reached sets are known, or 0 if there is none. It never falls.
     pub fn plies(&self) -> u8
         ensures { result ≡ plies_of self.now }
     {
@@ -96,7 +96,7 @@ impl Solver {
         self.levels.len()
     }
 
-    /// The set of the positions that are reached at a ply after the first, with the live men of a mask.
+    /// Returns the set of the positions reached at a ply after the first, with the live men of a mask.
     pub fn reach(&self, ply: u8, mask: u8) -> Option<&Auto>
         ensures some { IfSome result (λ a. IsReachedSet self.now ply mask a.now) }
         ensures none { IfNone result (IsUnreached self.now ply mask) }
@@ -109,8 +109,9 @@ impl Solver {
         Some(lent(&self.work.sets, &self.empties[k], names[k]))
     }
 
-    /// Solves the position for so many moves of the winner. What is reached at the plies that were finished before is not made again, also
-    /// where the earlier call had no answer.
+    /// Solves the position for this number of the winner's moves. Reached sets of finished plies are not computed
+    /// again, even if the earlier call failed. The error is the first step that exceeds the budget, or that an
+    /// allocation failed.
     pub fn solve(&mut self, moves: u8) -> Result<Solved, SolveError>
         requires moves { moves ≤ MOST_MOVES }
         ensures game { IfOk result (IsOf self.old.position self.old.winner moves) }
@@ -279,8 +280,8 @@ impl Solver {
     }
 }
 
-/// Within a budget for each step, the sets of the positions from which the winner mates within so many moves of his own, ply by ply;
-/// or the first step that is past it.
+/// Computes the sets of the positions from which the winner mates within `moves` moves of his own, ply by ply. The
+/// error is the first step that exceeds the budget, or that an allocation failed.
 pub fn solve(
     alloc: Global,
     p: &Position,

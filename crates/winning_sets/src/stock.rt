@@ -1,4 +1,4 @@
-//! Positions of one game.
+//! Positions with the same material.
 ghost use Rattle.std.specs.Prelude.{◌≡◌, ◌↔◌, IsTrue};
 ghost use Rattle.game_laws.specs.Stock.{HasStock};
 
@@ -11,7 +11,7 @@ fn is_same_man(m: Man, n: Man) -> bool
     n.side == m.side && n.kind == m.kind
 }
 
-/// Whether the positions differ in the places of men and the turn alone.
+/// Returns whether the positions differ at most in the places of the men and in the turn.
 pub(crate) fn has_stock(stock: &Position, p: &Position) -> bool
     ensures { IsTrue result ↔ HasStock stock.now.men p.now }
 {

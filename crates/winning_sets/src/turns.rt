@@ -7,14 +7,14 @@ use chess_game::Side;
 use limits::MOST_MOVES;
 use mate_plan::plies_before_turn;
 
-/// Whose turn it is after so many moves.
+/// Returns the side to move after `ply` moves.
 pub(crate) fn side_at(first: Side, ply: u8) -> Side
     ensures { result ≡ turn_at first ply }
 {
     if ply % 2 == 0 { first } else { first.other() }
 }
 
-/// The last ply of so many moves of the winner. He is to move there, and has no move left.
+/// Returns the last ply of a plan, where it is the winner's turn and he has no move left.
 pub(crate) fn last_ply(winner: Side, first: Side, moves: u8) -> u8
     requires { moves ≤ MOST_MOVES }
     ensures last { result ≡ last_of winner first moves }
