@@ -170,7 +170,7 @@ shift_undone dx dy =
       side_back = λ s. refl;
     }
 
-reflection_undone : IsUndone reflection reflection
+pub reflection_undone : IsUndone reflection reflection
 reflection_undone =
     record {
       carrier = reflection_carries;
@@ -181,7 +181,7 @@ reflection_undone =
       side_back = λ s. refl;
     }
 
-exchange_undone : IsUndone colour_exchange colour_exchange
+pub exchange_undone : IsUndone colour_exchange colour_exchange
 exchange_undone =
     record {
       carrier = exchange_carries;
