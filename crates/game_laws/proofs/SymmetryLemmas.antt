@@ -253,7 +253,7 @@ module _ (f g : BoardMap) (u : IsUndone f g) where
   legal_to {p} {q} l = record { step = step_to f g u l.step; safe = λ h. l.safe (check_from q p.turn h) }
 
 module _ (f g : BoardMap) (u : IsUndone f g) where
-  legal_from : (p : Position) {i : ℕ} {z : Square} {r : Position} → Legal (mapped f p) i z r → Legal p i (g.square z) (mapped g r)
+  pub legal_from : (p : Position) {i : ℕ} {z : Square} {r : Position} → Legal (mapped f p) i z r → Legal p i (g.square z) (mapped g r)
   legal_from p {i} {z} {r} l =
       subst (λ a. Legal a i (g.square z) (mapped g r)) (again f g u p) (legal_to g f (undone_back u) l)
 
@@ -344,7 +344,7 @@ module _ (f g : BoardMap) (u : IsUndone f g) where
   value_to winner n p (inr h) = inr (lost_to winner n p h)
 
 -- a value of the mapped position, for the side that the winner becomes, is one of the position
-from_mapped : {f g : BoardMap} (u : IsUndone f g) (V : Side → Position → Type 0)
+pub from_mapped : {f g : BoardMap} (u : IsUndone f g) (V : Side → Position → Type 0)
     → ((s : Side) (q : Position) → V s q → V (g.side s) (mapped g q))
     → (winner : Side) (p : Position) → V (f.side winner) (mapped f p) → V winner p
 from_mapped {f} {g} u V back winner p h =
