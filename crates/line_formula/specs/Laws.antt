@@ -1,4 +1,4 @@
--- What the formulas of a path mean.
+-- The meaning of the formulas of a path.
 use Rattle.std.specs.Prelude.{◌≡◌, ◌↔◌, ◌<◌, ◌≤◌, ℕ, List, ◌∷◌, length, ℤ, Contains}
 use Rattle.game_rules.specs.declared.men.Square.{Square}
 use Rattle.game_rules.specs.Game.{InCheck, Legal, Position, Sound}
@@ -11,7 +11,7 @@ use Rattle.rule_formula.proofs.ChainLemmas.{AllHold}
 use Rattle.rule_formula.specs.Seats.{var}
 use Rattle.line_formula.specs.Paths.{GoesBy, Plays, after, bear_after, first_part, further_parts, options_at, threats_at, turn_at}
 
--- where the moves of a path are legal, the parts of a further one hold exactly where it is legal too
+-- after legal moves of a path, the parts of a further move are true if and only if it is legal
 abbrev pub PartsMeanLegal : Type 0
 PartsMeanLegal =
     (p : Position) (s : List Opt) (o : Opt) (e : ℕ → SetOf) (v : Values) → Sound p → length s < 16 → Plays p s v
@@ -28,7 +28,7 @@ LegalIsByOption =
     × (r ≡ after p (o ∷ s) (with_value v (var (length s)) t))
     × GoesBy o t (after p s v) r
 
--- the side to move is in check exactly where a man of the other bears on its king
+-- the side to move is in check if and only if a man of the other side attacks its king
 abbrev pub BearsMeanCheck : Type 0
 BearsMeanCheck =
     (p : Position) (s : List Opt) (e : ℕ → SetOf) (v : Values) → Sound p → length s ≤ 16 → Plays p s v

@@ -1,4 +1,4 @@
--- Paths of options, and what they lead to.
+-- Paths of options, and the positions after them.
 use Rattle.std.specs.Prelude.{◌≡◌, ℕ, List, [], ◌∷◌, ◌++◌, map, length, ℤ, pos, Contains, Some}
 use Rattle.game_rules.specs.declared.men.Man.{Man}
 use Rattle.game_rules.specs.declared.men.Ray.{Ray}
@@ -25,7 +25,7 @@ use Rattle.line_formula.specs.Rules.{bear, capture_parts, clear_parts, distance_
 abbrev pub leg_of : List Man → Opt → Leg
 leg_of men o = record { man = o.man; ray = ray_at men o.man o.ray }
 
--- the legs of a path, which is a list of options, the last of which stands first
+-- the legs of a path, which is a list of options, last one first
 abbrev pub legs_of : List Man → List Opt → List Leg
 legs_of men s = map (leg_of men) s
 
@@ -37,7 +37,7 @@ abbrev pub turn_after : Side → List Opt → Side
 turn_after turn [] = turn
 turn_after turn (o ∷ s) = other (turn_after turn s)
 
--- by the option a legal move of this distance leads from q to r
+-- a legal move by the option with this distance leads from q to r
 pub record GoesBy (o : Opt) (t : ℤ) (q r : Position) : Type 0 where
   pub man : Man
   pub ray : Ray
@@ -53,7 +53,7 @@ pub record GoesBy (o : Opt) (t : ℤ) (q r : Position) : Type 0 where
   pub legal : Legal q o.man to r
 
 module _ (p : Position) where
-  -- the live men after the path, and the side that is to move
+  -- the live men after the path, and the side to move
   abbrev pub mask_at : List Opt → ℕ
   mask_at s = mask_after (mask_of p) s
 
@@ -63,23 +63,23 @@ module _ (p : Position) where
   abbrev pub legs_at : List Opt → List Leg
   legs_at s = legs_of p.men s
 
-  -- the position after the path, where the moves have these distances
+  -- the position after the path, if the moves have these distances
   abbrev pub after : List Opt → Values → Position
   after s v = placed p.men (is_live (mask_at s)) (turn_at s) (place (home p.men) (legs_at s) v)
 
-  -- the options of the side that is to move after the path
+  -- the options of the side to move after the path
   abbrev pub options_at : List Opt → List Opt
   options_at s = options_of p.men (mask_at s) (turn_at s)
 
-  -- the rays along which the other side may bear on the king of the side that is to move
+  -- the possible attacks of the other side on the king of the side to move
   abbrev pub threats_at : List Opt → List Bearing
   threats_at s = bearings_of p.men (mask_at s) (other (turn_at s))
 
-  -- the rays along which the side that is to move may bear on the other king, who has just moved or been left
+  -- the possible attacks of the side to move on the other king, which is in danger if the last move was illegal
   abbrev pub dangers_at : List Opt → List Bearing
   dangers_at s = bearings_of p.men (mask_at s) (turn_at s)
 
-  -- the bearing's man bears on its king after the path
+  -- the attack's man attacks the king after the path
   abbrev pub bear_after : List Opt → Bearing → Tree
   bear_after s b =
       bear (home p.men) (legs_at s) (is_live (mask_at s)) (length p.men) (ray_at p.men b.man b.ray) b.man b.king
@@ -95,7 +95,7 @@ module _ (p : Position) where
       ++ (clear_parts (home p.men) (legs_at s) (leg_of p.men o) (is_live (mask_at s)) o.taken (length p.men)
       ++ safe_parts (home p.men) (legs_at (o ∷ s)) p.men (is_live (mask_at (o ∷ s))) (dangers_at (o ∷ s)))
 
-  -- each move of the path is by an option and legal, one after the other, where they have these distances
+  -- each move of the path is by an option and legal, in order, if they have these distances
   abbrev pub Plays : List Opt → Values → Type 0
   Plays [] v = Unit {0}
   Plays (o ∷ s) v =

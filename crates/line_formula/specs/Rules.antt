@@ -13,15 +13,15 @@ use Rattle.line_formula.specs.declared.gap.Gap.{Gap}
 use Rattle.line_formula.specs.declared.leg.Leg.{Leg}
 use Rattle.line_formula.specs.Atoms.{constant, gap_tree, sum_tree, terms}
 
--- how far man b is to the right of man a
+-- the gap to the right from man a to man b
 abbrev pub across : ℕ → ℕ → Gap
 across a b = record { right = pos 1; up = pos 0; from = a; to = b }
 
--- how far he is above him
+-- the gap upwards from man a to man b
 abbrev pub upward : ℕ → ℕ → Gap
 upward a b = record { right = pos 0; up = pos 1; from = a; to = b }
 
--- what is 0 where man b stands on the line through man a along the ray
+-- a gap that is 0 if man b is on the line through man a along the ray
 abbrev pub off_line : Ray → ℕ → ℕ → Gap
 off_line r a b = record { right = r.dy; up = neg_ℤ r.dx; from = a; to = b }
 
@@ -33,8 +33,8 @@ measure_by sideways r a b = record {
   to = b;
 }
 
--- how many steps along the ray it is from man a to man b, if b stands on that line: counted to the right or left where
--- a step goes by one there, and else up or down
+-- the number of steps along the ray from man a to man b, if b is on that line: counted to the right or left if a step moves by one
+-- in x, and upwards or downwards otherwise
 abbrev pub measure : Ray → ℕ → ℕ → Gap
 measure r a b = measure_by (unsigned_abs r.dx == 1) r a b
 
@@ -42,24 +42,24 @@ abbrev pub opposite : Gap → Gap
 opposite g = record { right = neg_ℤ g.right; up = neg_ℤ g.up; from = g.from; to = g.to }
 
 module _ (home : ℕ → Square) where
-  -- man b stands on the line through man a along the ray
+  -- man b is on the line through man a along the ray
   abbrev pub line : List Leg → Ray → ℕ → ℕ → Tree
   line legs r a b = gap_tree home legs (off_line r a b) Eq (pos 0)
 
-  -- the measure of man b from man a is at least 1
+  -- the measure from man a to man b is at least 1
   abbrev pub ahead : List Leg → Ray → ℕ → ℕ → Tree
   ahead legs r a b = gap_tree home legs (opposite (measure r a b)) Le (negsuc 0)
 
-  -- the measure of man b from man a is at most the distance of the next leg
+  -- the measure from man a to man b is at most the distance of the next leg
   abbrev pub reached : List Leg → Ray → ℕ → ℕ → Tree
   reached legs r a b =
       sum_tree (constant home (measure r a b)) ((negsuc 0, var (length legs)) ∷ terms (measure r a b) legs) Le (pos 0)
 
-  -- man b stands so far to the right of man a and above him
+  -- man b is at this distance from man a, to the right and upwards
   abbrev pub apart_by : List Leg → ℕ → ℕ → ℤ → ℤ → Tree
   apart_by legs a b x y = And (gap_tree home legs (across a b) Eq x) (gap_tree home legs (upward a b) Eq y)
 
-  -- man k stands on the way of the next leg, its end included
+  -- man k is on the way of the next leg, its end included
   abbrev pub on_way_as : Bool → List Leg → Leg → ℕ → Tree
   on_way_as true legs leg k =
       And (And (line legs leg.ray leg.man k) (ahead legs leg.ray leg.man k)) (reached legs leg.ray leg.man k)
@@ -68,11 +68,11 @@ module _ (home : ℕ → Square) where
   abbrev pub on_way : List Leg → Leg → ℕ → Tree
   on_way legs leg k = on_way_as leg.ray.far legs leg k
 
-  -- man l stands between man k and man g on the ray from k to g
+  -- man l is between man k and man g on the ray from k to g
   abbrev pub screens : List Leg → Ray → ℕ → ℕ → ℕ → Tree
   screens legs r k g l = And (And (line legs r k l) (ahead legs r k l)) (ahead legs r l g)
 
-  -- man k bears along the ray on man g
+  -- man k attacks man g along the ray
   abbrev pub bear_as : Bool → List Leg → (ℕ → Bool) → ℕ → Ray → ℕ → ℕ → Tree
   bear_as true legs live n r k g =
       clear (And (line legs r k g) (ahead legs r k g)) (screens legs r k g) live k g n
@@ -81,12 +81,12 @@ module _ (home : ℕ → Square) where
   abbrev pub bear : List Leg → (ℕ → Bool) → ℕ → Ray → ℕ → ℕ → Tree
   bear legs live n r k g = bear_as r.far legs live n r k g
 
-  -- the first part of a move: one step, or any number of them
+  -- the first part of a move: the distance is one step, or at least one on a far ray
   abbrev pub distance_as : Bool → Var → Tree
   distance_as true t = Lin ((negsuc 0, t) ∷ []) Le (negsuc 0)
   distance_as false t = Lin ((pos 1, t) ∷ []) Eq (pos 1)
 
-  -- of a capture: the mover comes to the square of the man that is taken
+  -- of a capture: the mover reaches the square of the captured man
   abbrev pub capture_parts : List Leg → Leg → ℕ → List Tree
   capture_parts legs leg zero = []
   capture_parts legs leg (suc t) =
@@ -100,7 +100,7 @@ module _ (home : ℕ → Square) where
       if is_other live leg.man t (suc n) then clear_parts legs leg live t n ++ Not (on_way legs leg (suc n)) ∷ []
       else clear_parts legs leg live t n
 
-  -- man by man and ray by ray, he does not bear on the king
+  -- by man and by ray, he does not attack the king
   abbrev pub safe_parts : List Leg → List Man → (ℕ → Bool) → List Bearing → List Tree
   safe_parts legs men live bearings =
       map (λ b. Not (bear legs live (length men) (ray_at men b.man b.ray) b.man b.king)) bearings

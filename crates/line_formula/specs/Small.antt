@@ -1,4 +1,4 @@
--- What is small enough for the numbers of the code.
+-- The sizes that fit the numbers of the code.
 use Rattle.std.specs.Prelude.{◌≡◌, ◌≤◌, ◌+◌, ◌^◌, ℕ, List, length, unsigned_abs, All, Some}
 use Rattle.chess_game.specs.declared.position.TheConstants.{MOST_CROWD}
 use Rattle.game_rules.specs.declared.men.Man.{Man}
@@ -10,7 +10,7 @@ use Rattle.line_formula.specs.declared.gap.Gap.{Gap}
 use Rattle.line_formula.specs.declared.leg.Leg.{Leg}
 use Rattle.line_formula.specs.declared.leg.TheConstants.{MOST_LEGS}
 
--- a step of at most two squares one way and one the other
+-- a step of at most two squares in one coordinate and one in the other
 pub record IsSmallRay (r : Ray) : Type 0 where
   pub right : unsigned_abs r.dx ≤ 2
   pub up : unsigned_abs r.dy ≤ 2
@@ -25,16 +25,16 @@ pub record IsSmallGap (g : Gap) : Type 0 where
 abbrev pub IsSmallLeg : Leg → Type 0
 IsSmallLeg leg = IsSmallRay leg.ray
 
--- no farther out than 2^60
+-- coordinates of at most 2^60 in absolute value
 pub record IsNearSquare (z : Square) : Type 0 where
   pub x : unsigned_abs z.x ≤ 2 ^ 60
   pub y : unsigned_abs z.y ≤ 2 ^ 60
 
--- all men stand on such squares
+-- all men are on such squares
 abbrev pub AreNear : List Man → Type 0
 AreNear men = (k : ℕ) (m : Man) (z : Square) → stock_man men k ≡ Some m → StandsOn m z → IsNearSquare z
 
--- no more men than a crowd has, near enough, and few legs, of small steps
+-- at most as many men as a crowd has, on near squares, and few legs with small steps
 pub record IsScene (men : List Man) (legs : List Leg) : Type 0 where
   pub few_men : length men ≤ MOST_CROWD
   pub near : AreNear men

@@ -17,7 +17,7 @@ use lin_formula::Formula;
 use std::alloc::{AllocError, Global};
 use track_word::{Rel, Var};
 
-/// Both formulas.
+/// Returns the conjunction.
 pub(crate) fn both(alloc: Global, first: Formula, second: Formula) -> Result<Formula, AllocError>
     ensures { IfOk result (λ f. tree_of f ≡ tree.And (tree_of first) (tree_of second)) }
 {
@@ -27,7 +27,7 @@ pub(crate) fn both(alloc: Global, first: Formula, second: Formula) -> Result<For
     }
 }
 
-/// The formula that holds where this one does not.
+/// Returns the negation. Errors: an allocation failed.
 pub fn not(alloc: Global, formula: Formula) -> Result<Formula, AllocError>
     ensures { IfOk result (λ f. tree_of f ≡ tree.Not (tree_of formula)) }
 {
@@ -37,7 +37,7 @@ pub fn not(alloc: Global, formula: Formula) -> Result<Formula, AllocError>
     }
 }
 
-/// The sum of the terms against the bound.
+/// Returns the comparison of the sum of the terms with the bound.
 pub(crate) fn sum(
     alloc: Global,
     terms: &[(i8, Var)],
@@ -54,7 +54,7 @@ pub(crate) fn sum(
     }
 }
 
-/// The same where the held variable is the constant.
+/// Returns the same with the constant as the value of the held variable.
 fn compared(
     alloc: Global,
     constant: i64,
@@ -74,7 +74,7 @@ fn compared(
     }
 }
 
-/// The weighed gap of two men of the scene against the bound.
+/// Returns the comparison of the weighted gap of two men of the scene with the bound.
 pub(crate) fn gap_formula(
     alloc: Global,
     scene: Scene,
@@ -93,7 +93,7 @@ pub(crate) fn gap_formula(
     compared(alloc, constant, terms.as_slice(), rel, bound)
 }
 
-/// The measure of the second man from the first is at most the distance of the next leg.
+/// Returns the formula that the measure from the first man to the second is at most the distance of the next leg.
 pub(crate) fn reached(
     alloc: Global,
     scene: Scene,

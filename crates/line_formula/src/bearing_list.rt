@@ -1,4 +1,4 @@
-//! The rays along which the men of a side bear on the other side's king.
+//! The attack directions of the men of a side against the other side's king.
 
 ghost use Rattle.std.specs.Prelude.{◌≡◌, ◌≤◌, ◌++◌, IfOk, OnOk, Some, length};
 ghost use Rattle.rule_formula.specs.Bearings.{along_rays, bearings_of, is_king_man, king_number as number_of_king, king_to, man_bearings};
@@ -10,17 +10,17 @@ use game_rules::{Kind, Man, Side};
 use rule_formula::{Bearing, is_king, is_side, serves_captures};
 use std::alloc::{AllocError, Global};
 
-/// The ways in which men may bear.
+/// A list of attack directions.
 type Bearings = Vec<Bearing>;
 
-/// Whether the man is the king of the side.
+/// Returns whether the man is the king of the side.
 fn is_king_of(man: Man, side: Side) -> bool
     ensures { result ≡ is_king_man side (Some man) }
 {
     is_side(man.side, side) && is_king(man.kind)
 }
 
-/// The number of the side's king, or 0.
+/// Returns the number of the side's king, or 0.
 fn king_number(men: &[Man], side: Side) -> u8
     requires { length men.now ≤ MOST_CROWD }
     ensures { result ≡ number_of_king men.now side }
@@ -28,7 +28,7 @@ fn king_number(men: &[Man], side: Side) -> u8
     king_among(men, side, men.len() as u8)
 }
 
-/// The number of the last king of the side among the first men, or 0.
+/// Returns the number of the last king of the side among the first men, or 0.
 fn king_among(men: &[Man], side: Side, count: u8) -> u8
     requires { count ≤ length men.now }
     ensures { result ≡ king_to men.now side count }
@@ -78,7 +78,8 @@ fn push_man(
     push_rays(bearings, man.kind, number, king, count)
 }
 
-/// The ways in which the side's men may bear on the other side's king where the men of the mask are live: by man, then by ray.
+/// Returns the possible attacks of the side's men on the other side's king if the men of the mask are live, ordered by man and then
+/// by ray. Errors: an allocation failed.
 pub fn bearings(alloc: Global, men: &[Man], force: Force) -> Result<Vec<Bearing>, AllocError>
     requires { length men.now ≤ MOST_CROWD }
     ensures { IfOk result (λ all. all.items ≡ bearings_of men.now force.mask force.side) }

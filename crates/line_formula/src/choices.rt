@@ -1,4 +1,4 @@
-//! The options of a side in a mask.
+//! The options (move types) of a side in a mask.
 
 ghost use Rattle.std.specs.Prelude.{◌≡◌, ◌↔◌, ◌≤◌, ◌++◌, Contains, IfOk, OnOk, length};
 ghost use Rattle.rule_formula.specs.declared.opt.Opt.{Opt};
@@ -12,10 +12,10 @@ use game_rules::{Kind, Man};
 use rule_formula::{Opt, is_king, is_side, serves_captures, serves_moves};
 use std::alloc::{AllocError, Global};
 
-/// The ways in which men may go.
+/// A list of options.
 type Opts = Vec<Opt>;
 
-/// Whether the man of this number is a live enemy other than the king.
+/// Returns whether the man with this number is a live enemy other than the king.
 fn is_prey(men: &[Man], force: Force, number: u8) -> bool
     requires low { 1 ≤ number }
     requires high { number ≤ length men.now }
@@ -46,7 +46,7 @@ fn push_captures(
     Ok(())
 }
 
-/// A man who may go, by his number and his kind.
+/// A man that may move, by his number and kind.
 #[derive(Clone, Copy)]
 struct Mover {
     man: u8,
@@ -114,7 +114,7 @@ fn push_man(
     push_rays(options, men, force, mover, ray_count(man.kind, man.side))
 }
 
-/// The list itself.
+/// Returns the list.
 fn list(alloc: Global, men: &[Man], force: Force) -> Result<Opts, AllocError>
     requires { length men.now ≤ MOST_CROWD }
     ensures { IfOk result (λ all. all.items ≡ options_of men.now force.mask force.side) }
@@ -128,7 +128,8 @@ fn list(alloc: Global, men: &[Man], force: Force) -> Result<Opts, AllocError>
     Ok(options)
 }
 
-/// The ways in which the side's men may go where the men of the mask are live: by man, then by ray, then by the man that is taken.
+/// Returns the options of the side's men if the men of the mask are live, ordered by man, then by ray, then by captured man.
+/// Errors: an allocation failed.
 pub fn options(alloc: Global, men: &[Man], force: Force) -> Result<Vec<Opt>, AllocError>
     requires { length men.now ≤ MOST_CROWD }
     ensures list { IfOk result (λ all. all.items ≡ options_of men.now force.mask force.side) }

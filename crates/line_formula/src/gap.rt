@@ -1,4 +1,4 @@
-//! How the places of two men compare.
+//! Comparisons of two men's places.
 
 ghost use Rattle.std.specs.Prelude.{◌≡◌, ◌≤◌, ◌^◌, ◌*◌, ◌+◌, ◌*ℤ◌, ◌-ℤ◌, ◌+ℤ◌, length, unsigned_abs};
 ghost use Rattle.line_formula.specs.Atoms.{constant as constant_of, weight as weight_of};
@@ -10,20 +10,20 @@ use crate::leg::Leg;
 use crate::men::first_spot;
 use game_rules::{Man, Ray};
 
-/// How far one man is to the right of another and above him, each weighed.
+/// A weighted sum of the distances from one man to another, to the right and upwards.
 #[derive(Clone, Copy, PartialEq, Eq)]
 pub struct Gap {
-    /// The weight of each square to the right.
+    /// The weight of a square to the right.
     pub right: i8,
-    /// The weight of each square up.
+    /// The weight of a square upwards.
     pub up: i8,
-    /// The number of the other man.
+    /// The number of the man at the start.
     pub from: u8,
-    /// The number of the one man.
+    /// The number of the man at the end.
     pub to: u8,
 }
 
-/// How far the second man is to the right of the first.
+/// Returns the gap to the right, from the first man to the second.
 pub(crate) fn across(from: u8, to: u8) -> Gap
     ensures is { result ≡ across_gap from to }
     ensures small { IsSmallGap result }
@@ -36,7 +36,7 @@ pub(crate) fn across(from: u8, to: u8) -> Gap
     }
 }
 
-/// How far the second man is above the first.
+/// Returns the gap upwards, from the first man to the second.
 pub(crate) fn upward(from: u8, to: u8) -> Gap
     ensures is { result ≡ upward_gap from to }
     ensures small { IsSmallGap result }
@@ -49,7 +49,7 @@ pub(crate) fn upward(from: u8, to: u8) -> Gap
     }
 }
 
-/// What is 0 where the second man stands on the line through the first along the ray.
+/// Returns a gap that is 0 if the second man is on the line through the first along the ray.
 pub(crate) fn off_line(ray: Ray, from: u8, to: u8) -> Gap
     requires { IsSmallRay ray }
     ensures is { result ≡ off_line_gap ray from to }
@@ -63,7 +63,7 @@ pub(crate) fn off_line(ray: Ray, from: u8, to: u8) -> Gap
     }
 }
 
-/// How many steps along the ray it is from the first man to the second, if he stands on that line.
+/// Returns the number of steps along the ray from the first man to the second, if he is on that line.
 pub(crate) fn measure(ray: Ray, from: u8, to: u8) -> Gap
     requires { IsSmallRay ray }
     ensures is { result ≡ measure_gap ray from to }
@@ -86,7 +86,7 @@ pub(crate) fn measure(ray: Ray, from: u8, to: u8) -> Gap
     }
 }
 
-/// The gap the other way round.
+/// Returns the negated gap.
 pub(crate) fn opposite(gap: Gap) -> Gap
     requires { IsSmallGap gap }
     ensures is { result ≡ opposite_gap gap }
@@ -99,7 +99,7 @@ pub(crate) fn opposite(gap: Gap) -> Gap
     }
 }
 
-/// So many squares, weighed.
+/// Returns the weight times a number of squares.
 fn weighed(weight: i8, squares: i64) -> i64
     requires small { unsigned_abs weight ≤ 2 }
     requires near { unsigned_abs squares ≤ 2 ^ 61 }
@@ -109,7 +109,7 @@ fn weighed(weight: i8, squares: i64) -> i64
     i64::from(weight) * squares
 }
 
-/// How far it is from the one number to the other.
+/// Returns the second number minus the first.
 fn between(from: i64, to: i64) -> i64
     requires first { unsigned_abs from ≤ 2 ^ 60 }
     requires second { unsigned_abs to ≤ 2 ^ 60 }
@@ -119,7 +119,7 @@ fn between(from: i64, to: i64) -> i64
     to - from
 }
 
-/// Both together.
+/// Returns the sum.
 fn total(right: i64, up: i64) -> i64
     requires { unsigned_abs right + unsigned_abs up ≤ 3 * 2 ^ 61 }
     ensures { result ≡ right +ℤ up }
@@ -127,7 +127,7 @@ fn total(right: i64, up: i64) -> i64
     right + up
 }
 
-/// What the first squares of the gap's men give.
+/// Returns the gap of the men's first squares.
 #[tactic(auto, using(crate::proofs::GapLemmas::gap_sums))]
 pub(crate) fn constant(men: &[Man], gap: Gap) -> i64
     requires near { AreNear men.now }
@@ -144,7 +144,7 @@ pub(crate) fn constant(men: &[Man], gap: Gap) -> i64
     total(right, up)
 }
 
-/// How far one step of the leg brings the man to the right.
+/// Returns how far a step of the leg moves the man to the right.
 fn right_step(man: u8, leg: Leg) -> i8
     requires { IsSmallRay leg.ray }
     ensures is { result ≡ step_x man leg }
@@ -153,7 +153,7 @@ fn right_step(man: u8, leg: Leg) -> i8
     if leg.man == man { leg.ray.dx } else { 0 }
 }
 
-/// How far one step of the leg brings the man up.
+/// Returns how far a step of the leg moves the man upwards.
 fn up_step(man: u8, leg: Leg) -> i8
     requires { IsSmallRay leg.ray }
     ensures is { result ≡ step_y man leg }
@@ -162,7 +162,7 @@ fn up_step(man: u8, leg: Leg) -> i8
     if leg.man == man { leg.ray.dy } else { 0 }
 }
 
-/// The difference of two steps.
+/// Returns the second step minus the first.
 fn step_between(from: i8, to: i8) -> i8
     requires first { unsigned_abs from ≤ 2 }
     requires second { unsigned_abs to ≤ 2 }
@@ -172,7 +172,7 @@ fn step_between(from: i8, to: i8) -> i8
     to - from
 }
 
-/// The difference of two steps, weighed.
+/// Returns the weight times a step.
 fn step_weighed(weight: i8, step: i8) -> i8
     requires weight { unsigned_abs weight ≤ 2 }
     requires step { unsigned_abs step ≤ 4 }
@@ -182,7 +182,7 @@ fn step_weighed(weight: i8, step: i8) -> i8
     weight * step
 }
 
-/// Both together.
+/// Returns the sum.
 fn step_total(right: i8, up: i8) -> i8
     requires first { unsigned_abs right ≤ 8 }
     requires second { unsigned_abs up ≤ 8 }
@@ -192,7 +192,7 @@ fn step_total(right: i8, up: i8) -> i8
     right + up
 }
 
-/// By how much each step of the leg changes the gap.
+/// Returns the change of the gap by a step of the leg.
 #[tactic(auto, using(crate::proofs::GapLemmas::gap_sums))]
 pub(crate) fn weight(gap: Gap, leg: Leg) -> i8
     requires small { IsSmallGap gap }

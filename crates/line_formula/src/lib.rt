@@ -1,9 +1,10 @@
-//! The rules of chess as formulas on the distances of a path's moves. A path is a list of moves, each by a man along a ray. How far
-//! each goes is left open and stands in a variable, so that each man's place after the path is a linear expression in the distances,
-//! however many men there are. `specs/Places` says where men stand, `specs/Atoms` how places are compared, `specs/Rules` what the parts
-//! of a move and of a check are, `specs/Paths` what a path of options leads to. `specs/Laws` has what the formulas mean: the parts of a
-//! further move hold exactly at the distances at which it is legal. There is no limit on the number of men there; the code takes as
-//! many as a crowd has, near enough for an `i64`. No kind of man is spoken of but by the table of rays.
+//! Expresses the rules of chess as formulas on the distances of a path's moves.
+//! A path is a list of moves, each by a man along a ray. Each distance is a variable, so the place of each man after the path is a
+//! linear expression in the distances, however many men there are. `specs/Places` defines the places, `specs/Atoms` their
+//! comparisons, `specs/Rules` the parts of a move and of a check, and `specs/Paths` the positions after a path of options.
+//! `specs/Laws` states the meaning: the parts of a further move are true at exactly the distances at which it is legal. The
+//! definitions do not limit the number of men; the code takes as many as a crowd has, whose coordinates fit an `i64`. Only the
+//! table of rays depends on the kinds of men.
 #![tactic(auto)]
 
 mod atoms;

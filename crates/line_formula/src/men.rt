@@ -1,4 +1,4 @@
-//! The men, by number.
+//! The men by number.
 
 ghost use Rattle.std.specs.Prelude.{◌≡◌, ◌≤◌, ◌^◌, Some, length, unsigned_abs};
 ghost use Rattle.game_laws.specs.Stock.{stock_man};
@@ -10,7 +10,7 @@ ghost use Rattle.line_formula.specs.Small.{AreNear, IsSmallRay};
 use chess_game::{MOST_CROWD, ray};
 use game_rules::{Man, Place, Ray};
 
-/// The man of this number, counted from 1.
+/// Returns the man with this number, from 1.
 pub fn man_of(men: &[Man], number: u8) -> Man
     requires low { 1 ≤ number }
     requires high { number ≤ length men.now }
@@ -19,7 +19,7 @@ pub fn man_of(men: &[Man], number: u8) -> Man
     men[number as usize - 1]
 }
 
-/// Whether the man of this number is in the mask.
+/// Returns whether the man with this number is in the mask.
 pub fn is_live(mask: u32, number: u8) -> bool
     requires low { 1 ≤ number }
     requires high { number ≤ MOST_CROWD }
@@ -28,7 +28,7 @@ pub fn is_live(mask: u32, number: u8) -> bool
     mask >> (number - 1) & 1 == 1
 }
 
-/// A ray of a man; where he has none of this number, one that leads nowhere.
+/// Returns the ray of a man with this number, or one that leads nowhere if he has none.
 pub fn ray_at(men: &[Man], man: u8, number: u8) -> Ray
     requires low { 1 ≤ man }
     requires high { man ≤ length men.now }
@@ -46,14 +46,14 @@ pub fn ray_at(men: &[Man], man: u8, number: u8) -> Ray
     }
 }
 
-/// A square of which both numbers are at most 2^60 from 0.
+/// A square with coordinates of at most 2^60 in absolute value.
 #[derive(Clone, Copy)]
 pub(crate) struct Spot {
     pub(crate) x: i64,
     pub(crate) y: i64,
 }
 
-/// The first square of a man, or the middle of the board where he has none.
+/// Returns the first square of a man, or the origin if he has none.
 pub(crate) fn first_spot(men: &[Man], number: u8) -> Spot
     requires low { 1 ≤ number }
     requires high { number ≤ length men.now }

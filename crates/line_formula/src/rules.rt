@@ -23,7 +23,7 @@ use rule_formula::Bearing;
 use std::alloc::{AllocError, Global};
 use track_word::{Rel, Var};
 
-/// The second man stands on the line through the first along the ray, ahead of him.
+/// Returns the formula that the second man is on the line through the first along the ray, ahead of him.
 fn on_line(alloc: Global, scene: Scene, ray: Ray, from: u8, to: u8) -> Result<Formula, AllocError>
     requires small { IsSmallRay ray }
     requires two { AreTwo scene.men.now from to }
@@ -36,7 +36,7 @@ fn on_line(alloc: Global, scene: Scene, ray: Ray, from: u8, to: u8) -> Result<Fo
     both(alloc, line, ahead)
 }
 
-/// The measure of the second man from the first is at least 1.
+/// Returns the formula that the measure from the first man to the second is at least 1.
 fn ahead(alloc: Global, scene: Scene, ray: Ray, from: u8, to: u8) -> Result<Formula, AllocError>
     requires small { IsSmallRay ray }
     requires two { AreTwo scene.men.now from to }
@@ -47,7 +47,7 @@ fn ahead(alloc: Global, scene: Scene, ray: Ray, from: u8, to: u8) -> Result<Form
     gap_formula(alloc, scene, gap, Rel::Le, -1)
 }
 
-/// The second man stands so far to the right of the first, and so far above him.
+/// Returns the formula that the second man is at this distance from the first, to the right and upwards.
 fn apart_by(
     alloc: Global,
     scene: Scene,
@@ -65,7 +65,7 @@ fn apart_by(
     both(alloc, right, up)
 }
 
-/// The first part of a move: the variable is one step, or any number of them.
+/// Returns the first part of a move: the distance is one step, or at least one on a far ray. Errors: an allocation failed.
 pub fn distance(alloc: Global, far: bool, var: Var) -> Result<Formula, AllocError>
     ensures { IfOk result (λ f. (start : ℕ → Square) → tree_of f ≡ distance_as start far var) }
 {
@@ -76,8 +76,8 @@ pub fn distance(alloc: Global, far: bool, var: Var) -> Result<Formula, AllocErro
     }
 }
 
-/// Of a capture: the mover, whose move is the last of the scene, comes to the square of the man that is taken. One part to the
-/// side, one up.
+/// Returns the parts of a capture: the mover, whose move is the last of the scene, reaches the square of the captured man. One part
+/// compares x, the other y. Errors: an allocation failed.
 pub fn captures(
     alloc: Global,
     scene: Scene,
@@ -95,7 +95,7 @@ pub fn captures(
     Ok((right, up))
 }
 
-/// The man of this number stands on the way of the leg that leads from the one scene to the other.
+/// Returns the formula that the man with this number is on the way of the leg between the two scenes. Errors: an allocation failed.
 pub fn on_way(
     alloc: Global,
     before: Scene,
@@ -119,7 +119,7 @@ pub fn on_way(
     }
 }
 
-/// Whether the man of this number is live and none of the two.
+/// Returns whether the man with this number is live and neither of the two.
 pub fn is_other(mask: u32, first: u8, second: u8, number: u8) -> bool
     requires low { 1 ≤ number }
     requires high { number ≤ MOST_CROWD }
@@ -128,7 +128,7 @@ pub fn is_other(mask: u32, first: u8, second: u8, number: u8) -> bool
     is_live(mask, number) && (number != first && number != second)
 }
 
-/// The man of this number stands between the bearing's man and the king on the ray.
+/// Returns the formula that the man with this number is between the attacking man and the king on the ray.
 fn screens(
     alloc: Global,
     scene: Scene,
@@ -147,7 +147,7 @@ fn screens(
     both(alloc, base, before)
 }
 
-/// The formula, and that the man of this number does not stand between the bearing's man and the king.
+/// Adds that the man with this number is not between the attacking man and the king.
 fn with_screen(
     alloc: Global,
     scene: Scene,
@@ -167,7 +167,8 @@ fn with_screen(
     both(alloc, chain, not(alloc, screen)?)
 }
 
-/// The bearing's man bears along his ray on the king, where the men of the mask are live.
+/// Returns the formula that the attack's man attacks the king along his ray, if the men of the mask are live. Errors: an allocation
+/// failed.
 pub fn bear(alloc: Global, scene: Scene, mask: u32, bearing: Bearing) -> Result<Formula, AllocError>
     requires two { AreTwo scene.men.now bearing.man bearing.king }
     ensures { IfOk result (λ f. tree_of f

@@ -11,10 +11,10 @@ use crate::leg::{Leg, MOST_LEGS};
 use std::alloc::{AllocError, Global};
 use track_word::Var;
 
-/// The variable that has the constant part of a sum.
+/// The variable of a sum's constant.
 pub(crate) const HELD: Var = Var(16);
 
-/// Adds a term, unless its coefficient is 0.
+/// Appends a term, unless its coefficient is 0.
 fn push_term(weight: i8, var: Var, terms: &mut Vec<(i8, Var)>) -> Result<(), AllocError>
     ensures { OnOk result (terms.new.items ≡ terms.old.items ++ with_term weight var []) }
 {
@@ -25,7 +25,7 @@ fn push_term(weight: i8, var: Var, terms: &mut Vec<(i8, Var)>) -> Result<(), All
     Ok(())
 }
 
-/// Adds the distances of the legs that change the gap, with their coefficients.
+/// Appends the distances of the legs that change the gap, with their coefficients.
 #[tactic(auto, using(crate::proofs::GapLemmas::term_lists))]
 fn push_terms(gap: Gap, legs: &[Leg], terms: &mut Vec<(i8, Var)>) -> Result<(), AllocError>
     requires gap { IsSmallGap gap }
@@ -43,7 +43,7 @@ fn push_terms(gap: Gap, legs: &[Leg], terms: &mut Vec<(i8, Var)>) -> Result<(), 
     }
 }
 
-/// The held variable, and the distances of the legs that change the gap.
+/// Returns the held variable and the distances of the legs that change the gap.
 pub(crate) fn terms(alloc: Global, gap: Gap, legs: &[Leg]) -> Result<Vec<(i8, Var)>, AllocError>
     requires gap { IsSmallGap gap }
     requires legs { All IsSmallLeg legs.now }
@@ -57,7 +57,7 @@ pub(crate) fn terms(alloc: Global, gap: Gap, legs: &[Leg]) -> Result<Vec<(i8, Va
     Ok(all)
 }
 
-/// The same, less the distance of the next leg.
+/// Returns the same minus the distance of the next leg.
 pub(crate) fn terms_less_next(
     alloc: Global,
     gap: Gap,

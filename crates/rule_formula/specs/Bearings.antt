@@ -1,4 +1,4 @@
--- The rays along which the men of a side bear on the other side's king, in order.
+-- The attack directions of the men of a side against the other side's king, in order.
 use Rattle.std.specs.Prelude.{◌≡◌, ℕ, zero, suc, Bool, false, ◌&&◌, nat_lt, if◌then◌else◌, List, [], ◌∷◌, ◌++◌, length, Option, Some, None}
 use Rattle.game_rules.specs.declared.men.Kind.{Kind}
 use Rattle.game_rules.specs.declared.men.Kind.TheVariants.{King}
@@ -28,30 +28,30 @@ king_number stock s = king_to stock s (length stock)
 abbrev pub bearing : ℕ → ℕ → ℕ → Bearing
 bearing k n g = record { man = k; ray = n; king = g }
 
--- those of man k along his first n rays
+-- the attacks of man k along his first n rays
 abbrev pub along_rays : Kind → ℕ → ℕ → ℕ → List Bearing
 along_rays sort k g zero = []
 along_rays sort k g (suc n) =
     if serves_captures sort n then along_rays sort k g n ++ bearing k n g ∷ [] else along_rays sort k g n
 
--- those of man k, if he is live and of the side
+-- the attacks of man k, if he is live and of the side
 abbrev pub man_bearings : ℕ → Side → ℕ → ℕ → Option Man → List Bearing
 man_bearings mask s g k None = []
 man_bearings mask s g k (Some m) =
     if is_live mask k && is_side m.side s then along_rays m.kind k g (length (rays_of m.kind m.side)) else []
 
--- those of the first n men
+-- the attacks of the first n men
 abbrev pub bearings_to : List Man → ℕ → Side → ℕ → ℕ → List Bearing
 bearings_to stock mask s g zero = []
 bearings_to stock mask s g (suc n) =
     bearings_to stock mask s g n ++ man_bearings mask s g (suc n) (stock_man stock (suc n))
 
--- none where the other side has no king
+-- empty if the other side has no king
 abbrev pub bearings_of : List Man → ℕ → Side → List Bearing
 bearings_of stock mask s =
     if nat_lt 0 (king_number stock (other s)) then bearings_to stock mask s (king_number stock (other s)) (length stock) else []
 
--- a live man of the side, a ray along which he bears, and the other side's king
+-- a live man of the side, a ray along which he attacks, and the other side's king
 pub record IsBearingOf (stock : List Man) (mask : ℕ) (s : Side) (b : Bearing) : Type 0 where
   pub bearer : IsBearer stock mask b.man b.ray b.king
   pub side : bearer.man.side ≡ s

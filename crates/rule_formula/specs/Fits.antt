@@ -12,8 +12,8 @@ use Rattle.rule_formula.specs.Placed.{is_live}
 use Rattle.mask_sets.specs.Stock.{mask_of}
 use Rattle.game_laws.specs.Stock.{HasStock, stock_man}
 
--- q may come up in a game from p with this side to move: the same men, of whom none is back who was gone,
--- live men on distinct squares, and one king a side at most, who is live, and some king
+-- q can occur in a game from p with this side to move: the same men, of whom no captured one is live again, live men on distinct
+-- squares, at most one king of each side, which is live, and at least one king
 pub record Fits (p : Position) (side : Side) (q : Position) : Type 0 where
   pub stock : HasStock p.men q
   pub none_back : (k : ℕ) (m n : Man) → man_at p k ≡ Some m → man_at q k ≡ Some n → m.place ≡ Gone → n.place ≡ Gone
@@ -21,7 +21,7 @@ pub record Fits (p : Position) (side : Side) (q : Position) : Type 0 where
   pub apart : IsApart q
   pub kings : HasKings q
 
--- the mask without a man, or with no man the mask
+-- the mask without a man, or the mask itself for man 0
 abbrev pub mask_without : ℕ → ℕ → ℕ
 mask_without mask zero = mask
 mask_without mask (suc t) = mask - 2 ^ t
@@ -30,7 +30,7 @@ mask_without mask (suc t) = mask - 2 ^ t
 abbrev pub target_of : ℕ → Opt → ℕ
 target_of mask o = mask_without mask o.taken
 
--- the mask of some of the live men, with each king among them
+-- a mask of some of the live men that contains each king
 pub record IsGameMask (p : Position) (mask : ℕ) : Type 0 where
   pub no_more : mask < 2 ^ length p.men
   pub live : (k : ℕ) (m : Man) → man_at p k ≡ Some m → is_live mask k ≡ true → m.place ≢ Gone
@@ -50,15 +50,15 @@ has_kings stock mask zero = true
 has_kings stock mask (suc n) =
     (not (is_king_at (stock_man stock (suc n))) || is_live mask (suc n)) && has_kings stock mask n
 
--- it is one of some live men, with each king
+-- it contains only live men, and each king
 abbrev pub is_game_mask : Position → ℕ → Bool
 is_game_mask p mask = is_part mask (mask_of p) && has_kings p.men mask (length p.men)
 
--- those of the first n numbers
+-- the masks among the first n numbers
 abbrev pub masks_to : Position → ℕ → List ℕ
 masks_to p zero = []
 masks_to p (suc n) = if is_game_mask p n then masks_to p n ++ n ∷ [] else masks_to p n
 
--- the masks of the position, ascending
+-- the masks of the position in ascending order
 abbrev pub masks_of : Position → List ℕ
 masks_of p = masks_to p (mask_of p + 1)

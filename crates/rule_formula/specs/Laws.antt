@@ -1,4 +1,4 @@
--- Laws of the options and of bearing along rays.
+-- Laws of the options and of attacks along rays.
 use Rattle.std.specs.Prelude.{◌↔◌, ℕ, Contains, ◌≡◌, ◌≤◌, List, length}
 use Rattle.game_rules.specs.declared.men.Square.{Square}
 use Rattle.game_rules.specs.Game.{IsMaskOf, Position, Sound, Step}
@@ -18,11 +18,11 @@ StepsTo p q = (i : ℕ) × (z : Square) × Step p i z q
 abbrev pub SomeOptionLeads : ℕ → Position → Position → Type 0
 SomeOptionLeads mask p q = (o : Opt) × Contains (options_of p.men mask p.turn) o × TakesOption o p q
 
--- in a sound position the steps are those of the options together
+-- in a sound position the steps are those of the options
 abbrev pub StepsAreByOptions : Type 0
 StepsAreByOptions = (p q : Position) (mask : ℕ) → Sound p → IsMaskOf p mask → StepsTo p q ↔ SomeOptionLeads mask p q
 
--- the free variables of an image are those of the men who are live after the step
+-- the free variables of an image are those of the men that are live after the step
 abbrev pub ImageIsOverTracks : Type 0
 ImageIsOverTracks =
     (stock : List Man) (mask : ℕ) (o : Opt) (s : ℕ) → length stock ≤ 8 → IsOptionOf stock mask o →

@@ -1,4 +1,4 @@
--- What the formulas of the rules mean at the positions of one game.
+-- The meaning of the formulas of the rules at the positions of one game.
 use Rattle.std.specs.Prelude.{◌≡◌, ◌↔◌, ℕ, ◌<◌, ◌≤◌, List, length, ℤ, Contains, Some}
 use Rattle.game_rules.specs.declared.men.Side.{Side}
 use Rattle.game_rules.specs.Game.{HasKings, InCheck, Position, Sound, other}
@@ -35,11 +35,11 @@ IsImageOf p side m o s tuple =
     (q : Position) × (r : Position) × Fits p side q × (mask_of q ≡ m) × TakesOption o q r × Member s (tuple_of q)
     × (tuple_of r ≡ tuple)
 
--- the position is in the one set, and a step by the option leads from it into the other
+-- the position is in the first set, and a step by the option leads from it into the second
 abbrev pub IsBefore : Opt → SetOf → SetOf → Position → Type 0
 IsBefore o s t q = Member s (tuple_of q) × ((r : Position) × TakesOption o q r × Member t (tuple_of r))
 
--- the man of the bearing bears on the king along the ray
+-- the attack's man attacks the king along the ray
 abbrev pub BearsOnKing : Bearing → Position → Type 0
 BearsOnKing b q = BearsBy b.man b.ray b.king q
 
@@ -92,7 +92,7 @@ pub record BearingsMean (p : Position) (m : ℕ) (b : Bearing) : Type 0 where
   pub safe_within : (a : ℕ) (e : ℕ → SetOf) (tuple : List ℤ)
       → Member (Where (safe_of p.men m b.man b.ray b.king a) e) tuple → Member (e a) tuple
 
--- the formula of two men, at all positions of the stock with the mask, also where men stand on one square
+-- the formula of two men, at all positions of the stock with the mask, including those with men on one square
 pub record PairsMean (p : Position) (m : ℕ) (w : ManPair) : Type 0 where
   pub tracks : (a : ℕ) → free_vars (twins_tree 8 m w.first w.second a) ≡ mask_tracks p m
   pub twins : (a : ℕ) (e : ℕ → SetOf) (q : Position) → HasStock p.men q → mask_of q ≡ m
@@ -101,7 +101,7 @@ pub record PairsMean (p : Position) (m : ℕ) (w : ManPair) : Type 0 where
   pub within : (a : ℕ) (e : ℕ → SetOf) (tuple : List ℤ) → Member (Where (twins_tree 8 m w.first w.second a) e) tuple
       → Member (e a) tuple
 
--- up to eight men, with a king, and one a side at most, who is live
+-- at most eight men, with a king, and at most one of each side, which is live
 pub record IsGame (p : Position) : Type 0 where
   pub few : length p.men ≤ 8
   pub kings : HasKings p

@@ -1,4 +1,4 @@
--- What the formulas of the rules say of positions.
+-- The meaning of the formulas of the rules at positions.
 use Rattle.std.specs.Prelude.{◌≡◌, ◌≢◌, ◌↔◌, ℕ, zero, suc, ◌^◌, ◌<◌, ◌≤◌, true, List, length, Some}
 use Rattle.std.specs.List.{Any}
 use Rattle.game_rules.specs.declared.men.Kind.{Kind}
@@ -19,7 +19,7 @@ use Rattle.lin_formula.specs.Holds.{Holds, Sets}
 use Rattle.lin_formula.specs.SetOf.{SetOf, members}
 use Rattle.track_word.specs.Tracks.{Values}
 
--- man k bears along the ray on the square of man g
+-- man k attacks the square of man g along the ray
 pub record BearsAlong (r : Ray) (k g : ℕ) (p : Position) : Type 0 where
   pub man : Man
   pub target : Man
@@ -32,12 +32,12 @@ pub record BearsAlong (r : Ray) (k g : ℕ) (p : Position) : Type 0 where
   pub along : IsAlong r from to
   pub bears : Bears p man to
 
--- man t stands on the square, or with no t nobody
+-- man t stands on the square, or the square is empty if t is 0
 abbrev pub Takes : ℕ → Position → Square → Type 0
 Takes zero p z = IsEmptySquare p z
 Takes (suc t) p z = (m : Man) × (man_at p (suc t) ≡ Some m) × StandsOn m z
 
--- man i goes along the ray, and takes man t, or with no t nobody
+-- man i moves along the ray, and takes man t, or nobody if t is 0
 pub record StepsBy (i : ℕ) (r : Ray) (t : ℕ) (p q : Position) : Type 0 where
   pub man : Man
   pub from : Square
@@ -48,19 +48,19 @@ pub record StepsBy (i : ℕ) (r : Ray) (t : ℕ) (p q : Position) : Type 0 where
   pub takes : Takes t p to
   pub step : Step p i to q
 
--- the ray serves a move with this prey
+-- the ray allows a move with this capture
 abbrev pub Serves : Kind → ℕ → ℕ → Type 0
 Serves k n zero = serves_moves k n ≡ true
 Serves k n (suc t) = serves_captures k n ≡ true
 
--- man t is a live enemy other than the king, or there is no t
+-- man t is a live enemy other than the king, or t is 0
 abbrev pub IsPrey : List Man → ℕ → Side → ℕ → Type 0
 IsPrey stock mask side zero = Unit {0}
 IsPrey stock mask side (suc t) =
     (m : Man) × (stock_man stock (suc t) ≡ Some m) × (is_live mask (suc t) ≡ true) × (m.side ≡ other side)
     × (m.kind ≢ King)
 
--- going along ray n, taking man t, or with no t nobody, is an option of man i
+-- moving along ray n and taking man t, or nobody if t is 0, is an option of man i
 pub record IsOption (stock : List Man) (mask i n t : ℕ) (man : Man) (r : Ray) : Type 0 where
   pub is_man : stock_man stock i ≡ Some man
   pub live : is_live mask i ≡ true
@@ -68,7 +68,7 @@ pub record IsOption (stock : List Man) (mask i n t : ℕ) (man : Man) (r : Ray) 
   pub serves : Serves man.kind n t
   pub prey : IsPrey stock mask man.side t
 
--- ray n of man k bears, and man g is another live man
+-- man k can attack along ray n, and man g is another live man
 pub record IsBearing (stock : List Man) (mask k n g : ℕ) (man target : Man) (r : Ray) : Type 0 where
   pub is_man : stock_man stock k ≡ Some man
   pub live : is_live mask k ≡ true
@@ -102,7 +102,7 @@ IsReached e s stock mask side o q =
     (f : ℕ → Square) × IsMember e s (placed stock (is_live mask) side f)
     × TakesOption o (placed stock (is_live mask) side f) q
 
--- the formula holds of the positions that are reached by the option from the set
+-- the formula is true at the positions that the option reaches from the set
 abbrev pub ImageHolds : Sets → List Man → ℕ → Opt → ℕ → Tree → Type 0
 ImageHolds e stock mask o s t =
     (man : Man) (v : Values) → stock_man stock o.man ≡ Some man → HoldsApart e s stock (is_live mask) man.side →
@@ -110,14 +110,14 @@ ImageHolds e stock mask o s t =
     ↔ IsReached e s stock mask man.side o
     (placed stock (without (is_live mask) o.taken) (other man.side) (squares v))
 
--- ray n of man k bears, and man g is another live man
+-- man k can attack along ray n, and man g is another live man
 pub record IsBearer (stock : List Man) (mask k n g : ℕ) : Type 0 where
   pub man : Man
   pub target : Man
   pub ray : Ray
   pub is : IsBearing stock mask k n g man target ray
 
--- man k bears along his ray n on the square of man g
+-- man k attacks the square of man g along his ray n
 pub record BearsBy (k n g : ℕ) (p : Position) : Type 0 where
   pub man : Man
   pub ray : Ray
@@ -125,7 +125,7 @@ pub record BearsBy (k n g : ℕ) (p : Position) : Type 0 where
   pub is_ray : ray_of man.kind man.side n ≡ Some ray
   pub bears : BearsAlong ray k g p
 
--- the formula holds of the positions of the set in which man k bears along his ray n on man g
+-- the formula is true at the positions of the set in which man k attacks man g along his ray n
 abbrev pub BearHolds : Sets → List Man → ℕ → ℕ → ℕ → ℕ → ℕ → Tree → Type 0
 BearHolds e stock mask k n g s t =
     (turn : Side) (v : Values) →
@@ -139,7 +139,7 @@ Reaches e s stock mask side o p =
     (g : ℕ → Square) × IsMember e s (placed stock (without (is_live mask) o.taken) (other side) g)
     × TakesOption o p (placed stock (without (is_live mask) o.taken) (other side) g)
 
--- the formula holds of the positions of the one set from which the option leads into the other
+-- the formula is true at the positions of the first set from which the option leads into the second
 abbrev pub PreHolds : Sets → List Man → ℕ → Opt → ℕ → ℕ → Tree → Type 0
 PreHolds e stock mask o s q t =
     (man : Man) (v : Values) → stock_man stock o.man ≡ Some man → HoldsApart e s stock (is_live mask) man.side →
@@ -147,7 +147,7 @@ PreHolds e stock mask o s q t =
     ↔ (IsMember e s (placed stock (is_live mask) man.side (squares v))
     × Reaches e q stock mask man.side o (placed stock (is_live mask) man.side (squares v)))
 
--- the formula holds of the positions of the set in which man k does not bear along his ray n on man g
+-- the formula is true at the positions of the set in which man k does not attack man g along his ray n
 abbrev pub SafeHolds : Sets → List Man → ℕ → ℕ → ℕ → ℕ → ℕ → Tree → Type 0
 SafeHolds e stock mask k n g s t =
     (turn : Side) (v : Values) →
@@ -169,7 +169,7 @@ pub record AreTwins (a b : ℕ) (p : Position) : Type 0 where
 abbrev pub HasLiveMan : Position → Type 0
 HasLiveMan p = Any (λ m. m.place ≢ Gone) p.men
 
--- the formula holds of the positions of the set in which men a and b stand on one square
+-- the formula is true at the positions of the set in which men a and b stand on one square
 abbrev pub TwinsHolds : Sets → ℕ → ℕ → ℕ → ℕ → Tree → Type 0
 TwinsHolds e mask a b s t =
     (stock : List Man) (turn : Side) (v : Values) → length stock ≤ 8 → mask < 2 ^ length stock →
@@ -177,13 +177,13 @@ TwinsHolds e mask a b s t =
     ↔ (IsMember e s (placed stock (is_live mask) turn (squares v))
     × AreTwins a b (placed stock (is_live mask) turn (squares v)))
 
--- the formula holds of the places of the men alone
+-- the formula is true only for the places of the men
 abbrev pub PointHolds : Sets → List Man → Tree → Type 0
 PointHolds e men t =
     (v : Values)
     → Holds t e v ↔ ((k : ℕ) (m : Man) (z : Square) → stock_man men k ≡ Some m → StandsOn m z → squares v k ≡ z)
 
--- the same for all sets, as data
+-- the same for all sets as data
 abbrev pub IsImage : List Man → ℕ → Opt → ℕ → Tree → Type 0
 IsImage stock mask o s t = (e : ℕ → SetOf) → ImageHolds (members e) stock mask o s t
 

@@ -38,7 +38,7 @@ captures_to stock mask s i n (suc k) =
     if is_prey stock mask s (suc k) then captures_to stock mask s i n k ++ option i n (suc k)
     ∷ [] else captures_to stock mask s i n k
 
--- those of all men
+-- the captures of all men
 abbrev pub captures_of : List Man → ℕ → Side → ℕ → ℕ → List Opt
 captures_of stock mask s i n = captures_to stock mask s i n (length stock)
 
@@ -48,22 +48,22 @@ ray_options stock mask s sort i n =
     (if serves_moves sort n then option i n 0 ∷ [] else [])
     ++ (if serves_captures sort n then captures_of stock mask s i n else [])
 
--- those along the first n rays
+-- the options along the first n rays
 abbrev pub rays_to : List Man → ℕ → Side → Kind → ℕ → ℕ → List Opt
 rays_to stock mask s sort i zero = []
 rays_to stock mask s sort i (suc n) = rays_to stock mask s sort i n ++ ray_options stock mask s sort i n
 
--- those of man i, if he is live and of the side
+-- the options of man i, if he is live and of the side
 abbrev pub his_options : List Man → ℕ → Side → ℕ → Man → List Opt
 his_options stock mask s i m =
     if is_live mask i && is_side m.side s then rays_to stock mask s m.kind i (length (rays_of m.kind m.side)) else []
 
--- those of man i, if there is one
+-- the options of man i, if he exists
 abbrev pub man_options : List Man → ℕ → Side → ℕ → Option Man → List Opt
 man_options stock mask s i None = []
 man_options stock mask s i (Some m) = his_options stock mask s i m
 
--- those of the first n men
+-- the options of the first n men
 abbrev pub options_to : List Man → ℕ → Side → ℕ → List Opt
 options_to stock mask s zero = []
 options_to stock mask s (suc n) =

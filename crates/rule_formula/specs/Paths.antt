@@ -1,4 +1,4 @@
--- How men go along rays, by their numbers and by seats.
+-- How men move along rays, by their numbers and by seats.
 use Rattle.std.specs.Prelude.{◌≡◌, ◌≢◌, ℕ, ◌≤◌, ℤ, unsigned_abs, List, length, Some}
 use Rattle.game_rules.specs.declared.men.Man.{Man}
 use Rattle.game_rules.specs.declared.men.Ray.{Ray}
@@ -8,13 +8,13 @@ use Rattle.rule_formula.specs.declared.seats.Seat.{Seat}
 use Rattle.rule_formula.specs.Seats.{IsSeat, own}
 use Rattle.rule_formula.specs.Trees.{AreApart, Suits}
 
--- the step of a ray: at most two each way, and one or the other way one
+-- the step of a ray: at most two in each coordinate, and one in at least one of them
 pub record IsRayStep (dx dy : ℤ) : Type 0 where
   pub short_right : unsigned_abs dx ≤ 2
   pub short_up : unsigned_abs dy ≤ 2
   pub one : (unsigned_abs dx ≡ 1 → ⊥) → unsigned_abs dy ≡ 1
 
--- man i goes by a ray, and does not take himself
+-- man i moves by a ray, and does not take himself
 pub record IsJourney (i : ℕ) (r : Ray) (t : ℕ) : Type 0 where
   pub low : 1 ≤ i
   pub high : i ≤ 8
@@ -22,7 +22,7 @@ pub record IsJourney (i : ℕ) (r : Ray) (t : ℕ) : Type 0 where
   pub apart : i ≢ t
   pub step : IsRayStep r.dx r.dy
 
--- man i of the stock has ray n, and man t is another of the stock, or there is no t
+-- man i of the stock has ray n, and man t is another one of the stock, or t is 0
 pub record HasJourney (stock : List Man) (i n t : ℕ) : Type 0 where
   pub man : Man
   pub ray : Ray
@@ -31,14 +31,14 @@ pub record HasJourney (stock : List Man) (i n t : ℕ) : Type 0 where
   pub taken : t ≤ length stock
   pub apart : i ≢ t
 
--- the ray may lead from the one seat to the other
+-- the ray may lead from the first seat to the second
 pub record IsStretch (r : Ray) (a b : Seat) : Type 0 where
   pub from : IsSeat a
   pub to : IsSeat b
   pub suits : Suits r a b
   pub step : IsRayStep r.dx r.dy
 
--- each man but two has variables of his own between these seats
+-- each man but two has variables of his own, which differ from these seats
 pub record IsPassedBy (a b : Seat) (i j : ℕ) : Type 0 where
   pub from : (k : ℕ) → 1 ≤ k → k ≤ 8 → k ≢ i → k ≢ j → AreApart a (own k)
   pub to : (k : ℕ) → 1 ≤ k → k ≤ 8 → k ≢ i → k ≢ j → AreApart (own k) b

@@ -1,4 +1,4 @@
--- Positions of a stock of men, by the squares of those that are live.
+-- Positions of a stock of men, by the squares of the live ones.
 use Rattle.std.specs.Prelude.{◌≡◌, ℕ, suc, ◌-◌, ◌≤◌, Bool, true, ◌==◌, ◌&&◌, not, if◌then◌else◌, List, [], ◌∷◌}
 use Rattle.std.specs.Int.{bit_at}
 use Rattle.game_rules.specs.declared.men.Side.{Side}
@@ -14,14 +14,14 @@ use Rattle.lin_formula.specs.Holds.{Sets}
 abbrev pub is_live : ℕ → ℕ → Bool
 is_live mask k = bit_at mask (k - 1) == 1
 
--- the live men without one of them
+-- the live men except one
 abbrev pub without : (ℕ → Bool) → ℕ → ℕ → Bool
 without live t k = live k && not (k == t)
 
 abbrev pub place_at : Bool → Square → Place
 place_at b z = if b then At z.x z.y else Gone
 
--- the stock, numbered on from k, with the live men on their squares
+-- the men of the stock, numbered from k, with the live ones on their squares
 abbrev pub men_from : ℕ → List Man → (ℕ → Bool) → (ℕ → Square) → List Man
 men_from k [] live f = []
 men_from k (m ∷ ms) live f = record m { place = place_at (live k) (f k) } ∷ men_from (suc k) ms live f
@@ -29,16 +29,16 @@ men_from k (m ∷ ms) live f = record m { place = place_at (live k) (f k) } ∷ 
 abbrev pub placed : List Man → (ℕ → Bool) → Side → (ℕ → Square) → Position
 placed stock live turn f = record { men = men_from 1 stock live f; turn = turn }
 
--- the set holds the position
+-- the position is in the set
 abbrev pub IsMember : Sets → ℕ → Position → Type 0
 IsMember e s p = e s (tuple_of p)
 
--- the set holds only positions whose live men stand on distinct squares
+-- the live men of each position of the set stand on distinct squares
 abbrev pub HoldsApart : Sets → ℕ → List Man → (ℕ → Bool) → Side → Type 0
 HoldsApart e s stock live turn =
     (f : ℕ → Square) → IsMember e s (placed stock live turn f) → IsApart (placed stock live turn f)
 
--- man k may be live in a mask, and is
+-- man k can be in a mask, and is
 pub record IsLiveIn (mask k : ℕ) : Type 0 where
   pub low : 1 ≤ k
   pub high : k ≤ 8

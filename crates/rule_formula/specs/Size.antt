@@ -1,4 +1,4 @@
--- How large a formula of the rules is, and which sets it names.
+-- The sizes of the formulas of the rules, and the sets that they name.
 use Rattle.std.specs.Prelude.{◌≡◌, ◌⊎◌, ℕ, ◌<◌, ◌≤◌, List, length, All}
 use Rattle.game_rules.specs.declared.men.Man.{Man}
 use Rattle.track_word.specs.declared.tracks.Var.{Var}
@@ -26,7 +26,7 @@ NamesOnly s tracks t = All (IsOver s tracks) (memberships t)
 abbrev pub NamesBoth : ℕ → List Var → ℕ → List Var → Tree → Type 0
 NamesBoth s tracks q others t = All (λ m. IsOver s tracks m ⊎ IsOver q others m) (memberships t)
 
--- only the set before a step by the option is named, over the live men, and the set after it, over those who are still live
+-- only the set before a step by the option is named, over the live men, and the set after it, over those that remain live
 abbrev pub NamesBeforeAndAfter : List Man → ℕ → Opt → ℕ → ℕ → Tree → Type 0
 NamesBeforeAndAfter stock mask o before after t =
     NamesBoth before (tracks_of stock (is_live mask)) after (tracks_of stock (without (is_live mask) o.taken)) t

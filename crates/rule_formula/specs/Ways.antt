@@ -1,4 +1,4 @@
--- The stretches of rays, as trees.
+-- The stretches of rays as trees.
 use Rattle.std.specs.Prelude.{ℕ}
 use Rattle.rule_formula.specs.declared.atoms.Extent.{Extent}
 use Rattle.rule_formula.specs.declared.atoms.Extent.TheVariants.{Onto, Before}
@@ -10,7 +10,7 @@ use Rattle.rule_formula.specs.Seats.{own}
 use Rattle.rule_formula.specs.Trees.{and_all, clear, on, ray_atoms}
 use Rattle.lin_formula.specs.Tree.{Tree}
 
--- z stands on the stretch
+-- z is on the stretch
 abbrev pub on_stretch : Stretch → Seat → Tree
 on_stretch s z = on s.ray s.from s.to s.extent z
 
@@ -18,12 +18,12 @@ on_stretch s z = on s.ray s.from s.to s.extent z
 abbrev pub clear_path : Tree → ℕ → Path → ℕ → Tree
 clear_path f mask p n = clear f (λ k. on_stretch p.stretch (own k)) (is_live mask) p.first p.second n
 
--- the formula, that the end of the path lies on the ray from its start, and that none of the other live men stands on it
+-- the formula, that the end of the path is on the ray from its start, and that none of the other live men stands on it
 abbrev pub passing_path : Tree → ℕ → Path → ℕ → Tree
 passing_path f mask p n =
     clear_path (and_all f (ray_atoms p.stretch.ray p.stretch.from p.stretch.to)) mask p n
 
--- the extents, by words that other crates can name
+-- the extents, as names that other crates can use
 abbrev pub onto : Extent
 onto = Onto
 

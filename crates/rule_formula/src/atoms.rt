@@ -15,7 +15,7 @@ use lin_formula::Formula;
 use std::alloc::{AllocError, Global};
 use track_word::{Rel, Var};
 
-/// Both formulas.
+/// Returns the conjunction.
 pub(crate) fn both(alloc: Global, first: Formula, second: Formula) -> Result<Formula, AllocError>
     ensures { IfOk result (λ f. tree_of f ≡ tree.And (tree_of first) (tree_of second)) }
 {
@@ -34,7 +34,7 @@ pub(crate) fn not(alloc: Global, formula: Formula) -> Result<Formula, AllocError
     }
 }
 
-/// The sum of the terms against the bound.
+/// Returns the comparison of the sum of the terms with the bound.
 fn sum(alloc: Global, terms: &[(i8, Var)], rel: Rel, bound: i32) -> Result<Formula, AllocError>
     requires { IsAtom terms.now bound }
     ensures { IfOk result (λ f. tree_of f ≡ tree.Lin terms.now rel bound) }
@@ -46,7 +46,7 @@ fn sum(alloc: Global, terms: &[(i8, Var)], rel: Rel, bound: i32) -> Result<Formu
     }
 }
 
-/// x - y against the bound.
+/// Returns the comparison of x - y with the bound.
 pub(crate) fn difference(
     alloc: Global,
     x: Var,
@@ -90,14 +90,14 @@ fn falling(alloc: Global, from: Seat, to: Seat) -> Result<Formula, AllocError>
     )
 }
 
-/// The variable, as often as the ray goes up.
+/// Returns the variable, times the ray's step upwards.
 fn up_term(ray: Ray, var: Var) -> (i8, Var)
     ensures { result ≡ (ray.dy, var) }
 {
     (ray.dy, var)
 }
 
-/// The variable, as often as the ray goes down.
+/// Returns the variable, times the ray's step downwards.
 fn down_term(ray: Ray, var: Var) -> (i8, Var)
     requires { unsigned_abs ray.dy ≤ 2 }
     ensures { result ≡ (neg_ℤ ray.dy, var) }
@@ -105,14 +105,14 @@ fn down_term(ray: Ray, var: Var) -> (i8, Var)
     (-ray.dy, var)
 }
 
-/// The variable, as often as the ray goes to the right.
+/// Returns the variable, times the ray's step to the right.
 fn right_term(ray: Ray, var: Var) -> (i8, Var)
     ensures { result ≡ (ray.dx, var) }
 {
     (ray.dx, var)
 }
 
-/// The variable, as often as the ray goes to the left.
+/// Returns the variable, times the ray's step to the left.
 fn left_term(ray: Ray, var: Var) -> (i8, Var)
     requires { unsigned_abs ray.dx ≤ 2 }
     ensures { result ≡ (neg_ℤ ray.dx, var) }
@@ -120,7 +120,7 @@ fn left_term(ray: Ray, var: Var) -> (i8, Var)
     (-ray.dx, var)
 }
 
-/// The end is on the line through the start in the direction of the ray, which goes by the steps of a knight.
+/// Returns the atom that the end is on the line through the start in the direction of a knight's ray.
 fn leaping(alloc: Global, ray: Ray, from: Seat, to: Seat) -> Result<Formula, AllocError>
     requires from { IsSeat from }
     requires to { IsSeat to }
@@ -140,7 +140,7 @@ fn leaping(alloc: Global, ray: Ray, from: Seat, to: Seat) -> Result<Formula, All
     sum(alloc, &terms, Rel::Eq, 0)
 }
 
-/// The end is on a line that is no row and no column, through the start in the direction of the ray.
+/// Returns the atom that the end is on the line, neither a row nor a column, through the start in the direction of the ray.
 #[tactic(auto, using(crate::proofs::LineTrees::lines))]
 fn slanting(alloc: Global, ray: Ray, from: Seat, to: Seat) -> Result<Formula, AllocError>
     requires from { IsSeat from }
@@ -161,7 +161,7 @@ fn slanting(alloc: Global, ray: Ray, from: Seat, to: Seat) -> Result<Formula, Al
     }
 }
 
-/// The end is on the line through the start in the direction of the ray.
+/// Returns the atom that the end is on the line through the start in the direction of the ray.
 pub(crate) fn line(alloc: Global, ray: Ray, from: Seat, to: Seat) -> Result<Formula, AllocError>
     requires from { IsSeat from }
     requires to { IsSeat to }
@@ -179,17 +179,17 @@ pub(crate) fn line(alloc: Global, ray: Ray, from: Seat, to: Seat) -> Result<Form
     }
 }
 
-/// How far one goes towards a square.
+/// How far a stretch goes.
 #[derive(Clone, Copy, PartialEq, Eq)]
 pub(crate) enum Extent {
-    /// Up to the square and onto it.
+    /// Up to its end, inclusive.
     Onto,
-    /// Only up to the square before it.
+    /// Up to the square before its end.
     Before,
 }
 
 impl Extent {
-    /// The most by which one may be past the square.
+    /// Returns the maximum by which a square may be past the end.
     fn bound(self) -> i32
         ensures bound { result ≡ past self }
         ensures low { negsuc 999 ≤ℤ result }
@@ -202,7 +202,7 @@ impl Extent {
     }
 }
 
-/// x - y in the direction of the step is at most the bound.
+/// Returns the atom that x - y in the direction of the step is at most the bound.
 fn ordered(alloc: Global, step: i8, x: Var, y: Var, bound: i32) -> Result<Formula, AllocError>
     requires apart { x.0 ≢ y.0 }
     requires low { negsuc 999 ≤ℤ bound }
@@ -216,7 +216,7 @@ fn ordered(alloc: Global, step: i8, x: Var, y: Var, bound: i32) -> Result<Formul
     }
 }
 
-/// The end lies ahead of the start in the direction of the ray, or with `Onto` level with it.
+/// Returns the atom that the end is ahead of the start in the direction of the ray, or (with `Onto`) level with it.
 pub(crate) fn ahead(
     alloc: Global,
     ray: Ray,
@@ -235,7 +235,7 @@ pub(crate) fn ahead(
     }
 }
 
-/// The square in the seat is one of the stretch. A ray of one step has its end alone, whatever the extent.
+/// Returns the formula that the square of the seat is one of the stretch. A ray of one step has only its end, whatever the extent.
 pub(crate) fn on(alloc: Global, stretch: Stretch, middle: Seat) -> Result<Formula, AllocError>
     requires middle { IsSeat middle }
     requires first { AreApart stretch.from middle }

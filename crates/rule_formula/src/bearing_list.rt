@@ -1,4 +1,4 @@
-//! The rays along which the men of a side bear on the other side's king.
+//! The attack directions of the men of a side against the other side's king.
 
 ghost use Rattle.std.specs.Prelude.{◌≡◌, ◌↔◌, ◌≤◌, ◌++◌, Contains, IfOk, OnOk, Some, length};
 ghost use Rattle.game_rules.specs.declared.men.Side.{Side};
@@ -14,24 +14,24 @@ use chess_game::{Position, ray_count};
 use game_rules::{Kind, Man, Side};
 use std::alloc::{AllocError, Global};
 
-/// The ways in which men may bear. Most lists are short.
+/// A list of attack directions, mostly short.
 type Bearings = Vec<Bearing>;
 
-/// Whether the man is the king of the side.
+/// Returns whether the man is the king of the side.
 fn is_king_of(man: Man, side: Side) -> bool
     ensures { result ≡ is_king_man side (Some man) }
 {
     is_side(man.side, side) && is_king(man.kind)
 }
 
-/// The number of the side's king, or 0.
+/// Returns the number of the side's king, or 0.
 fn king_number(stock: &Position, side: Side) -> u8
     ensures { result ≡ number_of_king stock.now.men side }
 {
     king_among(stock, side, stock.count())
 }
 
-/// The number of the last king of the side among the first men, or 0.
+/// Returns the number of the last king of the side among the first men, or 0.
 fn king_among(stock: &Position, side: Side, count: u8) -> u8
     requires { count ≤ length stock.now.men }
     ensures { result ≡ king_to stock.now.men side count }
@@ -81,7 +81,7 @@ fn push_man(
     push_rays(bearings, man.kind, number, king, count)
 }
 
-/// The list itself.
+/// Returns the list.
 fn list(alloc: Global, stock: &Position, force: Force) -> Result<Bearings, AllocError>
     ensures { IfOk result (λ all. all.items ≡ bearings_of stock.now.men force.mask force.side) }
 {
@@ -98,7 +98,8 @@ fn list(alloc: Global, stock: &Position, force: Force) -> Result<Bearings, Alloc
     Ok(bearings)
 }
 
-/// The ways in which the side's men may bear on the other side's king where the men of the mask are live: by man, then by ray.
+/// Returns the possible attacks of the side's men on the other side's king if the men of the mask are live, ordered by man and then
+/// by ray. Empty if there is no such king.
 pub fn bearings(
     alloc: Global,
     stock: &Position,

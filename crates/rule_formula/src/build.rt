@@ -1,4 +1,4 @@
-//! The formulas of the rules, from the men's numbers and the ray.
+//! The formulas of the rules, for men's numbers and a ray.
 
 ghost use Rattle.std.specs.Prelude.{◌≡◌, ◌≤◌, ◌<◌, IfOk};
 ghost use Rattle.lin_formula.specs.TreeOf.{tree_of};
@@ -14,7 +14,7 @@ use lin_formula::{Formula, SetId};
 use std::alloc::{AllocError, Global};
 use track_word::{Rel, Var};
 
-/// Some value of the variable, where the ray sweeps it.
+/// Returns the quantification of the variable, if the ray changes it.
 fn ex_swept(alloc: Global, step: i8, var: Var, formula: Formula) -> Result<Formula, AllocError>
     ensures { IfOk result (λ f. tree_of f ≡ swept_tree step var (tree_of formula)) }
 {
@@ -27,7 +27,7 @@ fn ex_swept(alloc: Global, step: i8, var: Var, formula: Formula) -> Result<Formu
     }
 }
 
-/// The position with the men on their own seats is in the set.
+/// Returns the membership of the position with the men on their own seats.
 #[tactic(auto, using(crate::proofs::ChainLemmas::more))]
 fn among_own(alloc: Global, men: LiveMen, source: SetId) -> Result<Formula, AllocError>
     ensures { IfOk result (λ f. tree_of f ≡ own_tree men.count men.mask source.0) }
@@ -41,7 +41,7 @@ fn among_own(alloc: Global, men: LiveMen, source: SetId) -> Result<Formula, Allo
     among_seats(alloc, men, 0, seats, source)
 }
 
-/// The move along the path, and the position before it in the set.
+/// Returns the formula of the move along the path from a position of the set.
 #[tactic(auto, using(crate::proofs::ChainLemmas::more))]
 fn image_inside(
     alloc: Global,
@@ -81,7 +81,7 @@ fn image_inside(
     and_path(alloc, among, men, path)
 }
 
-/// The positions to which the man goes from those of the set.
+/// Returns the formula of the positions that the man's move reaches from those of the set.
 pub(crate) fn image(
     alloc: Global,
     men: LiveMen,
@@ -96,7 +96,8 @@ pub(crate) fn image(
     ex_swept(alloc, journey.ray.dx, ELSEWHERE.x, over_y)
 }
 
-/// The position with the men on their own seats is in the set before the move, and that after the move in the other.
+/// Returns the formula that the position with the men on their own seats is in the set before the move, and that after the move in
+/// the other set.
 #[tactic(auto, using(crate::proofs::ChainLemmas::more))]
 fn among_both(
     alloc: Global,
@@ -119,7 +120,7 @@ fn among_both(
     both(alloc, before, after)
 }
 
-/// The move along the path, between positions of both sets.
+/// Returns the formula of the move along the path between positions of both sets.
 fn pre_inside(
     alloc: Global,
     men: LiveMen,
@@ -146,7 +147,7 @@ fn pre_inside(
     and_path(alloc, among, men, path)
 }
 
-/// The positions of the set before the move from which the man goes into the set after it.
+/// Returns the formula of the positions of the set before the move from which the man's move reaches the set after it.
 pub(crate) fn pre(
     alloc: Global,
     men: LiveMen,
@@ -164,7 +165,7 @@ pub(crate) fn pre(
     ex_swept(alloc, journey.ray.dx, ELSEWHERE.x, over_y)
 }
 
-/// The man bears on him whom he would take, in a position of the set.
+/// Returns the formula that the man attacks the man that he would take, in a position of the set.
 #[tactic(auto, using(crate::proofs::ChainLemmas::more))]
 pub(crate) fn bear(
     alloc: Global,
@@ -202,7 +203,7 @@ pub(crate) fn bear(
     and_path(alloc, among, men, path)
 }
 
-/// The positions of the set in which the man does not bear on him whom he would take.
+/// Returns the formula of the positions of the set in which the man does not attack the man that he would take.
 pub(crate) fn safe(
     alloc: Global,
     men: LiveMen,
@@ -218,7 +219,7 @@ pub(crate) fn safe(
     both(alloc, among, not(alloc, bears)?)
 }
 
-/// The positions of the set in which the two men stand on one square.
+/// Returns the formula of the positions of the set in which the two men stand on one square.
 pub(crate) fn twins(
     alloc: Global,
     men: LiveMen,

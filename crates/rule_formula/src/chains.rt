@@ -1,4 +1,4 @@
-//! Chains of And.
+//! Chains of conjunctions.
 
 ghost use Rattle.std.specs.Prelude.{◌≡◌, ◌≤◌, ◌++◌, ◌∷◌, [], IfOk, OnOk, true};
 ghost use Rattle.lin_formula.specs.TreeOf.{tree_of};
@@ -16,7 +16,7 @@ use lin_formula::{Formula, SetId, among};
 use std::alloc::{AllocError, Global};
 use track_word::{Rel, Var};
 
-/// Adds the variables of the seat.
+/// Appends the variables of the seat.
 fn push_seat(vars: &mut Vec<Var>, seat: Seat) -> Result<(), AllocError>
     ensures { OnOk result (vars.new.items ≡ vars.old.items ++ seat.x ∷ seat.y ∷ []) }
 {
@@ -25,7 +25,7 @@ fn push_seat(vars: &mut Vec<Var>, seat: Seat) -> Result<(), AllocError>
     Ok(())
 }
 
-/// Whether the man is live, and not the one who is gone.
+/// Returns whether the man is live and not the captured one.
 fn is_kept(mask: u8, gone: u8, man: u8) -> bool
     requires low { 1 ≤ man }
     requires high { man ≤ 8 }
@@ -34,7 +34,7 @@ fn is_kept(mask: u8, gone: u8, man: u8) -> bool
     is_live(mask, man) && man != gone
 }
 
-/// The position with the men on their seats is in the set.
+/// Returns the membership of the position with the men on their seats.
 pub(crate) fn among_seats(
     alloc: Global,
     men: LiveMen,
@@ -54,7 +54,7 @@ pub(crate) fn among_seats(
     among(alloc, set, &vars)
 }
 
-/// Also, x - y is the step, if these are two variables.
+/// Adds that x - y is the step, if these are two variables.
 fn and_step(alloc: Global, chain: Formula, x: Var, y: Var, step: i8) -> Result<Formula, AllocError>
     ensures { IfOk result (λ f. tree_of f ≡ and_all (tree_of chain) (unless_same x y (difference_tree x y Rel.Eq step))) }
 {
@@ -68,7 +68,7 @@ fn and_step(alloc: Global, chain: Formula, x: Var, y: Var, step: i8) -> Result<F
     )
 }
 
-/// Also, the end is on the line of the ray through the start.
+/// Adds that the end is on the line of the ray through the start.
 fn and_line(alloc: Global, chain: Formula, stretch: Stretch) -> Result<Formula, AllocError>
     ensures { IfOk result (λ f. tree_of f ≡ and_all (tree_of chain)
         (line_atoms stretch.ray.dx stretch.ray.dy stretch.from stretch.to)) }
@@ -83,7 +83,7 @@ fn and_line(alloc: Global, chain: Formula, stretch: Stretch) -> Result<Formula, 
     }
 }
 
-/// Also, the end lies on the far ray from the start.
+/// Adds that the end is on the far ray from the start.
 #[tactic(auto, using(crate::proofs::ChainLemmas::more))]
 fn and_far(alloc: Global, chain: Formula, stretch: Stretch) -> Result<Formula, AllocError>
     requires { stretch.ray.far ≡ true }
@@ -94,7 +94,7 @@ fn and_far(alloc: Global, chain: Formula, stretch: Stretch) -> Result<Formula, A
     both(alloc, drawn, ahead(alloc, ray, from, to, Extent::Before)?)
 }
 
-/// Also, the end lies on the ray from the start.
+/// Adds that the end is on the ray from the start.
 #[tactic(auto, using(crate::proofs::ChainLemmas::more))]
 pub(crate) fn and_ray(
     alloc: Global,
@@ -111,7 +111,7 @@ pub(crate) fn and_ray(
     and_step(alloc, across, to.y, from.y, ray.dy)
 }
 
-/// Whether the man is live and neither of the two.
+/// Returns whether the man is live and neither of the two.
 fn is_other(mask: u8, path: Path, man: u8) -> bool
     requires low { 1 ≤ man }
     requires high { man ≤ 8 }
@@ -120,7 +120,7 @@ fn is_other(mask: u8, path: Path, man: u8) -> bool
     is_live(mask, man) && (man != path.first && man != path.second)
 }
 
-/// Also, the man does not stand on the stretch.
+/// Adds that the man does not stand on the stretch.
 fn and_away(alloc: Global, chain: Formula, stretch: Stretch, man: u8) -> Result<Formula, AllocError>
     requires low { 1 ≤ man }
     requires high { man ≤ 8 }
@@ -132,7 +132,7 @@ fn and_away(alloc: Global, chain: Formula, stretch: Stretch, man: u8) -> Result<
     both(alloc, chain, not(alloc, stands)?)
 }
 
-/// Also, none of the other live men stands on the path.
+/// Adds that none of the other live men stands on the path.
 fn and_clear(alloc: Global, chain: Formula, men: LiveMen, path: Path) -> Result<Formula, AllocError>
     ensures { IfOk result (λ f. tree_of f ≡ clear_path (tree_of chain) men.mask path men.count) }
 {
@@ -146,7 +146,7 @@ fn and_clear(alloc: Global, chain: Formula, men: LiveMen, path: Path) -> Result<
     Ok(all)
 }
 
-/// Also, the end lies on the ray from the start, and none of the other live men stands on the path.
+/// Adds that the end is on the ray from the start, and that none of the other live men stands on the path.
 pub(crate) fn and_path(
     alloc: Global,
     chain: Formula,

@@ -1,4 +1,4 @@
-//! The options of a side in a mask.
+//! The options (move types) of a side in a mask.
 
 ghost use Rattle.std.specs.Prelude.{◌≡◌, ◌↔◌, ◌≤◌, ◌++◌, Contains, IfOk, OnOk, length};
 ghost use Rattle.game_rules.specs.Rays.{serves_captures as captures, serves_moves as moves};
@@ -12,24 +12,24 @@ use chess_game::{Position, ray_count};
 use game_rules::{Kind, Man, Side};
 use std::alloc::{AllocError, Global};
 
-/// The ways in which men may go. Most lists are short.
+/// A list of options, mostly short.
 type Opts = Vec<Opt>;
 
-/// Whether both are one side.
+/// Returns whether both are one side.
 pub fn is_side(his: Side, side: Side) -> bool
     ensures { result ≡ side_of his side }
 {
     his == side
 }
 
-/// Whether the kind is the king.
+/// Returns whether the kind is the king.
 pub fn is_king(kind: Kind) -> bool
     ensures { result ≡ king_of kind }
 {
     kind == Kind::King
 }
 
-/// Whether the ray of this number serves moves onto an empty square.
+/// Returns whether the ray with this number allows moves onto an empty square.
 pub fn serves_moves(kind: Kind, number: u8) -> bool
     ensures { result ≡ moves kind number }
 {
@@ -39,7 +39,7 @@ pub fn serves_moves(kind: Kind, number: u8) -> bool
     }
 }
 
-/// Whether the ray of this number serves captures.
+/// Returns whether the ray with this number allows captures.
 pub fn serves_captures(kind: Kind, number: u8) -> bool
     ensures { result ≡ captures kind number }
 {
@@ -49,7 +49,7 @@ pub fn serves_captures(kind: Kind, number: u8) -> bool
     }
 }
 
-/// Whether the man of this number is a live enemy other than the king.
+/// Returns whether the man with this number is a live enemy other than the king.
 fn is_prey(stock: &Position, force: Force, number: u8) -> bool
     requires low { 1 ≤ number }
     requires high { number ≤ length stock.now.men }
@@ -79,7 +79,7 @@ fn push_captures(
     Ok(())
 }
 
-/// A man who may go, by his number and his kind.
+/// A man that may move, by his number and kind.
 #[derive(Clone, Copy)]
 struct Mover {
     man: u8,
@@ -144,7 +144,7 @@ fn push_man(
     push_rays(options, stock, force, mover, ray_count(man.kind, man.side))
 }
 
-/// The list itself.
+/// Returns the list.
 fn list(alloc: Global, stock: &Position, force: Force) -> Result<Opts, AllocError>
     ensures list { IfOk result (λ all. all.items ≡ options_of stock.now.men force.mask force.side) }
     ensures few { length stock.now.men ≤ 8 }
@@ -158,7 +158,7 @@ fn list(alloc: Global, stock: &Position, force: Force) -> Result<Opts, AllocErro
     Ok(options)
 }
 
-/// The ways in which the side's men may go where the men of the mask are live: by man, then by ray, then by the man that is taken.
+/// Returns the options of the side's men if the men of the mask are live, ordered by man, then by ray, then by captured man.
 pub fn options(
     alloc: Global,
     stock: &Position,

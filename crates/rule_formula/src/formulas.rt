@@ -21,7 +21,7 @@ use game_rules::Ray;
 use lin_formula::{Formula, SetId};
 use std::alloc::{AllocError, Global};
 
-/// The man's ray of this number.
+/// Returns the man's ray with this number, if he has one.
 #[tactic(auto, using(crate::proofs::KindLemmas::moving))]
 fn ray_of_man(stock: &Position, man: u8, number: u8) -> Option<Ray>
     requires low { 1 ≤ man }
@@ -33,7 +33,7 @@ fn ray_of_man(stock: &Position, man: u8, number: u8) -> Option<Ray>
     ray(man.kind, man.side, number)
 }
 
-/// The man's way along his ray of this number, by which he takes the other, or with 0 nobody.
+/// Returns the man's path along his ray with this number, by which he takes the other man, or nobody if `taken` is 0.
 fn journey(stock: &Position, man: u8, number: u8, taken: u8) -> Journey
     requires { HasJourney stock.now.men man number taken }
     ensures man { result.man ≡ man }
@@ -48,7 +48,7 @@ fn journey(stock: &Position, man: u8, number: u8, taken: u8) -> Journey
     }
 }
 
-/// The image, as a tree.
+/// Returns the image as a tree.
 fn image_at(
     alloc: Global,
     stock: &Position,
@@ -64,7 +64,8 @@ fn image_at(
     image(alloc, live_men(stock, mask), journey, source)
 }
 
-/// The positions to which a step by the option leads from those of the source, whose live men are those of the mask.
+/// Returns the formula of the positions that a step by the option reaches from those of the set, whose live men are those of the
+/// mask.
 pub fn image_formula(
     alloc: Global,
     stock: &Position,
@@ -81,7 +82,7 @@ pub fn image_formula(
     image_at(alloc, stock, mask, opt, source)
 }
 
-/// The positions before the step, as a tree.
+/// Returns the positions before the step as a tree.
 fn pre_at(
     alloc: Global,
     stock: &Position,
@@ -97,8 +98,8 @@ fn pre_at(
     pre(alloc, live_men(stock, mask), journey, sets)
 }
 
-/// The positions of the set before the step from which a step by the option leads into the set after it. The live men of the one set
-/// are those of the mask, and those of the other are the same without the man that is taken.
+/// Returns the formula of the positions of the set before the step from which a step by the option reaches the set after it. The
+/// live men of the first set are those of the mask, and those of the second the same without the captured man.
 pub fn pre_formula(
     alloc: Global,
     stock: &Position,
@@ -115,7 +116,7 @@ pub fn pre_formula(
     pre_at(alloc, stock, mask, opt, sets)
 }
 
-/// The positions in which the man bears on the king, as a tree.
+/// Returns the positions in which the man attacks the king, as a tree.
 fn bear_at(
     alloc: Global,
     stock: &Position,
@@ -132,7 +133,7 @@ fn bear_at(
     bear(alloc, live_men(stock, mask), journey, source)
 }
 
-/// The positions of the source in which the man bears on the king.
+/// Returns the formula of the positions of the set in which the man attacks the king.
 pub fn bear_formula(
     alloc: Global,
     stock: &Position,
@@ -151,7 +152,7 @@ pub fn bear_formula(
     bear_at(alloc, stock, mask, bearing, source)
 }
 
-/// The positions in which the man does not bear on the king, as a tree.
+/// Returns the positions in which the man does not attack the king, as a tree.
 fn safe_at(
     alloc: Global,
     stock: &Position,
@@ -168,7 +169,7 @@ fn safe_at(
     safe(alloc, live_men(stock, mask), journey, source)
 }
 
-/// The positions of the source in which the man does not bear on the king.
+/// Returns the formula of the positions of the set in which the man does not attack the king.
 pub fn safe_formula(
     alloc: Global,
     stock: &Position,
@@ -187,7 +188,7 @@ pub fn safe_formula(
     safe_at(alloc, stock, mask, bearing, source)
 }
 
-/// The positions of the source in which the two men stand on one square.
+/// Returns the formula of the positions of the set in which the two men stand on one square.
 pub fn twins_formula(
     alloc: Global,
     first: u8,

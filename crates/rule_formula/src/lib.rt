@@ -1,8 +1,9 @@
-//! The rules of chess as formulas over the integers. Each formula speaks of the squares of the live men of one mask, and contracts see
-//! it as a tree (`specs/Trees`). What it means is a relation of the game (`specs/Meaning`) on the positions that the stock of men, the
-//! mask, the side to move and the squares give (`specs/Placed`). `specs/Options` is the list of the ways in which men may go,
-//! `specs/Bearings` that of the ways in which they bear on a king, `specs/Pairs` that of each two live men, and `specs/Size` says how
-//! large the formulas are. What they mean together at the positions of one game is one law, `specs/Mean`.
+//! Expresses the rules of chess as formulas over the integers.
+//! Each formula is about the squares of the live men of one mask, and contracts see it as a tree (`specs/Trees`). Its meaning is a
+//! relation of the game (`specs/Meaning`) on positions, which are given by the stock of men, the mask, the side to move and the
+//! squares (`specs/Placed`). `specs/Options` lists the options (move types), `specs/Bearings` the attacks on a king, `specs/Pairs`
+//! the pairs of live men, and `specs/Size` bounds the formulas' sizes. `specs/Mean` states their meanings at the positions of one
+//! game as one law.
 #![tactic(auto)]
 
 mod atoms;

@@ -1,4 +1,4 @@
-//! The sets of men who may be live in a game.
+//! The sets of men that may be live in a game.
 
 ghost use Rattle.std.specs.Prelude.{◌≡◌, ◌↔◌, ◌≤◌, ◌++◌, ◌∷◌, [], if◌then◌else◌, ℕ, Contains, IfOk, OnOk, length};
 ghost use Rattle.rule_formula.specs.Fits.{IsGameMask, has_kings as kings_in, is_game_mask as in_game, is_part as part_of, masks_of};
@@ -9,17 +9,17 @@ use crate::stock::{is_live, man_of};
 use chess_game::Position;
 use std::alloc::{AllocError, Global};
 
-/// Masks of a position. Those of five men are eight, and those of seven men 32, since each has the kings.
+/// The masks of a position. Five men have eight and seven men 32, if both kings are among them.
 type Masks = Vec<u8>;
 
-/// Whether all bits of the first are bits of the second.
+/// Returns whether all bits of the first are bits of the second.
 fn is_part(a: u8, b: u8) -> bool
     ensures { result ≡ part_of a b }
 {
     a & b == a
 }
 
-/// Whether each king among the first men is in the mask.
+/// Returns whether each king among the first men is in the mask.
 fn has_kings(stock: &Position, mask: u8, count: u8) -> bool
     requires men { count ≤ length stock.now.men }
     requires few { count ≤ 8 }
@@ -30,14 +30,14 @@ fn has_kings(stock: &Position, mask: u8, count: u8) -> bool
             && has_kings(stock, mask, count - 1))
 }
 
-/// The mask of the live men.
+/// Returns the mask of the live men.
 fn live_mask(p: &Position) -> u8
     ensures { result ≡ mask_of p.now }
 {
     p.mask()
 }
 
-/// Whether the mask is one of live men, with each king.
+/// Returns whether the mask contains only live men, and each king.
 fn is_game_mask(p: &Position, live: u8, mask: u8) -> bool
     requires { live ≡ mask_of p.now }
     ensures { result ≡ in_game p.now mask }
@@ -45,7 +45,7 @@ fn is_game_mask(p: &Position, live: u8, mask: u8) -> bool
     is_part(mask, live) && has_kings(p, mask, p.count())
 }
 
-/// Adds the mask to those below it, if it is one of the position.
+/// Appends the mask, if it is one of the position.
 fn push_mask(all: &mut Masks, p: &Position, live: u8, mask: u8) -> Result<(), AllocError>
     requires { live ≡ mask_of p.now }
     ensures { OnOk result (all.new.items ≡ (if in_game p.now mask then all.old.items ++ mask ∷ [] else all.old.items)) }
@@ -56,7 +56,7 @@ fn push_mask(all: &mut Masks, p: &Position, live: u8, mask: u8) -> Result<(), Al
     Ok(())
 }
 
-/// The list itself.
+/// Returns the list.
 fn list(alloc: Global, p: &Position) -> Result<Masks, AllocError>
     ensures { IfOk result (λ all. all.items ≡ masks_of p.now) }
 {
@@ -69,7 +69,7 @@ fn list(alloc: Global, p: &Position) -> Result<Masks, AllocError>
     Ok(all)
 }
 
-/// The masks of the position, ascending: the sets of its live men that hold each king.
+/// Returns the masks of the position in ascending order: the sets of its live men that contain each king.
 pub fn masks(alloc: Global, p: &Position) -> Result<Vec<u8>, AllocError>
     ensures list { IfOk result (λ all. all.items ≡ masks_of p.now) }
     ensures exact { IfOk result (λ all. (m : ℕ) → Contains all.items m ↔ IsGameMask p.now m) }

@@ -9,10 +9,10 @@ use crate::stock::is_live;
 use chess_game::Position;
 use std::alloc::{AllocError, Global};
 
-/// Pairs of men. Those of five men are ten, and those of eight men are 28.
+/// A list of pairs of men: ten for five men, 28 for eight.
 type Pairs = Vec<ManPair>;
 
-/// Whether the second man is live, and comes after the first.
+/// Returns whether the second man is live and has a greater number than the first.
 fn is_later(mask: u8, first: u8, second: u8) -> bool
     requires low { 1 ≤ second }
     requires high { second ≤ 8 }
@@ -21,7 +21,7 @@ fn is_later(mask: u8, first: u8, second: u8) -> bool
     first < second && is_live(mask, second)
 }
 
-/// Adds a man with each later live one among the first so many.
+/// Appends the pairs of a man with each later live one among the first men.
 fn push_later(pairs: &mut Pairs, mask: u8, first: u8, count: u8) -> Result<(), AllocError>
     requires { count ≤ 8 }
     ensures { OnOk result (pairs.new.items ≡ pairs.old.items ++ later_to mask first count) }
@@ -35,7 +35,7 @@ fn push_later(pairs: &mut Pairs, mask: u8, first: u8, count: u8) -> Result<(), A
     Ok(())
 }
 
-/// Adds a man with each later live one among so many men, if he is live.
+/// Appends the pairs of a man with each later live one, if he is live.
 fn push_man(pairs: &mut Pairs, mask: u8, first: u8, count: u8) -> Result<(), AllocError>
     requires low { 1 ≤ first }
     requires high { first ≤ count }
@@ -48,7 +48,7 @@ fn push_man(pairs: &mut Pairs, mask: u8, first: u8, count: u8) -> Result<(), All
     push_later(pairs, mask, first, count)
 }
 
-/// The list itself.
+/// Returns the list.
 fn list(alloc: Global, stock: &Position, mask: u8) -> Result<Pairs, AllocError>
     ensures { IfOk result (λ all. all.items ≡ pairs_of stock.now.men mask) }
 {
@@ -60,7 +60,7 @@ fn list(alloc: Global, stock: &Position, mask: u8) -> Result<Pairs, AllocError>
     Ok(pairs)
 }
 
-/// The pairs of men who are live in the mask: by the first man, then by the second, who comes later.
+/// Returns the pairs of live men of the mask, ordered by the first man and then by the second.
 pub fn pairs(alloc: Global, stock: &Position, mask: u8) -> Result<Vec<ManPair>, AllocError>
     ensures list { IfOk result (λ all. all.items ≡ pairs_of stock.now.men mask) }
     ensures exact { IfOk result (λ all. (w : ManPair) → Contains all.items w ↔ IsPairOf stock.now.men mask w) }

@@ -1,4 +1,4 @@
-//! How men go along rays, and over what squares.
+//! How men move along rays, and over which squares.
 
 ghost use Rattle.rule_formula.specs.Paths.{IsJourney, IsPassedBy, IsStretch};
 
@@ -6,7 +6,7 @@ use crate::atoms::Extent;
 use crate::seats::Seat;
 use game_rules::Ray;
 
-/// A man's way along a ray, and whom he takes at its end: with 0 nobody.
+/// A man's path along a ray, and the man that he takes at its end, or 0.
 #[derive(Clone, Copy)]
 pub(crate) struct Journey {
     pub(crate) man: u8,
@@ -15,7 +15,7 @@ pub(crate) struct Journey {
     ghost is: { IsJourney man ray taken },
 }
 
-/// The squares of a ray from one seat, itself excluded, to another.
+/// The squares of a ray from one seat (exclusive) to another.
 #[derive(Clone, Copy)]
 pub(crate) struct Stretch {
     pub(crate) ray: Ray,
@@ -25,7 +25,7 @@ pub(crate) struct Stretch {
     ghost is: { IsStretch ray from to },
 }
 
-/// A stretch, and the two men who may stand on it.
+/// A stretch, and the two men that may stand on it.
 #[derive(Clone, Copy)]
 pub(crate) struct Path {
     pub(crate) stretch: Stretch,

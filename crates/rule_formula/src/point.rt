@@ -17,7 +17,7 @@ use game_rules::Place;
 use lin_formula::{Formula, value};
 use std::alloc::{AllocError, Global};
 
-/// The second formula, and the first if there is one.
+/// Returns the conjunction, or the second formula if there is no first.
 fn and_maybe(alloc: Global, first: Option<Formula>, second: Formula) -> Result<Formula, AllocError>
     ensures { IfOk result (λ f. tree_of f ≡ and_tree (maybe_tree first) (tree_of second)) }
 {
@@ -27,7 +27,7 @@ fn and_maybe(alloc: Global, first: Option<Formula>, second: Formula) -> Result<F
     }
 }
 
-/// Also, the place is that in the seat, if it is a square.
+/// Adds that the place is that of the seat, if it is a square.
 fn with_place(
     alloc: Global,
     chain: Option<Formula>,
@@ -45,7 +45,7 @@ fn with_place(
     }
 }
 
-/// The places of the live men, if there are any.
+/// Returns the formula of the places of the live men, if there are any.
 fn places(alloc: Global, p: &Position) -> Result<Option<Formula>, AllocError>
     ensures tree { IfOk result (λ all. maybe_tree all ≡ point_of p.now.men) }
     ensures few { IfOk result (λ all. length p.now.men ≤ 8) }
@@ -59,7 +59,7 @@ fn places(alloc: Global, p: &Position) -> Result<Option<Formula>, AllocError>
     Ok(chain)
 }
 
-/// The formula of the position's places alone.
+/// Returns the formula that is true only for the position's places.
 pub fn point_formula(alloc: Global, p: &Position) -> Result<Formula, AllocError>
     requires { HasLiveMan p.now }
     ensures tree { IfOk result (λ f. point_of p.now.men ≡ Some (tree_of f)) }

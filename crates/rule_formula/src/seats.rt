@@ -1,4 +1,4 @@
-//! The variables in which the men's squares stand.
+//! The variables of the men's squares.
 
 ghost use Rattle.std.specs.Prelude.{◌≡◌, ◌≤◌, ◌≢◌, ℕ};
 ghost use Rattle.rule_formula.specs.Trees.{AreApart, Suits};
@@ -8,20 +8,20 @@ use crate::paths::Journey;
 use game_rules::Ray;
 use track_word::Var;
 
-/// The two variables in which a square stands.
+/// The two variables of a square.
 #[derive(Clone, Copy, PartialEq, Eq)]
 pub(crate) struct Seat {
     pub(crate) x: Var,
     pub(crate) y: Var,
 }
 
-/// The variables of a square that is no man's own: from which the mover comes, or onto which he goes.
+/// The variables of a square that belongs to no man: the mover's square before or after the move.
 pub(crate) const ELSEWHERE: Seat = Seat {
     x: Var(16),
     y: Var(17),
 };
 
-/// The variables of the man of this number.
+/// Returns the variables of the man with this number.
 pub(crate) fn own(man: u8) -> Seat
     requires low { 1 ≤ man }
     requires high { man ≤ 8 }
@@ -36,14 +36,14 @@ pub(crate) fn own(man: u8) -> Seat
     }
 }
 
-/// The variable that is lost where the ray leaves it alone.
+/// Returns the variable that is bound, or the kept one if the ray does not change it.
 fn swept(step: i8, kept: Var, spare: Var) -> Var
     ensures { result ≡ swept_var step kept spare }
 {
     if step == 0 { kept } else { spare }
 }
 
-/// Where the man comes from, or goes to: he keeps the variable that the ray leaves alone.
+/// Returns the seat before or after the man's move: he keeps the variable that the ray does not change.
 pub(crate) fn spare(ray: Ray, man: u8) -> Seat
     requires low { 1 ≤ man }
     requires high { man ≤ 8 }
@@ -61,7 +61,7 @@ pub(crate) fn spare(ray: Ray, man: u8) -> Seat
     }
 }
 
-/// Where the man goes: onto the square of him who is taken, or with nobody taken along the ray.
+/// Returns the seat after the man's move: that of the captured man, or along the ray if none is captured.
 pub(crate) fn new_seat(journey: Journey) -> Seat
     ensures seat { result ≡ new_place journey.ray journey.man journey.taken }
     ensures kind { IsSeat result }
@@ -75,7 +75,7 @@ pub(crate) fn new_seat(journey: Journey) -> Seat
     }
 }
 
-/// Where the men's squares stand: two of them elsewhere, and the others in their own variables.
+/// The seats of all men: two of them elsewhere, and the others in their own variables.
 #[derive(Clone, Copy)]
 pub(crate) struct Seats {
     pub(crate) first: u8,

@@ -1,4 +1,4 @@
-//! The men of a position, by number, and those of a mask.
+//! The men of a position by number, and those of a mask.
 
 ghost use Rattle.std.specs.Prelude.{◌≡◌, ◌≤◌, Some, length};
 ghost use Rattle.rule_formula.specs.Placed.{is_live as live_in};
@@ -7,7 +7,7 @@ ghost use Rattle.game_laws.specs.Stock.{stock_man};
 use chess_game::Position;
 use game_rules::{Man, Side};
 
-/// The man of this number, counted from 1.
+/// Returns the man with this number, from 1.
 #[tactic(auto, using(crate::proofs::PlacedLemmas::numbers))]
 pub(crate) fn man_of(stock: &Position, number: u8) -> Man
     requires low { 1 ≤ number }
@@ -17,7 +17,7 @@ pub(crate) fn man_of(stock: &Position, number: u8) -> Man
     stock.man(number)
 }
 
-/// Whether the man of this number is in the mask.
+/// Returns whether the man with this number is in the mask.
 pub(crate) fn is_live(mask: u8, number: u8) -> bool
     requires low { 1 ≤ number }
     requires high { number ≤ 8 }
@@ -26,7 +26,7 @@ pub(crate) fn is_live(mask: u8, number: u8) -> bool
     mask >> (number - 1) & 1 == 1
 }
 
-/// The men of a mask, out of so many.
+/// The men of a mask, out of a number of men.
 #[derive(Clone, Copy)]
 pub(crate) struct LiveMen {
     pub(crate) count: u8,
@@ -34,7 +34,7 @@ pub(crate) struct LiveMen {
     ghost few: { count ≤ 8 },
 }
 
-/// The men of the mask, out of those of the position.
+/// Returns the men of the mask, out of those of the position.
 pub(crate) fn live_men(stock: &Position, mask: u8) -> LiveMen
     ensures count { result.count ≡ length stock.now.men }
     ensures mask { result.mask ≡ mask }
