@@ -4,23 +4,23 @@ use Rattle.std.specs.Borrow.{Bor}
 use Rattle.std.specs.List.{All}
 use Rattle.text_fields.specs.Blanks.{HasNoBlank}
 
--- fields with one blank between each two
+-- fields separated by one blank each
 abbrev pub parted : List (List ℕ) → List ℕ
 parted [] = []
 parted (field ∷ []) = field
 parted (field ∷ next ∷ fields) = field ++ 32 ∷ parted (next ∷ fields)
 
--- These are the fields of the line, at least one. Between two blanks that stand side by side is a field without bytes.
+-- These are the fields of the line, at least one. Between two adjacent blanks is an empty field.
 pub record AreFields (line : List ℕ) (fields : List (List ℕ)) : Type 0 where
   pub some : fields ≢ []
   pub no_blank : All HasNoBlank fields
   pub is : line ≡ parted fields
 
--- the texts that are lent
+-- the borrowed texts
 abbrev pub texts : List (Bor (List ℕ)) → List (List ℕ)
 texts fields = map (λ field. field.now) fields
 
--- the fields of the line are added
+-- the fields of the line are appended
 pub record AddsFields (line : List ℕ) (old new : List (List ℕ)) : Type 0 where
   pub added : List (List ℕ)
   pub are_fields : AreFields line added

@@ -1,8 +1,7 @@
 -- The nearer of two numbers on both sides of 0.
 use Rattle.std.specs.Prelude.{ℕ, ℤ, pos, neg_ℤ, Option, Some, None, nat_lt, if◌then◌else◌}
 
--- One number is given by how far it is above 0, and one by how far it is below: the nearer one, and that above where
--- both are as near.
+-- The nearer of two numbers, given by their distances above and below 0; that above if both are equally near.
 abbrev pub nearer_of : (above below : Option ℕ) → Option ℤ
 nearer_of None None = None
 nearer_of (Some above) None = Some (pos above)

@@ -1,9 +1,9 @@
--- Formulas that may be asked.
+-- Formulas that can be decided.
 use Rattle.std.specs.Prelude.{◌≡◌, ◌<◌, ◌≤◌, [], length}
 use Rattle.std.specs.List.{All}
 use Rattle.lin_formula.specs.Tree.{Tree, IsWellMade, free_vars, memberships, steps, vars_of}
 
--- closed, well made, without named sets, with the first sixteen variables alone, and with few steps
+-- closed, well made, without named sets, with the first sixteen variables only, and with few steps
 pub record IsQuestion (f : Tree) : Type 0 where
   pub closed : free_vars f ≡ []
   pub well_made : IsWellMade f

@@ -1,4 +1,4 @@
--- What fields and lines are read as.
+-- The results of parsing fields and lines.
 use Rattle.std.specs.Prelude.{◌≡◌, ℕ, ◌+◌, List, [], ◌∷◌, ◌++◌, length, ℤ, pos, Result, IfOk}
 use Rattle.std.specs.Borrow.{Bor}
 use Rattle.std.specs.List.{All}
@@ -28,7 +28,7 @@ pub record IsFormulaLine (line : List ℕ) (f : Tree) : Type 0 where
   pub proper : IsProper [] typed
   pub means : f ≡ meaning typed
 
--- the field of this number is the first of the line that cannot stand where it stands
+-- the field with this number is the first of the line that is not allowed at its position
 pub record IsFirstRefused (line : List ℕ) (number : ℕ) : Type 0 where
   pub fields : List (List ℕ)
   pub line_is : AreFields line fields
@@ -36,20 +36,20 @@ pub record IsFirstRefused (line : List ℕ) (number : ℕ) : Type 0 where
   pub stops : StopsWhole fields left
   pub counted : number + left ≡ length fields + 1
 
--- why the line is not read as a formula
+-- why the line is not parsed as a formula
 abbrev pub IsRefusal : List ℕ → ArithError → Type 0
 IsRefusal line (Field number) = IsFirstRefused line number
 IsRefusal line Memory = Unit {0}
 
--- fields that are left, of a line
+-- the remaining fields of a line
 abbrev pub Rest : Type 0
 Rest = Bor (List (Bor (List ℕ)))
 
--- where a formula was read, this holds of its meaning and of the texts of the fields after it
+-- if a formula is parsed, its meaning and the texts of the fields after it have the property
 abbrev pub IfReadFormula : Result (Formula × Rest) Stop → (Tree → List (List ℕ) → Type 0) → Type 0
 IfReadFormula result Of = IfOk result (λ read. Of (tree_of read.0) (texts read.1.now))
 
--- where a number was read, this holds of it and of the texts of the fields after it
+-- if a number is parsed, it and the texts of the fields after it have the property
 abbrev pub IfReadNumber : Result (ℤ × Rest) Stop → (ℤ → List (List ℕ) → Type 0) → Type 0
 IfReadNumber result Of = IfOk result (λ read. Of read.0 (texts read.1.now))
 
@@ -60,14 +60,14 @@ pub record IsReadWhole (fields : List (List ℕ)) (f : Tree) : Type 0 where
   pub fields_are : fields ≡ spelled typed
   pub means : f ≡ meaning typed
 
--- the fields begin with a formula with this meaning, and the rest follow it
+-- the fields start with a formula with this meaning, followed by the rest
 pub record IsRead (scope : List Var) (fields : List (List ℕ)) (f : Tree) (rest : List (List ℕ)) : Type 0 where
   pub typed : Typed
   pub proper : IsProper scope typed
   pub fields_are : fields ≡ spelled typed ++ rest
   pub means : f ≡ meaning typed
 
--- the fields begin with two formulas
+-- the fields start with two formulas
 pub record IsReadJoined (connective : BinaryOp) (scope : List Var) (fields : List (List ℕ)) (f : Tree)
     (rest : List (List ℕ)) : Type 0 where
   pub first : Typed
@@ -77,7 +77,7 @@ pub record IsReadJoined (connective : BinaryOp) (scope : List Var) (fields : Lis
   pub fields_are : fields ≡ spelled first ++ (spelled second ++ rest)
   pub means : f ≡ join connective (meaning first) (meaning second)
 
--- the fields begin with a letter and a body
+-- the fields start with a letter and a body
 pub record IsReadBound (quantifier : Quantifier) (scope : List Var) (fields : List (List ℕ)) (f : Tree)
     (rest : List (List ℕ)) : Type 0 where
   pub var : Var
@@ -86,7 +86,7 @@ pub record IsReadBound (quantifier : Quantifier) (scope : List Var) (fields : Li
   pub fields_are : fields ≡ letter var ∷ (spelled body ++ rest)
   pub means : f ≡ bind quantifier var (meaning body)
 
--- the fields begin with the number of terms, the terms and the bound of a comparison
+-- the fields start with the number of terms, the terms and the bound of a comparison
 pub record IsReadComparison (rel : Rel) (scope : List Var) (fields : List (List ℕ)) (f : Tree)
     (rest : List (List ℕ)) : Type 0 where
   pub terms : List (ℤ × Var)
@@ -97,7 +97,7 @@ pub record IsReadComparison (rel : Rel) (scope : List Var) (fields : List (List 
       fields ≡ signed_decimal (pos (length terms)) ∷ ((term_fields terms ++ signed_decimal bound ∷ []) ++ rest)
   pub means : f ≡ tree.Lin terms rel bound
 
--- the fields begin with so many further terms behind some terms, and with the bound behind them
+-- the fields start with this many more terms after some terms, followed by the bound
 pub record IsReadTerms (scope : List Var) (old : List (ℤ × Var)) (due : ℕ) (fields : List (List ℕ))
     (new : List (ℤ × Var))
     (bound : ℤ) (rest : List (List ℕ)) : Type 0 where

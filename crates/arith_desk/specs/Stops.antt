@@ -1,5 +1,5 @@
--- Which field is the first that cannot stand where it stands. It is given by how many fields are left from it on,
--- itself counted. None are left where fields are missing.
+-- The first field that is not allowed at its position. It is given by the number of fields from it on, including it, or 0 if fields
+-- are missing.
 use Rattle.std.specs.Prelude.{◌≡◌, ◌≢◌, ◌⊎◌, ℕ, zero, suc, ◌<◌, List, [], ◌∷◌, ◌++◌, length, ℤ, pos, negsuc, ◌≤ℤ◌}
 use Rattle.std.specs.List.{All}
 use Rattle.std.specs.Fmt.{signed_decimal}
@@ -15,7 +15,7 @@ use Rattle.arith_desk.specs.declared.errors.Stop.TheVariants.{Left, Memory}
 use Rattle.arith_desk.specs.Words.{IsFactor, letter, word_text}
 use Rattle.arith_desk.specs.Typed.{Typed, IsProper, spelled}
 
--- the first field is missing, or is not such a one
+-- the first field is missing, or does not have the property
 abbrev pub Fails : (List ℕ → Type 0) → List (List ℕ) → ℕ → Type 0
 Fails Is [] left = left ≡ 0
 Fails Is (field ∷ rest) left = (¬ Is field) × (left ≡ length (field ∷ rest))
@@ -29,16 +29,16 @@ IsNumberBetween low high field = (n : ℤ) × (low ≤ℤ n) × (n ≤ℤ high) 
 abbrev pub IsFactorField : List ℕ → Type 0
 IsFactorField field = (a : ℤ) × IsFactor a × (field ≡ signed_decimal a)
 
--- a letter that no quantifier around has
+-- a letter of no enclosing quantifier
 abbrev pub IsFreshLetter : List Var → List ℕ → Type 0
 IsFreshLetter scope field = (x : Var) × (x.0 < 16) × (¬ IsOneOf x scope) × (field ≡ letter x)
 
--- a letter that a quantifier around has, and no term before
+-- a letter of an enclosing quantifier, and of no earlier term
 abbrev pub IsKnownLetter : List Var → List (ℤ × Var) → List ℕ → Type 0
 IsKnownLetter scope terms field =
     (x : Var) × (x.0 < 16) × IsOneOf x scope × All (λ t. t.1 ≢ x) terms × (field ≡ letter x)
 
--- in so many further terms behind some terms, or in the bound behind them
+-- in this many more terms after some terms, or in the bound after them
 abbrev pub StopsTerms : List Var → List (ℤ × Var) → ℕ → List (List ℕ) → ℕ → Type 0
 StopsTerms scope terms zero fields left = Fails (IsNumberBetween (negsuc 999) (pos 1000)) fields left
 StopsTerms scope terms (suc due) fields left =
@@ -55,7 +55,7 @@ StopsComparison scope fields left =
     ⊎ ((due : ℕ) × (rest : List (List ℕ)) × (0 < due) × (due < 9) × (fields ≡ signed_decimal (pos due) ∷ rest)
     × StopsTerms scope [] due rest left)
 
--- in a formula that the fields are to begin with, within quantifiers of these letters
+-- in a formula at the start of the fields, within quantifiers of these letters
 pub data Stops : List Var → List (List ℕ) → ℕ → Type 0 where
   at_word : (scope : List Var) (fields : List (List ℕ)) (left : ℕ) → Fails IsWord fields left → Stops scope fields left
   behind_not : (scope : List Var) (fields rest : List (List ℕ)) (left : ℕ) → fields ≡ word_text Not ∷ rest
@@ -82,21 +82,21 @@ StopsJoined scope fields left =
     ⊎ ((first : Typed) × (rest : List (List ℕ)) × IsProper scope first × (fields ≡ spelled first ++ rest)
     × Stops scope rest left)
 
--- in a letter or the body behind it
+-- in a letter or the body after it
 abbrev pub StopsBound : List Var → List (List ℕ) → ℕ → Type 0
 StopsBound scope fields left =
     Fails (IsFreshLetter scope) fields left
     ⊎ ((x : Var) × (rest : List (List ℕ)) × (x.0 < 16) × (¬ IsOneOf x scope) × (fields ≡ letter x ∷ rest)
     × Stops (x ∷ scope) rest left)
 
--- in the formula that all of the fields are to be, or behind it
+-- in the formula that all of the fields must be, or after it
 abbrev pub StopsWhole : List (List ℕ) → ℕ → Type 0
 StopsWhole fields left =
     Stops [] fields left
     ⊎ ((f : Typed) × (rest : List (List ℕ)) × IsProper [] f × (fields ≡ spelled f ++ rest) × (0 < left)
     × (left ≡ length rest))
 
--- so many fields were left there
+-- this many fields were left
 abbrev pub IsStop : (ℕ → Type 0) → Stop → Type 0
 IsStop Is (Left left) = Is left
 IsStop Is Memory = Unit {0}

@@ -1,4 +1,4 @@
--- Formulas as they are typed, their spelling and their meaning.
+-- Typed formulas, their spelling and their meaning.
 use Rattle.std.specs.Prelude.{ℕ, ◌<◌, List, [], ◌∷◌, ◌++◌, length, ℤ, pos}
 use Rattle.std.specs.List.{All}
 use Rattle.std.specs.Fmt.{signed_decimal}
@@ -15,14 +15,14 @@ use Rattle.arith_desk.specs.declared.words.Quantifier.TheVariants as quantifiers
 use Rattle.arith_desk.specs.declared.words.Word.TheVariants as words
 use Rattle.arith_desk.specs.Words.{word_text, letter}
 
--- a comparison of a sum of terms with a bound, and what is made of formulas
+-- a comparison of a sum of terms with a bound, and combinations of formulas
 pub data Typed : Type 0 where
   Compared : Rel → List (ℤ × Var) → ℤ → Typed
   Denied : Typed → Typed
   Joined : BinaryOp → Typed → Typed → Typed
   Bound : Quantifier → Var → Typed → Typed
 
--- the fields of terms, a coefficient and a letter each
+-- the fields of terms: a coefficient and a letter each
 abbrev pub term_fields : List (ℤ × Var) → List (List ℕ)
 term_fields [] = []
 term_fields (t ∷ terms) = signed_decimal t.0 ∷ letter t.1 ∷ term_fields terms
@@ -40,7 +40,7 @@ abbrev pub join : BinaryOp → Tree → Tree → Tree
 join And f g = tree.And f g
 join Or f g = tree.Or f g
 
--- some value of the variable, or each
+-- existential or universal quantification
 abbrev pub bind : Quantifier → Var → Tree → Tree
 bind quantifiers.Ex x f = tree.Ex x f
 bind quantifiers.All x f = tree.Not (tree.Ex x (tree.Not f))
@@ -51,8 +51,8 @@ meaning (Denied f) = tree.Not (meaning f)
 meaning (Joined connective f g) = join connective (meaning f) (meaning g)
 meaning (Bound quantifier x f) = bind quantifier x (meaning f)
 
--- Within quantifiers of these letters: each further quantifier has a letter that none around it has, and each letter of
--- a comparison is that of a quantifier around it.
+-- Within quantifiers of these letters: each further quantifier has a letter that no enclosing one has, and each letter of a
+-- comparison is that of an enclosing quantifier.
 abbrev pub IsProper : List Var → Typed → Type 0
 IsProper scope (Compared rel terms bound) = IsAtom terms bound × All (λ t. IsOneOf t.1 scope) terms
 IsProper scope (Denied f) = IsProper scope f

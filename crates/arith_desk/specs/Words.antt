@@ -1,4 +1,4 @@
--- What fields say by themselves.
+-- The tokens of fields.
 use Rattle.std.specs.Prelude.{◌≡◌, ◌≢◌, ℕ, ◌+◌, List, [], ◌∷◌, ℤ, pos, negsuc, ◌≤ℤ◌, Option, Some, None, codes}
 use Rattle.track_word.specs.declared.tracks.Var.{Var}
 use Rattle.track_word.specs.declared.atoms.Rel.TheVariants.{Le, Eq}
@@ -16,7 +16,7 @@ word_text (Bind quantifiers.All) = codes "all"
 word_text (Compare Le) = codes "le"
 word_text (Compare Eq) = codes "eq"
 
--- the word that the field is, or that it is none
+-- the keyword that the field is, or none
 abbrev pub IsNamed : List ℕ → Option Word → Type 0
 IsNamed field (Some word) = field ≡ word_text word
 IsNamed field None = (word : Word) → field ≢ word_text word
@@ -25,6 +25,6 @@ IsNamed field None = (word : Word) → field ≢ word_text word
 abbrev pub letter : Var → List ℕ
 letter x = (97 + x.0) ∷ []
 
--- what a variable may be multiplied by
+-- a coefficient: from -64 to 64 but 0
 abbrev pub IsFactor : ℤ → Type 0
 IsFactor a = (a ≢ pos 0) × (negsuc 63 ≤ℤ a) × (a ≤ℤ pos 64)

@@ -1,4 +1,4 @@
-//! Formulas put together. Err is want of memory alone.
+//! Construction of formulas. Functions fail only if an allocation fails.
 ghost use Rattle.std.specs.Prelude.{◌≡◌, IfOk};
 ghost use Rattle.track_word.specs.Atom.{IsAtom};
 ghost use Rattle.lin_formula.specs.Tree as tree;
@@ -10,7 +10,7 @@ use lin_formula::{Formula, LinWhy};
 use std::alloc::{AllocError, Global};
 use track_word::{Rel, Var};
 
-/// The sum of the terms against the bound.
+/// Returns the comparison of the sum of the terms with the bound.
 pub fn compared(
     alloc: Global,
     terms: &[(i8, Var)],
@@ -27,7 +27,7 @@ pub fn compared(
     }
 }
 
-/// The formula does not hold.
+/// Returns the negation.
 pub fn denied(alloc: Global, f: Formula) -> Result<Formula, AllocError>
     ensures { IfOk result (λ made. tree_of made ≡ tree.Not (tree_of f)) }
 {
@@ -37,7 +37,7 @@ pub fn denied(alloc: Global, f: Formula) -> Result<Formula, AllocError>
     }
 }
 
-/// Both formulas hold, or one of them does.
+/// Returns the conjunction or disjunction.
 pub fn joined(
     alloc: Global,
     connective: BinaryOp,
@@ -56,7 +56,7 @@ pub fn joined(
     }
 }
 
-/// The formula holds with some integer as the variable's value.
+/// Returns the existential quantification.
 fn some(alloc: Global, var: Var, f: Formula) -> Result<Formula, AllocError>
     ensures { IfOk result (λ made. tree_of made ≡ tree.Ex var (tree_of f)) }
 {
@@ -66,7 +66,7 @@ fn some(alloc: Global, var: Var, f: Formula) -> Result<Formula, AllocError>
     }
 }
 
-/// The formula holds with each integer as the variable's value.
+/// Returns the universal quantification.
 fn every(alloc: Global, var: Var, f: Formula) -> Result<Formula, AllocError>
     ensures { IfOk result (λ made. tree_of made ≡ tree.Not (tree.Ex var (tree.Not (tree_of f)))) }
 {
@@ -75,7 +75,7 @@ fn every(alloc: Global, var: Var, f: Formula) -> Result<Formula, AllocError>
     denied(alloc, somewhere)
 }
 
-/// The formula holds with some integer as the variable's value, or with each.
+/// Returns the quantification of a variable.
 pub fn bound(
     alloc: Global,
     quantifier: Quantifier,

@@ -1,4 +1,4 @@
-//! Whether a closed formula holds.
+//! Truth of closed formulas.
 ghost use Rattle.std.specs.Prelude.{◌≡◌, ◌↔◌, ◌⊎◌, ◌≤◌, ◌^◌, [], ◌∷◌, pos, length, IfOk, IfErr, IfSome, OnOk, IsTrue, None};
 ghost use Rattle.auto_core.specs.Integers.{DecidesIntegers, IsAccepted};
 ghost use Rattle.lin_formula.specs.Tree as tree;
@@ -25,22 +25,22 @@ use lin_formula::{Formula, copy, free_vars, value};
 use std::alloc::{AllocError, Global};
 use track_word::Var;
 
-/// How far from 0 a number is searched for.
+/// The maximum distance from 0 of a number that is searched, 2^64.
 const FAR: u128 = 0x1_0000_0000_0000_0000;
 
-/// Whether a closed formula holds.
+/// The truth of a closed formula, with a witness if it is existential.
 #[derive(Clone, Copy, PartialEq, Eq)]
 pub enum Truth {
     False,
     True,
-    /// It holds, and says that there is a number: this is the one nearest to 0, and the positive one of two that are as
-    /// near.
+    /// True with a witness: the number nearest to 0, and the positive one of two that are equally near.
     Witness(i128),
-    /// It holds, and says that there is a number, but none up to 2^64 or down to -2^64.
+    /// True, but there is no witness from -2^64 to 2^64.
     WitnessWide,
 }
 
-/// Whether a closed formula holds. The budget bounds the states of a step. Goes down the formula, a call a level.
+/// Decides a closed formula. The budget limits the states of each step. Recurses one call per level. Errors: `Over` with the number
+/// of the first step that exceeds the budget, `Memory` if an allocation fails.
 pub fn decide_closed(alloc: Global, f: &Formula, budget: Budget) -> Result<Truth, CompileError>
     requires question { IsQuestion (tree_of f.now) }
     ensures truth { IfOk result (IsTruth (tree_of f.now)) }
@@ -59,7 +59,7 @@ pub fn decide_closed(alloc: Global, f: &Formula, budget: Budget) -> Result<Truth
     }
 }
 
-/// Whether the variable is free in the formula.
+/// Returns whether the variable is free in the formula.
 fn is_free(alloc: Global, var: Var, f: &Formula) -> Result<bool, AllocError>
     ensures { IfOk result (λ free. IsTrue free ↔ IsFree var (tree_of f.now)) }
 {
@@ -67,7 +67,7 @@ fn is_free(alloc: Global, var: Var, f: &Formula) -> Result<bool, AllocError>
     Ok(is_one_of(var, free.as_slice()))
 }
 
-/// Whether the formula holds, by the formula itself.
+/// Decides the formula without a witness.
 fn decide(alloc: Global, f: &Formula, budget: Budget) -> Result<Truth, CompileError>
     requires question { IsQuestion (tree_of f.now) }
     ensures truth { IfOk result (IsPlainTruth (tree_of f.now)) }
@@ -83,7 +83,7 @@ fn decide(alloc: Global, f: &Formula, budget: Budget) -> Result<Truth, CompileEr
     }
 }
 
-/// The number with which the body holds that is the nearest to 0, if it holds with any.
+/// Searches the witness of an existential formula that is nearest to 0.
 fn seek(alloc: Global, var: Var, body: &Formula, budget: Budget) -> Result<Truth, CompileError>
     requires question { IsQuestion (tree.Ex var (tree_of body.now)) }
     requires free { IsFree var (tree_of body.now) }
@@ -104,14 +104,14 @@ fn seek(alloc: Global, var: Var, body: &Formula, budget: Budget) -> Result<Truth
     }
 }
 
-/// The formula holds, and a further variable is 0.
+/// Returns the conjunction of the formula and of an additional variable's being 0.
 fn with_zero(alloc: Global, f: &Formula) -> Result<Formula, AllocError>
     ensures { IfOk result (λ made. tree_of made ≡ with_zero_tree (tree_of f.now)) }
 {
     joined(alloc, BinaryOp::And, copy(alloc, f)?, value(Var(16), 0))
 }
 
-/// The number nearest to 0 that stands in the set beside 0.
+/// Returns the number nearest to 0 whose pair with 0 is in the set.
 fn nearest(search: &mut Search, a: &Auto) -> Option<i128>
     requires decides { DecidesIntegers a.now }
     requires room { length a.now.accept ≤ search.old }
@@ -138,7 +138,7 @@ fn nearest(search: &mut Search, a: &Auto) -> Option<i128>
     nearer(above, below)
 }
 
-/// The number so far above 0, or that so far below it, whichever is nearer.
+/// Returns the nearer of two numbers, given by their distances above and below 0.
 fn nearer(above: Option<u128>, below: Option<u128>) -> Option<i128>
     requires above { IfSome above (λ t. t ≤ 2 ^ 64) }
     requires below { IfSome below (λ t. (1 ≤ t) × (t ≤ 2 ^ 64)) }

@@ -1,17 +1,17 @@
-//! Why a line is no formula.
+//! Errors of parsing.
 ghost use Rattle.std.specs.Prelude.{◌≡◌};
 ghost use Rattle.arith_desk.specs.declared.errors.ArithError.TheVariants as arith_error;
 ghost use Rattle.arith_desk.specs.declared.errors.Stop.TheVariants as stops;
 
 use std::alloc::AllocError;
 
-/// Why a line is no formula.
+/// Why a line is not a formula.
 #[derive(Clone, Copy, PartialEq, Eq)]
 pub enum ArithError {
-    /// The field of this number, counted from 1, is the first that cannot stand where it stands. Where fields are missing,
-    /// it is the one past the last.
+    /// The field with this number, counted from 1, is the first that is not allowed at its position. If fields are missing, it is
+    /// the number of fields plus one.
     Field(u32),
-    /// Memory ran out.
+    /// An allocation failed.
     Memory,
 }
 
@@ -23,13 +23,12 @@ impl From<AllocError> for ArithError {
     }
 }
 
-/// Why reading stopped.
+/// Why parsing stopped.
 #[derive(Clone, Copy, PartialEq, Eq)]
 pub enum Stop {
-    /// A field cannot stand where it stands. So many are left from it on, itself counted; none are where fields are
-    /// missing.
+    /// A field is not allowed at its position. The number of fields from it on, including it, or 0 if fields are missing.
     Left(usize),
-    /// Memory ran out.
+    /// An allocation failed.
     Memory,
 }
 

@@ -5,7 +5,7 @@ ghost use Rattle.arith_desk.specs.Line.{AddsFields, texts};
 use std::alloc::AllocError;
 use text_fields::split_at_blank;
 
-/// Adds the fields of a line.
+/// Appends the fields of a line. Errors: an allocation failed.
 pub fn push_fields<'a>(fields: &mut Vec<&'a [u8]>, line: &'a [u8]) -> Result<(), AllocError>
     ensures { OnOk result (AddsFields line.now (texts fields.old.items) (texts fields.new.items)) }
 {

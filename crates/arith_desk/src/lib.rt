@@ -1,6 +1,6 @@
-//! Closed formulas over the integers, typed as a line of fields, and whether they hold. `specs/Typed` has what can be typed,
-//! how it is spelled and what it means; `specs/Stops` says which field of another line is the first that cannot stand where
-//! it stands; `specs/Truth` says what is answered of a formula.
+//! Parses and decides closed formulas over the integers, typed as a line of fields.
+//! `specs/Typed` defines the formulas, their spelling and their meaning, `specs/Stops` the first field of another line that is not
+//! allowed at its position, and `specs/Truth` the result for a formula.
 #![tactic(auto)]
 
 mod building;

@@ -1,4 +1,4 @@
-//! A line read as a formula.
+//! Parsing of a line.
 ghost use Rattle.std.specs.Prelude.{◌≡◌, ◌≤◌, ◌∷◌, ◌++◌, [], length, IfOk, IfErr, OnOk};
 ghost use Rattle.lin_formula.specs.TreeOf.{tree_of};
 ghost use Rattle.arith_desk.specs.Line.{texts};
@@ -16,7 +16,8 @@ use lin_formula::Formula;
 use std::alloc::{AllocError, Global};
 use track_word::{Rel, Var};
 
-/// The formula that the line is. Goes down the formula, a call a level: fewer than there are fields.
+/// Parses a line as a formula. Recurses one call per level, less than the number of fields. Errors: `Field` with the first field
+/// that is not allowed, `Memory` if an allocation fails.
 pub fn read_formula(alloc: Global, line: &[u8]) -> Result<Formula, ArithError>
     requires { length line.now ≤ MOST_LINE_BYTES }
     ensures formula { IfOk result (λ f. IsFormulaLine line.now (tree_of f)) }
@@ -32,7 +33,7 @@ pub fn read_formula(alloc: Global, line: &[u8]) -> Result<Formula, ArithError>
     }
 }
 
-/// The formula that all of the fields are.
+/// Parses all of the fields as a formula.
 fn whole(alloc: Global, fields: Fields) -> Result<Formula, Stop>
     ensures ok { IfOk result (λ f. IsReadWhole (texts fields.now) (tree_of f)) }
     ensures err { IfErr result (IsStop (StopsWhole (texts fields.now))) }
@@ -45,8 +46,8 @@ fn whole(alloc: Global, fields: Fields) -> Result<Formula, Stop>
     }
 }
 
-/// The formula that the fields begin with, and the fields after it. The scope has the letters of the quantifiers around
-/// it.
+/// Parses the formula at the start of the fields, and returns it with the fields after it. The scope has the letters of the
+/// enclosing quantifiers.
 #[cycle(formula)]
 fn formula<'a>(
     alloc: Global,
@@ -71,7 +72,7 @@ fn formula<'a>(
     }
 }
 
-/// The two formulas that the fields begin with, joined, and the fields after them.
+/// Parses two formulas, combines them, and returns the result with the fields after them.
 #[cycle(formula)]
 fn joined<'a>(
     alloc: Global,
@@ -87,7 +88,7 @@ fn joined<'a>(
     Ok((joined_formula(alloc, connective, f, g)?, rest))
 }
 
-/// The letter and the body that the fields begin with, as a quantified formula, and the fields after them.
+/// Parses a letter and a body, and returns the quantified formula with the fields after it.
 #[cycle(formula)]
 fn bound<'a>(
     alloc: Global,
@@ -104,7 +105,7 @@ fn bound<'a>(
     Ok((bound_formula(alloc, quantifier, var, body)?, rest))
 }
 
-/// The scope with one letter more.
+/// Returns the scope with one more letter.
 fn with_letter(alloc: Global, var: Var, scope: &[Var]) -> Result<Vec<Var>, AllocError>
     ensures { IfOk result (λ inner. inner.items ≡ var ∷ scope.now) }
 {
@@ -113,7 +114,7 @@ fn with_letter(alloc: Global, var: Var, scope: &[Var]) -> Result<Vec<Var>, Alloc
     Ok(inner)
 }
 
-/// The comparison whose number of terms, terms and bound the fields begin with, and the fields after them.
+/// Parses a comparison: the number of terms, the terms and the bound. Returns it with the fields after it.
 fn comparison<'a>(
     alloc: Global,
     rel: Rel,
@@ -129,7 +130,7 @@ fn comparison<'a>(
     Ok((compared(alloc, terms.as_slice(), rel, bound)?, rest))
 }
 
-/// Adds so many terms. Gives the bound that stands behind them, and the fields after it.
+/// Parses and appends this many terms. Returns the bound that follows them, and the fields after it.
 fn terms_and_bound<'a>(
     terms: &mut Vec<(i8, Var)>,
     due: u8,
@@ -149,7 +150,7 @@ fn terms_and_bound<'a>(
     terms_and_bound(terms, due - 1, rest, scope)
 }
 
-/// Adds a term.
+/// Appends a term.
 fn push_term(terms: &mut Vec<(i8, Var)>, factor: i8, var: Var) -> Result<(), AllocError>
     ensures { OnOk result (terms.new.items ≡ terms.old.items ++ (factor, var) ∷ []) }
 {

@@ -1,4 +1,4 @@
-//! Fields that are to be a letter or a number.
+//! Fields that must be a letter or a number.
 ghost use Rattle.std.specs.Prelude.{◌≡◌, ◌≢◌, ◌≤◌, ◌<◌, [], ◌∷◌, ◌≤ℤ◌, length, pos, IfOk, IfErr, IfSome, IfNone, IsTrue, ◌↔◌};
 ghost use Rattle.std.specs.Bool.{OnTrue, OnFalse};
 ghost use Rattle.std.specs.List.{All};
@@ -12,10 +12,10 @@ use crate::errors::Stop;
 use crate::words::{letter_of, number_between};
 use track_word::Var;
 
-/// Some fields of a line.
+/// Fields of a line.
 pub type Fields<'a> = &'a [&'a [u8]];
 
-/// The first field, and those after it.
+/// Returns the first field and the others.
 pub fn front<'a>(fields: Fields<'a>) -> Option<(&'a [u8], Fields<'a>)>
     ensures some { IfSome result (λ front. texts fields.now ≡ front.0.now ∷ texts front.1.now) }
     ensures none { IfNone result (texts fields.now ≡ []) }
@@ -26,14 +26,14 @@ pub fn front<'a>(fields: Fields<'a>) -> Option<(&'a [u8], Fields<'a>)>
     }
 }
 
-/// The first of these fields cannot stand where it stands, or is missing.
+/// Returns the error that the first field is not allowed or missing.
 pub fn stop_at(fields: Fields) -> Stop
     ensures { result ≡ Stop.Left (length (texts fields.now)) }
 {
     Stop::Left(fields.len())
 }
 
-/// A number between two others, and the fields after it.
+/// Parses a number between two others. Returns it with the fields after it.
 pub fn number<'a>(fields: Fields<'a>, low: i32, high: i32) -> Result<(i32, Fields<'a>), Stop>
     ensures low { IfOk result (λ taken. low ≤ℤ taken.0) }
     ensures high { IfOk result (λ taken. taken.0 ≤ℤ high) }
@@ -49,7 +49,7 @@ pub fn number<'a>(fields: Fields<'a>, low: i32, high: i32) -> Result<(i32, Field
     }
 }
 
-/// How many terms there are, and the fields after that.
+/// Parses the number of terms. Returns it with the fields after it.
 pub fn count<'a>(fields: Fields<'a>) -> Result<(u8, Fields<'a>), Stop>
     ensures low { IfOk result (λ taken. 1 ≤ taken.0) }
     ensures high { IfOk result (λ taken. taken.0 ≤ 8) }
@@ -60,7 +60,7 @@ pub fn count<'a>(fields: Fields<'a>) -> Result<(u8, Fields<'a>), Stop>
     Ok((number as u8, rest))
 }
 
-/// A coefficient, and the fields after it.
+/// Parses a coefficient. Returns it with the fields after it.
 pub fn factor<'a>(fields: Fields<'a>) -> Result<(i8, Fields<'a>), Stop>
     ensures factor { IfOk result (λ taken. IsFactor taken.0) }
     ensures ok { IfOk result (λ taken. texts fields.now ≡ signed_decimal taken.0 ∷ texts taken.1.now) }
@@ -73,7 +73,7 @@ pub fn factor<'a>(fields: Fields<'a>) -> Result<(i8, Fields<'a>), Stop>
     Ok((number as i8, rest))
 }
 
-/// A letter that is not in the scope, and the fields after it.
+/// Parses a letter that is not in the scope. Returns its variable with the fields after it.
 pub fn fresh_letter<'a>(fields: Fields<'a>, scope: &[Var]) -> Result<(Var, Fields<'a>), Stop>
     ensures low { IfOk result (λ taken. taken.0.0 < 16) }
     ensures fresh { IfOk result (λ taken. ¬ IsOneOf taken.0 scope.now) }
@@ -92,7 +92,7 @@ pub fn fresh_letter<'a>(fields: Fields<'a>, scope: &[Var]) -> Result<(Var, Field
     Ok((var, rest))
 }
 
-/// A letter that is in the scope and not in the terms, and the fields after it.
+/// Parses a letter that is in the scope and not in the terms. Returns its variable with the fields after it.
 pub fn known_letter<'a>(
     fields: Fields<'a>,
     scope: &[Var],
@@ -118,7 +118,7 @@ pub fn known_letter<'a>(
     Ok((var, rest))
 }
 
-/// Whether the variable is one of these.
+/// Returns whether the variable is in a list.
 pub fn is_one_of(var: Var, vars: &[Var]) -> bool
     ensures { IsTrue result ↔ IsOneOf var vars.now }
 {
@@ -128,7 +128,7 @@ pub fn is_one_of(var: Var, vars: &[Var]) -> bool
     }
 }
 
-/// Whether the variable stands in one of the terms.
+/// Returns whether the variable occurs in one of the terms.
 fn stands_in(var: Var, terms: &[(i8, Var)]) -> bool
     ensures yes { OnTrue result (All (λ t. t.1 ≢ var) terms.now → ⊥) }
     ensures no { OnFalse result (All (λ t. t.1 ≢ var) terms.now) }

@@ -1,4 +1,4 @@
-//! What a field says by itself: a word, a letter, a number.
+//! The tokens: keywords, letters and numbers.
 ghost use Rattle.std.specs.Prelude.{◌≡◌, ◌≢◌, ◌<◌, ◌≤ℤ◌, ℤ, IfSome, IfNone};
 ghost use Rattle.std.specs.Fmt.{signed_decimal};
 ghost use Rattle.track_word.specs.declared.tracks.Var.{Var};
@@ -7,23 +7,23 @@ ghost use Rattle.arith_desk.specs.Words.{IsNamed, letter};
 use text_fields::read_number;
 use track_word::{Rel, Var};
 
-/// What two formulas are joined by.
+/// A binary connective: and, or.
 #[derive(Clone, Copy, PartialEq, Eq)]
 pub enum BinaryOp {
     And,
     Or,
 }
 
-/// For how many integers a body holds.
+/// A quantifier.
 #[derive(Clone, Copy, PartialEq, Eq)]
 pub enum Quantifier {
-    /// At least one.
+    /// For at least one integer.
     Ex,
-    /// Each.
+    /// For each integer.
     All,
 }
 
-/// What a formula begins with.
+/// The first token of a formula.
 #[derive(Clone, Copy, PartialEq, Eq)]
 pub enum Word {
     Not,
@@ -32,7 +32,7 @@ pub enum Word {
     Compare(Rel),
 }
 
-/// The word that the field is.
+/// Returns the keyword that the field is.
 pub fn word_of(field: &[u8]) -> Option<Word>
     ensures { IsNamed field.now result }
 {
@@ -60,7 +60,7 @@ pub fn word_of(field: &[u8]) -> Option<Word>
     None
 }
 
-/// The variable whose letter the field is.
+/// Returns the variable whose letter the field is.
 pub fn letter_of(field: &[u8]) -> Option<Var>
     ensures some { IfSome result (λ x. (x.0 < 16) × (field.now ≡ letter x)) }
     ensures none { IfNone result ((x : Var) → x.0 < 16 → field.now ≢ letter x) }
@@ -74,7 +74,7 @@ pub fn letter_of(field: &[u8]) -> Option<Var>
     Some(Var(*byte - b'a'))
 }
 
-/// The number that the field spells, if it is one between two others.
+/// Returns the number that the field spells, if it is between two others.
 pub fn number_between(field: &[u8], low: i32, high: i32) -> Option<i32>
     ensures low { IfSome result (λ n. low ≤ℤ n) }
     ensures high { IfSome result (λ n. n ≤ℤ high) }

@@ -1,4 +1,4 @@
--- The first step past a budget.
+-- The first step that exceeds a budget.
 use Rattle.std.specs.Prelude.{◌≡◌, ◌⊎◌, ℕ, ◌+◌, List, [], ◌∷◌, ◌++◌, Option, Some, None}
 use Rattle.lin_formula.specs.Tree.{Tree, steps}
 use Rattle.lin_formula.specs.SetOf.{SetOf, members}
@@ -6,7 +6,7 @@ use Rattle.formula_auto.specs.Step.{Exceeds}
 use Rattle.set_plan.specs.Program.{Entry}
 use Rattle.set_plan.specs.declared.stop.PartStep.{PartStep}
 
--- a step with its name and with what its symbols stand for
+-- a step with its name and the sets that its symbols denote
 pub record Step (P : Type 0) : Type 0 where
   pub name : PartStep P
   pub formula : Tree
@@ -22,7 +22,7 @@ all_steps [] = []
 all_steps (entry ∷ entries) =
     numbered entry.part entry.at entry.item.sets (steps entry.item.formula) ++ all_steps entries
 
--- the name of the first step whose spread exceeds the budget, or none
+-- the name of the first step that needs more states than the budget, or none
 abbrev pub PastStep : {P : Type 0} → List (Step P) → ℕ → Option (PartStep P) → Type 0
 PastStep [] budget answer = answer ≡ None
 PastStep (step ∷ rest) budget answer =

@@ -1,4 +1,4 @@
--- When two items, or two lists of items, come to the same.
+-- Equivalence of items, and of lists of items.
 use Rattle.std.specs.Prelude.{◌≡◌, ◌↔◌, ◌⊎◌, ℕ, List, [], ◌∷◌, map, ℤ}
 use Rattle.lin_formula.specs.Tree.{Tree, steps}
 use Rattle.lin_formula.specs.SetOf.{SetOf, Where, Member, members, SomeEmpty, NoneEmpty}
@@ -14,7 +14,7 @@ pub record SameEmpty (xs ys : List SetOf) : Type 0 where
   pub some : SomeEmpty xs ↔ SomeEmpty ys
   pub none : NoneEmpty xs ↔ NoneEmpty ys
 
--- step by step the same spreads
+-- step by step the same state counts
 abbrev pub SameSteps : List Tree → (ℕ → SetOf) → List Tree → (ℕ → SetOf) → Type 0
 SameSteps [] d [] e = Unit {0}
 SameSteps [] d (g ∷ gs) e = ⊥
@@ -22,18 +22,17 @@ SameSteps (f ∷ fs) d [] e = ⊥
 SameSteps (f ∷ fs) d (g ∷ gs) e =
     ((budget : ℕ) → Exceeds f (members d) budget ↔ Exceeds g (members e) budget) × SameSteps fs d gs e
 
--- the same steps and the same tuples, and both lack a set or neither
+-- the same steps and tuples, and both lack a set or neither does
 pub record SameItem (i j : Item) : Type 0 where
   pub steps : SameSteps (steps i.formula) i.sets (steps j.formula) j.sets
   pub members : SameSets (Where i.formula i.sets) (Where j.formula j.sets)
   pub positives : SameEmpty (map i.sets (positives i.formula)) (map j.sets (positives j.formula))
 
--- the item is left out of a union
+-- the item is omitted from a union
 abbrev pub IsLacking : Item → Type 0
 IsLacking item = SomeEmpty (map item.sets (positives item.formula))
 
--- the items of the first list are the same as those of the second, some of which may be missing that are left out of a
--- union
+-- the items of the first list are equivalent to those of the second, of which some may be missing that are omitted from a union
 abbrev pub Thinned : List Item → List Item → Type 0
 Thinned is [] = is ≡ []
 Thinned is (j ∷ js) =

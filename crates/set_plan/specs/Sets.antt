@@ -1,4 +1,4 @@
--- SetStore that a program has made.
+-- Sets that a program has computed.
 use Rattle.std.specs.Prelude.{◌≡◌, ◌<◌, ◌≤◌, ℕ, List, [], ◌∷◌, length, Option, Some, None, IfSome, slice_get}
 use Rattle.std.specs.Borrow.{Bor}
 use Rattle.limits.specs.declared.numbers.TheConstants.{MOST_STATES}
@@ -16,44 +16,44 @@ use Rattle.set_plan.specs.declared.left.Left.{Left}
 use Rattle.set_plan.specs.declared.left.Left.TheVariants.{Whole, Part}
 use Rattle.set_plan.specs.declared.made.Made.{Made}
 
--- the automaton decides a set of tuples of integers, one for each of the tracks
+-- the automaton decides a set of integer tuples, with one value for each of the tracks
 pub record DecidesOn (tracks : List Var) (a : Automaton) : Type 0 where
   pub integers : DecidesIntegers a
   pub tracks_are : a.tracks ≡ tracks
 
--- and it is reduced, with no more states than the greatest budget
+-- in addition, it is minimal, with at most as many states as the greatest budget
 pub record IsSetOn (tracks : List Var) (a : Automaton) : Type 0 where
   pub reduced : IsReduced a
   pub decides : DecidesOn tracks a
   pub few : length a.accept ≤ MOST_STATES
 
--- the same over the free variables of a formula, where its number of states is known only if the formula has a step
+-- the same over the free variables of a formula; its number of states is limited only if the formula has a step
 pub record IsSetBy (f : Tree) (a : Automaton) : Type 0 where
   pub reduced : IsReduced a
   pub decides : DecidesOn (free_vars f) a
   pub few : 0 < length (steps f) → length a.accept ≤ MOST_STATES
 
--- words lead to each of its states, some of which may accept the same suffixes
+-- each of its states is reached; it need not be minimal
 pub record IsReachedOn (tracks : List Var) (a : Automaton) : Type 0 where
   pub reached : AllReached a
   pub decides : DecidesOn tracks a
   pub few : length a.accept ≤ MOST_STATES
 
--- the second automaton has the tuples of the first, and is a set where the first need only be reached
+-- the second automaton has the tuples of the first, and is minimal
 pub record IsReductionOf (a r : Automaton) : Type 0 where
   pub same : SameSets (Table a) (Table r)
   pub set : (tracks : List Var) → IsReachedOn tracks a → IsSetOn tracks r
 
--- there is none, or it is reduced
+-- there is no set, or it is the minimal one
 abbrev pub IsReducedSet : Option Automaton → Option Automaton → Type 0
 IsReducedSet None set = set ≡ None
 IsReducedSet (Some a) set = (r : Automaton) × (set ≡ Some r) × IsReductionOf a r
 
--- the same number, and the set reduced, if there is one
+-- the same number, and the set minimized, if there is one
 abbrev pub IsReducedMade : Made → Made → Type 0
 IsReducedMade made other = (other.at ≡ made.at) × IsReducedSet made.set other.set
 
--- an item whose symbols stand for the automata of a table
+-- an item whose symbols denote the automata of a table
 abbrev pub item_of : List Automaton → Tree → Item
 item_of sets f = record { formula = f; sets = tables sets }
 
@@ -61,14 +61,14 @@ item_of sets f = record { formula = f; sets = tables sets }
 abbrev pub made_of : Made → SetOf × ℕ
 made_of made = (as_set made.set, made.at)
 
--- a formula over these tracks that can be compiled over the table, of at least one and fewer than a thousand steps
+-- a formula over these tracks that can be compiled over the table, with at least one and fewer than a thousand steps
 pub record IsItemOn (tracks : List Var) (sets : List Automaton) (f : Tree) : Type 0 where
   pub compilable : IsCompilable f sets
   pub some : 0 < length (steps f)
   pub few : length (steps f) < 1000
   pub over : free_vars f ≡ tracks
 
--- the set of an automaton that is lent, if there is one
+-- the set of a borrowed automaton, if there is one
 abbrev pub lent : Option (Bor Automaton) → SetOf
 lent None = Nothing
 lent (Some a) = Table a.now
@@ -81,16 +81,16 @@ abbrev pub IsLeftOn : List Var → Left → Type 0
 IsLeftOn tracks Whole = Unit {0}
 IsLeftOn tracks (Part set) = IfSome set (IsSetOn tracks)
 
--- each set of the one table is in the other under its number
+-- each set of the first table is in the second one under the same number
 abbrev pub Grows : List Automaton → List Automaton → Type 0
 Grows old new = (k : ℕ) (a : Automaton) → slice_get old k ≡ Some a → slice_get new k ≡ Some a
 
--- what is kept of a set, if there is one
+-- the stored set, if there is one
 abbrev pub kept_of : Option Automaton → List Automaton
 kept_of None = []
 kept_of (Some a) = a ∷ []
 
--- the set of a name, if there is one
+-- the set with a name, if there is one
 abbrev pub set_at : List Automaton → Option SetId → SetOf
 set_at sets None = Nothing
 set_at sets (Some id) = tables sets id.0

@@ -19,7 +19,8 @@ use lin_formula::Formula;
 use std::alloc::Global;
 use track_word::Var;
 
-/// Whether the sets of all of the formulas are empty. They are made one after the other, up to the first that is not empty, in one part.
+/// Decides whether the sets of all of the formulas are empty. They are computed in order, up to the first that is not empty, as one
+/// part.
 pub fn are_empty<P: Copy>(
     alloc: Global,
     memo: &mut Memo,
@@ -46,7 +47,7 @@ pub fn are_empty<P: Copy>(
     Ok(true)
 }
 
-/// Whether each tuple of the one set is in the other, in a part of its own: it takes the steps of what is left of the one without the other.
+/// Decides whether the first set is a subset of the second, as a part of its own. It takes the steps of their difference.
 pub fn is_within<P: Copy>(
     alloc: Global,
     tracks: &[Var],

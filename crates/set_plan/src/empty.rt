@@ -1,4 +1,4 @@
-//! Whether sets are empty.
+//! Emptiness of sets.
 ghost use Rattle.std.specs.Prelude.{◌≡◌, IfSome, length, map};
 ghost use Rattle.std.specs.Bool.{OnTrue, OnFalse};
 ghost use Rattle.auto_core.specs.Reduced.{IsReduced, AllReached};
@@ -12,7 +12,7 @@ use auto_reduce::is_empty;
 use formula_auto::SetTable;
 use lin_formula::Formula;
 
-/// Whether a set has no tuple.
+/// Returns whether a set is empty.
 pub fn is_empty_set(a: &Auto) -> bool
     requires { IsReduced a.now }
     ensures yes { OnTrue result (IsEmpty (Table a.now)) }
@@ -21,7 +21,7 @@ pub fn is_empty_set(a: &Auto) -> bool
     has_no_tuple(a)
 }
 
-/// Whether a set has no tuple, of an automaton that need not be reduced.
+/// Returns whether the set of an automaton, which need not be minimal, is empty.
 pub fn has_no_tuple(a: &Auto) -> bool
     requires { AllReached a.now }
     ensures yes { OnTrue result (IsEmpty (Table a.now)) }
@@ -31,7 +31,7 @@ pub fn has_no_tuple(a: &Auto) -> bool
     is_empty(a)
 }
 
-/// Whether there is no set, or one that has no tuple.
+/// Returns whether there is no set, or an empty one.
 pub fn is_none_or_empty(set: &Option<Auto>) -> bool
     requires { IfSome set.now AllReached }
     ensures yes { OnTrue result (IsEmpty (as_set set.now)) }
@@ -43,7 +43,8 @@ pub fn is_none_or_empty(set: &Option<Auto>) -> bool
     }
 }
 
-/// Whether one of the sets is empty that the formula names outside of any Not and Or. Goes down the formula, a call a level.
+/// Returns whether one of the sets is empty that the formula names outside of negations and disjunctions. Recurses one call per
+/// level.
 pub fn lacks_a_set(f: &Formula, sets: &SetTable) -> bool
     requires { IsReady (tree_of f.now) sets.now }
     ensures yes { OnTrue result (SomeEmpty (map (tables sets.now) (positives (tree_of f.now)))) }

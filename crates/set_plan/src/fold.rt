@@ -1,13 +1,13 @@
-//! One program after another, for each item of a list.
+//! Programs executed in sequence, one for each item of a list.
 ghost use Rattle.std.specs.Prelude.{◌≡◌, [], ◌∷◌, List, ℕ, IfOk};
 ghost use Rattle.set_plan.specs.Fold.{AnswersOn, StillFits, all_of};
 ghost use Rattle.set_plan.specs.Program.{Program};
 
 use crate::stop::PlanError;
 
-/// What is done for each item of a list in turn, by programs that go on from the value so far.
+/// A program for each item of a list, which continues from the value so far.
 pub trait ProgramFold {
-    /// What is changed on the way, as the sets that are kept.
+    /// The mutable state, such as the stored sets.
     type Work;
 
     type Item;
@@ -26,13 +26,14 @@ pub trait ProgramFold {
 
     ghost budget: { Self → Self.Work → ℕ };
 
-    /// With this value so far, these are the items to come.
+    /// The invariant: the value so far, and the remaining items.
     ghost fits: { Self → Self.Work → Self.Value → List Self.Item → Type 0 };
 
-    /// What stays, from one state of the work to a later one.
+    /// What remains true from one state to a later one.
     ghost keeps: { Self → Self.Work → Self.Work → Type 0 };
 
-    /// The value with one more item.
+    /// Returns the value after one more item. Errors: `Over` with the first step that exceeds the budget, `Memory` if an allocation
+    /// fails.
     fn step(
         &self,
         work: &mut Self::Work,
@@ -51,7 +52,7 @@ pub trait ProgramFold {
     ghost keeps_on: { (s : Self) (u v w : Self.Work) → keeps s u v → keeps s v w → keeps s u w };
 }
 
-/// The value after all items, one after the other.
+/// Returns the value after all items, in order. Errors: as those of `step`.
 pub fn each<S: ProgramFold>(
     steps: &S,
     work: &mut S::Work,

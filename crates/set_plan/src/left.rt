@@ -1,4 +1,4 @@
-//! What is left of a set without another.
+//! Differences of sets.
 ghost use Rattle.std.specs.Prelude.{◌≡◌, ◌≤◌, IfOk, IfSome};
 ghost use Rattle.set_plan.specs.Making.{AnswersRemainder};
 ghost use Rattle.set_plan.specs.Sets.{IsSetOn, lent, IsLeftOn};
@@ -12,16 +12,16 @@ use limits::Budget;
 use std::alloc::Global;
 use track_word::Var;
 
-/// What is left of a set without another.
+/// The difference of two sets.
 #[derive(Drop)]
 pub enum Left {
-    /// The whole set, since the other is empty.
+    /// The whole first set, since the second is empty.
     Whole,
-    /// This set, or nothing, since the one is empty.
+    /// This set, or none since the first set is empty.
     Part(Option<Auto>),
 }
 
-/// What the one set has and the other has not, in a part of its own. There is no step where one of the two is empty.
+/// Returns the difference of two sets, as a part of its own. It takes no step if one of the two is empty.
 pub fn difference_set<P: Copy>(
     alloc: Global,
     tracks: &[Var],

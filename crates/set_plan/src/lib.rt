@@ -1,8 +1,8 @@
-//! Programs that compute sets of tuples of integers by named steps, within a budget. `specs/Program` says what a program is and which
-//! entries it takes, `specs/Past` which step is the first past a budget, `specs/Unite` what the union of a list of formulas is, `specs/Making`
-//! what is made of formulas and left of a set, `specs/Fold` what is answered where one program after another goes on from the value so far.
-//! A function here answers a program: with its value where no step passes the budget, and else with the first step that does.
-//! `each` goes through a list by one program after another; what it goes through is an impl of `ProgramFold`.
+//! Executes programs that compute sets of integer tuples by named steps within a budget.
+//! A function here returns the value of its program if no step exceeds the budget, and otherwise the first step that does.
+//! `specs/Program` defines programs and their entries, `specs/Past` the first step that exceeds a budget, `specs/Unite` unions of
+//! lists of formulas, `specs/Making` sets of formulas and differences, and `specs/Fold` programs that continue from the value so
+//! far. `each` executes one program for each item of a list, given by a `ProgramFold`.
 #![tactic(auto)]
 
 mod asking;

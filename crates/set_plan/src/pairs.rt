@@ -14,7 +14,7 @@ use limits::Budget;
 use std::alloc::{AllocError, Global};
 use track_word::Var;
 
-/// The set of the tuples of one set or the other.
+/// Returns the union of two sets.
 fn either(alloc: Global, tracks: &[Var], a: &Auto, b: &Auto, budget: Budget) -> Result<Auto, Grown>
     requires first { IsSetOn tracks.now a.now }
     requires second { IsSetOn tracks.now b.now }
@@ -29,8 +29,8 @@ fn either(alloc: Global, tracks: &[Var], a: &Auto, b: &Auto, budget: Budget) -> 
     Ok(reduce(alloc, &c)?)
 }
 
-/// As `either`, of two sets that need not be reduced. Nor is what they make, whose states are merged in one pass. Only where the pairs
-/// of states are more than the budget are both reduced, since then alone the budget may still suffice.
+/// Returns the union of two sets, none of which need be minimal; nor is the result, whose states are merged in one pass. If the
+/// pairs of states exceed the budget, both are minimized first, since the step may still be within the budget.
 fn either_reached(
     alloc: Global,
     tracks: &[Var],
@@ -54,7 +54,7 @@ fn either_reached(
     }
 }
 
-/// `either` of two sets that are given away. Where it is seen at once that it is one of them, that one is handed on.
+/// Returns the union of two owned sets. If it is known to equal one of them, that one is returned.
 pub fn united(
     alloc: Global,
     tracks: &[Var],
@@ -76,7 +76,7 @@ pub fn united(
     }
 }
 
-/// As `united`, of two sets that need not be reduced. Nor is what they make.
+/// Returns the union as `united` does, of sets that need not be minimal; nor is the result.
 pub fn united_reached(
     alloc: Global,
     tracks: &[Var],
@@ -98,7 +98,7 @@ pub fn united_reached(
     }
 }
 
-/// `either` of the two sets reduced.
+/// Returns the union of the two sets minimized.
 fn either_of_reduced(
     alloc: Global,
     tracks: &[Var],
@@ -119,7 +119,7 @@ fn either_of_reduced(
     Ok(c)
 }
 
-/// The same set, reduced.
+/// Returns the same set, minimized. Errors: an allocation failed.
 pub fn reduced_set(alloc: Global, a: &Auto) -> Result<Auto, AllocError>
     ensures { IfOk result (IsReductionOf a.now) }
 {
@@ -127,7 +127,7 @@ pub fn reduced_set(alloc: Global, a: &Auto) -> Result<Auto, AllocError>
     Ok(r)
 }
 
-/// The set of the tuples of the one set that the other has not.
+/// Returns the difference of two sets.
 pub fn except(
     alloc: Global,
     tracks: &[Var],

@@ -1,4 +1,4 @@
-//! Items, and the union of a list of items.
+//! Sets of formulas, and unions of lists of formulas.
 ghost use Rattle.std.specs.Prelude.{ℕ, ◌≡◌, ◌<◌, ◌+◌, ◌≤◌, ◌^◌, length, map, All, IfOk, IfSome, ◌∷◌, []};
 ghost use Rattle.auto_core.specs.Reduced.{IsReduced};
 ghost use Rattle.lin_formula.specs.Tree.{free_vars, steps};
@@ -26,7 +26,7 @@ use shift_image::compile_image_on;
 use std::alloc::{AllocError, Global};
 use track_word::Var;
 
-/// The set of one formula, left out where a set that it needs is empty. Its first step has this number in the part.
+/// Returns the set of one formula, or none if a set that it needs is empty. Its first step has the number `at` in the part.
 pub fn make<P: Copy>(
     alloc: Global,
     memo: &mut Memo,
@@ -61,7 +61,7 @@ pub fn make<P: Copy>(
     }
 }
 
-/// As `make` over the table of the table of meets, for those who go on with the set: it need not be reduced.
+/// Does as `make`, over the sets of a `MeetTable`; the result need not be minimal.
 pub fn make_on<P: Copy>(
     alloc: Global,
     memo: &mut Memo,
@@ -97,7 +97,7 @@ pub fn make_on<P: Copy>(
     }
 }
 
-/// As `make`, for those who go on with the set: it need not be reduced.
+/// Does as `make`; the result need not be minimal.
 pub fn make_reached<P: Copy>(
     alloc: Global,
     memo: &mut Memo,
@@ -127,7 +127,7 @@ struct Uniting<'a, P> {
 }
 
 impl<P: Copy> Uniting<'_, P> {
-    /// What there is so far with a further set. Neither need be reduced, nor is what they make.
+    /// Returns the union so far with one more set. None of them need be minimal; nor is the result.
     fn join(&self, so_far: Option<Auto>, next: Made, budget: Budget) -> Result<Made, PlanError<P>>
         requires so_far { IfSome so_far (IsReachedOn self.now.tracks.now) }
         requires next { IfSome next.set (IsReachedOn self.now.tracks.now) }
@@ -159,7 +159,7 @@ impl<P: Copy> Uniting<'_, P> {
         }
     }
 
-    /// What there is so far with the set of one more formula, which is joined directly after its own steps.
+    /// Returns the union so far with the set of one more formula, which is joined directly after its own steps.
     fn with_item(
         &self,
         memo: &mut Memo,
@@ -190,7 +190,7 @@ impl<P: Copy> Uniting<'_, P> {
         Ok(made)
     }
 
-    /// The union of the sets of the formulas, by steps from this one on. It need not be reduced.
+    /// Returns the union of the sets of the formulas, by steps from this one on. It need not be minimal.
     fn union_of(
         &self,
         memo: &mut Memo,
@@ -215,7 +215,7 @@ impl<P: Copy> Uniting<'_, P> {
     }
 }
 
-/// The same set, reduced.
+/// Returns the same set, minimized. Errors: an allocation failed.
 pub fn reduced(alloc: Global, made: Made) -> Result<Made, AllocError>
     ensures { IfOk result (IsReducedMade made) }
 {
@@ -227,9 +227,9 @@ pub fn reduced(alloc: Global, made: Made) -> Result<Made, AllocError>
     Ok(Made { set, at })
 }
 
-/// The union of the sets of the formulas, which are over these tracks, by steps from this one on: an item is left out
-/// where a set that it needs is empty, the first set that is not empty is taken, and each further one is joined
-/// directly after its own steps. Only the set that is handed on is reduced, once.
+/// Returns the union of the sets of the formulas, which are over these tracks, by steps from this one on. An item is omitted if a
+/// set that it needs is empty; the first nonempty set is taken, and each further one is joined directly after its own steps. Only
+/// the result is minimized, once.
 pub fn unite<P: Copy>(
     alloc: Global,
     memo: &mut Memo,
@@ -257,7 +257,7 @@ pub fn unite<P: Copy>(
     Ok(reduced(alloc, made)?)
 }
 
-/// Two sets over these tracks together, in a part of their own.
+/// Returns the union of two sets over these tracks, as a part of its own.
 pub fn union_of_two<P: Copy>(
     alloc: Global,
     tracks: &[Var],

@@ -1,4 +1,4 @@
-//! SetStore that are kept.
+//! Stored sets.
 ghost use Rattle.std.specs.Prelude.{◌≡◌, ◌<◌, ◌≤◌, ◌++◌, ◌∷◌, length, IfOk, IfSome, OnErr, OnOk, [], slice_get, Some, None, Ok, take};
 ghost use Rattle.lin_formula.specs.SetOf.{as_set};
 ghost use Rattle.set_plan.specs.Sets.{Grows, kept_of, set_at};
@@ -9,7 +9,7 @@ use lin_formula::SetId;
 use std::alloc::{AllocError, Global};
 use std::marker::Model;
 
-/// SetStore that are kept, under the names that formulas use.
+/// Stored sets, under the names that formulas use.
 #[derive(Drop)]
 pub struct SetStore {
     table: SetTable,
@@ -27,7 +27,7 @@ impl Model for SetStore {
 }
 
 impl SetStore {
-    /// No sets.
+    /// Returns an empty store.
     pub fn new(alloc: Global) -> SetStore
         ensures { result ≡ [] }
     {
@@ -37,14 +37,14 @@ impl SetStore {
         }
     }
 
-    /// The table that formulas are compiled over.
+    /// Returns the table over which formulas are compiled.
     pub fn table(&self) -> &SetTable
         ensures { result.now ≡ self.now }
     {
         &self.table
     }
 
-    /// The set of a name.
+    /// Returns the set with a name.
     pub fn get(&self, id: SetId) -> &Auto
         requires { id.0 < length self.now }
         ensures { slice_get self.now id.0 ≡ Some result.now }
@@ -55,7 +55,7 @@ impl SetStore {
         }
     }
 
-    /// Keeps a set behind the others, and gives its name. Where there is none, none is kept. Err is as `put` has it.
+    /// Stores a set after the others, and returns its name, or none if there is no set. Errors: as those of `put`.
     pub fn keep(&mut self, set: Option<Auto>) -> Result<Option<SetId>, AllocError>
         ensures ok { IfOk result (λ id. set_at self.new id ≡ as_set set) }
         ensures name { IfOk result (λ id. IfSome id (λ k. k.0 ≡ length self.old)) }
@@ -71,14 +71,14 @@ impl SetStore {
         }
     }
 
-    /// How many sets there are.
+    /// Returns the number of sets.
     pub fn count(&self) -> u32
         ensures { result ≡ length self.now }
     {
         self.count
     }
 
-    /// Lets go all sets but the first so many.
+    /// Removes all sets but the first `count`.
     pub fn truncate(&mut self, count: u32)
         requires { count ≤ length self.old }
         ensures { self.new ≡ take count self.old }
@@ -87,7 +87,7 @@ impl SetStore {
         self.count = count;
     }
 
-    /// Keeps a set behind the others, and gives its name. Err is want of memory, or that there are no more names.
+    /// Stores a set after the others, and returns its name. Errors: an allocation failed, or there are no more names.
     pub fn put(&mut self, a: Auto) -> Result<SetId, AllocError>
         ensures ok { IfOk result (λ id. slice_get self.new id.0 ≡ Some a) }
         ensures name { IfOk result (λ id. id.0 ≡ length self.old) }

@@ -1,11 +1,11 @@
-//! How many steps a formula has.
+//! The number of steps of a formula.
 ghost use Rattle.std.specs.Prelude.{◌≡◌, ◌<◌, ◌^◌, length};
 ghost use Rattle.lin_formula.specs.Tree.{steps};
 ghost use Rattle.lin_formula.specs.TreeOf.{tree_of};
 
 use lin_formula::Formula;
 
-/// How many of its subformulas are And, Or or Ex. Goes down the formula, a call a level.
+/// Returns the number of its subformulas that are `And`, `Or` or `Ex`. Recurses one call per level.
 pub fn step_count(f: &Formula) -> u32
     requires { length (steps (tree_of f.now)) < 2 ^ 31 }
     ensures { result ≡ length (steps (tree_of f.now)) }

@@ -1,4 +1,4 @@
-//! Where a program stops.
+//! Why a program stops.
 ghost use Rattle.std.specs.Prelude.{◌≡◌, ◌<◌, ◌^◌};
 ghost use Rattle.set_plan.specs.declared.stop.PlanError.TheVariants.{Memory};
 ghost use Rattle.set_plan.specs.Stopped.{IsStepOf, stopped_at};
@@ -18,9 +18,9 @@ pub struct PartStep<P> {
 /// Why a program has no value.
 #[derive(Clone, Copy, PartialEq, Eq)]
 pub enum PlanError<P> {
-    /// The first step whose spread exceeds the budget.
+    /// The first step that needs more states than the budget.
     Over(PartStep<P>),
-    /// Memory ran out.
+    /// An allocation failed.
     Memory,
 }
 
@@ -33,7 +33,7 @@ impl<P> From<AllocError> for PlanError<P> {
 }
 
 impl<P: Copy> PartStep<P> {
-    /// Why a formula has no set that has its first step here.
+    /// Returns the reason why a formula has no set, whose first step is this one.
     pub(crate) fn stopped(self, why: CompileError) -> PlanError<P>
         requires step { IsStepOf 1000 why }
         requires room { self.at < 2 ^ 31 }
