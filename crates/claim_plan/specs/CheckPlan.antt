@@ -23,7 +23,7 @@ Finding = Option RuleAt
 abbrev pub rule_at : ℕ → ℕ → Rule → RuleAt
 rule_at ply mask r = record { ply = ply; mask = mask; rule = r }
 
--- what follows is gone through only where nothing was found
+-- continues with the program only if nothing was found
 abbrev pub go_on : Program Finding → Finding → Program Finding
 go_on next None = next
 go_on next (Some failed) = Give (Some failed)
@@ -31,53 +31,54 @@ go_on next (Some failed) = Give (Some failed)
 abbrev pub and_then : Program Finding → Program Finding → Program Finding
 and_then first next = bind first (go_on next)
 
--- one after another, up to the first at which something is found
+-- executes the programs of the items in order, up to the first one that finds something
 abbrev pub for_each : {X : Type 0} → List X → (X → Program Finding) → Program Finding
 for_each xs f = each xs (λ x. go_on (f x)) None
 
--- nothing is found where the rule holds
+-- nothing is found if the rule is true
 abbrev pub failed_rule : RuleAt → Bool → Finding
 failed_rule r true = None
 failed_rule r false = Some r
 
--- the rule holds where the program gives true
+-- the rule is true if the program gives true
 abbrev pub holds_by : RuleAt → Program Bool → Program Finding
 holds_by r program = bind program (λ holds. Give (failed_rule r holds))
 
--- the rule holds where the answer is yes
+-- the rule is true if the answer to the question is yes
 abbrev pub holds_if : RuleAt → Question → Program Finding
 holds_if r question = holds_by r (Ask question (Give true) (Give false))
 
--- a claimed set decides a set of integers: without a step
+-- a claimed set decides a set of integers; this takes no step
 abbrev pub check_sign : ℕ → ℕ → Option Automaton → Program Finding
 check_sign ply mask None = Give None
 check_sign ply mask (Some a) = holds_if (rule_at ply mask rule.Sign) (Stable a)
 
 module _ (rules : Rules) where
-  -- no man of the loser bears on the winner's king in a claimed set
+  -- in no position of a claimed set a man of the loser bears on the winner's king
   abbrev pub check_guard : Side → ℕ → ℕ → SetOf → Program Finding
   check_guard loser ply mask claimed = holds_by (rule_at ply mask rule.Guard) (are_safe rules loser ply mask claimed)
 
-  -- each position that is reached has an answer into what is claimed at the next ply.
-  -- Where nothing is claimed there no formula is left, and there is no answer, without a step
+  -- each reached position has a move into the claimed level of the next ply. If nothing is claimed there, no formula is
+  -- left, and no position has such a move, without a step
   abbrev pub check_left : Side → ℕ → Level → Level → ℕ → Program Finding
   check_left winner ply reached claimed1 mask =
       holds_by (rule_at ply mask rule.Left) (are_answered rules winner ply reached claimed1 mask)
 
-  -- each claimed position in which the loser is not in check has a reply; where no position is claimed there is no step
+  -- the loser has a reply in each claimed position in which he is not in check; there is no step if no position is
+  -- claimed
   abbrev pub check_stale : Side → ℕ → Level → Level → ℕ → Program Finding
   check_stale loser ply claimed reached mask =
       holds_by (rule_at ply mask rule.Stale) (have_replies rules loser ply claimed reached mask)
 
-  -- what the replies reach from the claimed positions of a ply, and the rules of these replies:
-  -- mask by mask for what they lead to, and then mask by mask for what they come from
+  -- what the loser's moves reach from the claimed positions of a ply, and the rules of these moves: first those of the
+  -- positions reached, mask by mask, and then those of the claimed positions, mask by mask
   abbrev pub check_replies : Side → ℕ → Level → Level → Program Finding
   check_replies loser ply claimed claimed2 = do
     reached ← reach_level rules loser (suc ply) claimed
     and_then (for_each rules.masks (check_left (other loser) (suc ply) reached claimed2))
         (for_each rules.masks (check_stale loser ply claimed reached))
 
-  -- from the position with these coordinates a move of the winner leads into what is claimed at ply 1
+  -- a move of the winner leads from the position with these coordinates into the claimed level of ply 1
   abbrev pub check_move : Side → ℕ → List ℤ → Level → Program Finding
   check_move winner mask tuple claimed1 =
       holds_by (rule_at 0 mask rule.First) (has_first_move rules winner mask tuple claimed1)
@@ -99,7 +100,7 @@ module _ (c : Claim) where
   abbrev pub check_same : ℕ → ℕ → Program Finding
   check_same ply mask = holds_by (rule_at ply mask rule.Same) (are_on_distinct_squares c.position ply mask (claimed_level c ply mask))
 
-  -- what each claimed set has to keep by itself
+  -- the rules of one claimed set
   abbrev pub check_set : ℕ → ℕ → Program Finding
   check_set ply mask =
       and_then (check_sign ply mask (claimed_at c ply mask))
@@ -108,16 +109,17 @@ module _ (c : Claim) where
   abbrev pub check_sets : ℕ → Program Finding
   check_sets ply = for_each rules.masks (check_set ply)
 
-  -- with the winner to move: without a move nothing is claimed at ply 1, and the rule fails without a step
+  -- the rule of the start if it is the winner's turn. With 0 moves nothing is claimed at ply 1, and the rule fails
+  -- without a step
   abbrev pub check_moving : ℕ → Program Finding
   check_moving zero = Give (Some (rule_at 0 first_mask rule.First))
   check_moving (suc moves) = check_move rules c.winner first_mask (tuple_of c.position) (claimed_level c 1)
 
-  -- with the loser to move: the position is claimed itself, which takes no step
+  -- the rule of the start if it is the loser's turn: the starting position is claimed, which takes no step
   abbrev pub check_waiting : Program Finding
   check_waiting = holds_if (rule_at 0 first_mask rule.First) (Has (claimed_level c 0 first_mask) (tuple_of c.position))
 
-  -- by how many plies the winner waits for his turn
+  -- the rule of the start, by the number of plies before the winner's first turn
   abbrev pub check_first : ℕ → Program Finding
   check_first zero = check_moving c.moves
   check_first (suc _) = check_waiting
@@ -125,7 +127,7 @@ module _ (c : Claim) where
   abbrev pub check_ply : ℕ → Program Finding
   check_ply ply = check_replies rules loser ply (claimed_level c ply) (claimed_level c (ply + 2))
 
-  -- the plan: the sets that are claimed at each ply of the loser, the start, and the replies at each ply of the loser
+  -- the plan: the sets claimed at each ply of the loser, the start, and the replies at each ply of the loser
   abbrev pub check_plan : Program Finding
   check_plan =
       and_then (for_each plies check_sets)

@@ -1,4 +1,4 @@
--- Claims that differ only in the tables of their sets.
+-- Claims whose sets have different tables and the same words.
 use Rattle.std.specs.Prelude.{◌≡◌, ◌↔◌, ℕ, Option, Some, None}
 use Rattle.auto_core.specs.Automaton.{Automaton}
 use Rattle.auto_reduce.specs.Tables.{AcceptSameWords}
@@ -15,22 +15,22 @@ pub record IsSameSet (a b : Automaton) : Type 0 where
   pub tracks : a.tracks ≡ b.tracks
   pub words : AcceptSameWords a b
 
--- there is a set on both sides, and it is the same, or there is none
+-- both sets exist and are the same, or neither exists
 abbrev pub AreSameSets : Option Automaton → Option Automaton → Type 0
 AreSameSets None None = Unit {0}
 AreSameSets None (Some b) = ⊥
 AreSameSets (Some a) None = ⊥
 AreSameSets (Some a) (Some b) = IsSameSet a b
 
--- the same sets are claimed of the same position, for the same side and number of moves
+-- the same sets are claimed of the same position, for the same winner and number of moves
 pub record IsSameClaim (c d : Claim) : Type 0 where
   pub position : c.position ≡ d.position
   pub winner : c.winner ≡ d.winner
   pub moves : c.moves ≡ d.moves
   pub sets : (ply mask : ℕ) → AreSameSets (claimed_at c ply mask) (claimed_at d ply mask)
 
--- the same positions are claimed; both are claims or neither, both are won or neither;
--- within each budget the plans of both come to the same ends, and stop at the same steps
+-- the same positions are claimed; both or neither are claims; both or neither are won; within each budget both plans
+-- have the same ends and stop at the same steps
 pub record AreCheckedAlike (c d : Claim) : Type 0 where
   pub positions : (ply : ℕ) (q : Position) → IsClaimed c ply q ↔ IsClaimed d ply q
   pub claims : IsClaim c ↔ IsClaim d
