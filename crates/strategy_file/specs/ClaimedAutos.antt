@@ -1,4 +1,4 @@
--- Automata as a file has them.
+-- Automata as they are stored in a file.
 use Rattle.auto_core.specs.Automaton.{Automaton}
 use Rattle.strategy_file.specs.declared.claimed.ClaimedAuto.{ClaimedAuto}
 use Rattle.strategy_file.specs.declared.claimed.ClaimedAuto.TheVariants.{Dense, Shared}

@@ -16,7 +16,7 @@ set_of s = record { ply = s.ply; mask = s.mask; set = automaton_in s.set }
 abbrev pub claim_of : ClaimHere → Claim
 claim_of c = record { position = c.position; winner = c.winner; moves = c.moves; sets = map set_of c.sets.items }
 
--- what a reader answers is the claim of what comes of the bytes, unless it has no memory
+-- unless memory runs out, the reader's result is the claim of the tables that the bytes have
 abbrev pub TellsClaim : (Result Charts Refusal → Type 0) → Result ClaimHere FileError → Type 0
 TellsClaim Comes result = Tells (λ c. charts_of (claim_of c)) Comes result
 
@@ -24,11 +24,11 @@ TellsClaim Comes result = Tells (λ c. charts_of (claim_of c)) Comes result
 abbrev pub charts_in : List SetHere → List Chart
 charts_in sets = map (λ s. chart_of (set_of s)) sets
 
--- the set whose automaton has a table
+-- the claimed set of a table
 abbrev pub set_with : Chart → ClaimedSet
 set_with c =
     record { ply = c.ply; mask = c.mask; set = automaton_of c.tracks c.table.first c.table.next c.table.accept }
 
--- the claim of such sets
+-- the claim of these tables
 abbrev pub claim_with : Charts → Claim
 claim_with c = record { position = c.position; winner = c.winner; moves = c.moves; sets = map set_with c.sets }

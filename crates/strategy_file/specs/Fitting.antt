@@ -15,21 +15,21 @@ use Rattle.strategy_file.specs.Versions.{most_turn, most_men, most_kind}
 use Rattle.strategy_file.specs.StrategyFile.{places_of}
 use Rattle.strategy_file.specs.Numbers.{turn_byte, kind_byte}
 
--- an automaton over the tracks of the mask's men, with no more states than a file may have for a set
+-- an automaton over the tracks of the mask's men, with at most as many states as a set in a file may have
 pub record IsFormed (p : Position) (s : ClaimedSet) : Type 0 where
   pub tracks : s.set.tracks ≡ mask_tracks p s.mask
   pub valid : IsAutomaton s.set
   pub few : length s.set.accept ≤ MOST_FILED_STATES
 
--- a file of the version can tell the winner, and has room for the men and bytes for their kinds
+-- a file of the version can name the winner, and has room for the men and numbers for their kinds
 pub record FitsVersion (version : Version) (winner : Side) (p : Position) : Type 0 where
   pub turn : turn_byte winner p.turn ≤ most_turn version
   pub most : length p.men ≤ most_men version
   pub kinds : All (λ m. kind_byte m.kind ≤ most_kind version) p.men
 
--- The claim has a file of a version: the winner is to mate within at most 20 moves, from a sound position of at least
--- two men that the version fits and whose coordinates are numbers of 64 bits; and there is a set for each ply of the
--- loser and each mask, in order.
+-- The claim has a file of a version: the winner mates within at most 20 moves from a sound position of at least two men
+-- that fits the version and has coordinates of 64 bits, and there is a set for each ply of the loser and each mask, in
+-- order.
 pub record HasFile (version : Version) (c : Claim) : Type 0 where
   pub fits : FitsVersion version c.winner c.position
   pub sound : SoundWithKings c.position
@@ -39,6 +39,6 @@ pub record HasFile (version : Version) (c : Claim) : Type 0 where
   pub places : map (λ s. (s.ply, s.mask)) c.sets ≡ places_of c.winner c.position c.moves
   pub sets : All (IsFormed c.position) c.sets
 
--- the claim has a file of the newest version, as each claim has that has a file
+-- the claim has a file of the newest version; every claim with a file has one
 abbrev pub HasFileOf : Claim → Type 0
 HasFileOf c = HasFile versions.Shared c

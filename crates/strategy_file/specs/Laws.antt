@@ -1,4 +1,4 @@
--- The laws of strategy files that are read.
+-- The laws of the strategy files that are read.
 use Rattle.std.specs.Prelude.{◌≡◌, ℕ, List, Result}
 use Rattle.strategy_file.specs.Layout.{Refusal}
 use Rattle.strategy_file.specs.StrategyFile.{Charts, File, charts_of}
@@ -12,7 +12,7 @@ use Rattle.strategy_file.specs.declared.version.Version.{Version}
 abbrev pub OneOutcome : Type 0
 OneOutcome = (bytes : List ℕ) (a b : Result Charts Refusal) → File bytes a → File bytes b → a ≡ b
 
--- what has a file is a claim
+-- the contents of a file are a claim
 abbrev pub FilesAreClaims : Type 0
 FilesAreClaims = (version : Version) (c : Claim) → HasFile version c → IsClaim c
 

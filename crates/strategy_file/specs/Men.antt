@@ -1,4 +1,4 @@
--- What stands before the sets of a file, field by field: its version, the number of moves, the sides, and the men.
+-- The fields before the sets of a file: its version, the number of moves, the sides, and the men.
 use Rattle.std.specs.Prelude.{ℕ, zero, suc, List, codes, ℤ}
 use Rattle.std.specs.Int.{w8, w32, w64, from_be_bytes, cast_signed}
 use Rattle.game_rules.specs.Game.{Position}
@@ -18,7 +18,7 @@ abbrev pub side_of : ℕ → Side
 side_of zero = White
 side_of (suc n) = Black
 
--- the side to move and the winner, who stand in one byte
+-- the side to move and the winner, which share one byte
 abbrev pub turn_of : ℕ → Side
 turn_of zero = White
 turn_of (suc zero) = Black
@@ -55,7 +55,7 @@ place_layout (suc n) = do
 abbrev pub man_of : ℕ → ℕ → Place → Man
 man_of side kind place = record { side = side_of side; kind = kind_of kind; place = place }
 
--- a man whose kind is at most this one
+-- a man whose kind has at most this number
 unfoldable pub man_layout : ℕ → Layout Man
 man_layout most = do
   side ← one (between w8 0 1 why.Side)
@@ -64,7 +64,7 @@ man_layout most = do
   place ← place_layout tag
   Give (man_of side kind place)
 
--- what stands before the sets
+-- the fields before the sets
 pub record Start : Type 0 where
   pub version : Version
   pub winner : Side

@@ -1,4 +1,4 @@
--- The numbers that stand for sides and kinds of men.
+-- The numbers of sides and kinds of men.
 use Rattle.std.specs.Prelude.{ℕ}
 use Rattle.game_rules.specs.declared.men.Side.{Side}
 use Rattle.game_rules.specs.declared.men.Side.TheVariants.{White, Black}
@@ -9,7 +9,7 @@ abbrev pub side_byte : Side → ℕ
 side_byte White = 0
 side_byte Black = 1
 
--- of the winner and the side to move
+-- the number of the winner and the side to move
 abbrev pub turn_byte : Side → Side → ℕ
 turn_byte White White = 0
 turn_byte White Black = 1

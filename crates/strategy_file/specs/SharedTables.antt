@@ -1,4 +1,4 @@
--- The rows of a set as nodes that they share, field by field.
+-- The rows of a set as shared nodes, field by field.
 use Rattle.std.specs.Prelude.{◌<◌, ℕ, zero, suc, ◌+◌, ◌-◌, ◌^◌, ◌==◌, ◌&&◌, nat_lt, if◌then◌else◌, List, [], ◌∷◌, ◌++◌, length, map, Bool, Some, None, Vec}
 use Rattle.std.specs.Int.{w8, w32}
 use Rattle.std.specs.List.{zip}
@@ -15,7 +15,7 @@ use Rattle.strategy_file.specs.Layout.{Field, Layout, Give, ◌>>=◌, one, belo
 use Rattle.strategy_file.specs.Reading.{Left}
 use Rattle.strategy_file.specs.Rests.{left_of}
 
--- whether a reference names a state or one of the nodes, and what it names looks only at tracks after a track
+-- a reference is to a state, or to one of the nodes that test only tracks after this one
 abbrev pub CanBePart : ℕ → List RowNode → ℕ → ℕ → Bool
 CanBePart states nodes track part =
     nat_lt part (states + length nodes) && nat_lt track (top_track (named states nodes) part)
@@ -24,7 +24,7 @@ pub record IsPart (states : ℕ) (nodes : List RowNode) (track part : ℕ) : Typ
   pub before : part < states + length nodes
   pub above : track < top_track (named states nodes) part
 
--- a part of a node that looks at a track
+-- a child of a node that tests a track
 abbrev pub part_field : ℕ → List RowNode → ℕ → Field
 part_field states nodes track =
     record { width = w32; wrong = λ part. if CanBePart states nodes track part then None else Some why.Ref }
@@ -32,7 +32,7 @@ part_field states nodes track =
 abbrev pub row_node : ℕ → ℕ → ℕ → RowNode
 row_node track low high = record { track = track; low = low; high = high }
 
--- a node over so many states and the nodes before it
+-- a node over this number of states and the nodes before it
 unfoldable pub node_layout : ℕ → ℕ → List RowNode → Layout RowNode
 node_layout tracks states before = do
   track ← one (below w8 tracks why.Track)
@@ -40,14 +40,14 @@ node_layout tracks states before = do
   high ← one (part_field states before track)
   Give (row_node track low high)
 
--- so many nodes behind others
+-- `count` nodes after others
 abbrev pub nodes_layout : ℕ → ℕ → ℕ → List RowNode → Layout (List RowNode)
 nodes_layout tracks states zero before = Give before
 nodes_layout tracks states (suc count) before = do
   node ← node_layout tracks states before
   nodes_layout tracks states count (before ++ node ∷ [])
 
--- one of so many references
+-- a reference below a bound
 abbrev pub reference_layout : ℕ → Layout ℕ
 reference_layout references = one (between w32 0 (references - 1) why.Ref)
 
@@ -64,7 +64,7 @@ shared_states_layout references states = repeated states (shared_state_layout re
 abbrev pub shared_with : List RowNode → ℕ → List (Bool × ℕ) → Shared
 shared_with nodes first states = record { nodes = nodes; first = first; rows = map (λ s. s.1) states }
 
--- the automaton of a table, whose diagrams are not seen
+-- the automaton of a table, without its diagrams
 abbrev pub automaton_over : List Var → Shared → List Bool → Automaton
 automaton_over tracks t accept = record {
   tracks = tracks;
@@ -76,6 +76,6 @@ automaton_over tracks t accept = record {
   row_nodes = [];
 }
 
--- flags and their rows, as they are read, and what is left
+-- flags and their rows, as they are read, and what remains
 abbrev pub shared_states_of : Vec Bool Global × Vec ℕ Global × Rest → List (Bool × ℕ) × Left
 shared_states_of read = (zip read.0.items read.1.items, left_of read.2)

@@ -47,11 +47,11 @@ chart_layout version p place = do
 abbrev pub places_with : List ℕ → List ℕ → List (ℕ × ℕ)
 places_with plies masks = flat_map (λ ply. map (λ mask. (ply, mask)) masks) plies
 
--- the plies of the loser, ascending, and at each of them the masks, ascending
+-- the plies of the loser in ascending order, each with every mask in ascending order
 abbrev pub places_of : Side → Position → ℕ → List (ℕ × ℕ)
 places_of winner p moves = places_with (losers_plies winner p.turn moves) (masks_of p)
 
--- the tables of all these places
+-- the tables of all these plies and masks
 abbrev pub sets_layout : Start → Layout (List Chart)
 sets_layout start = each (places_of start.winner start.position start.moves) (chart_layout start.version start.position)
 
@@ -63,16 +63,16 @@ charts_layout start = do
   sets ← sets_layout start
   Give (charts_with start sets)
 
--- the sets of the claim follow, and nothing behind them, or this is the first reason why they do not
+-- the sets of the claim follow and nothing follows them, or this is the first reason why not
 abbrev pub SetsFollow : Start → ℕ → List ℕ → Result Charts Refusal → Type 0
 SetsFollow start at bytes outcome = Reads (charts_layout start) IsFileEnd at bytes outcome
 
--- after the men the position has to be sound, with a king on each side
+-- after the men the position must be sound with a king on each side
 abbrev pub GoesOn : Start → ℕ → List ℕ → Result Charts Refusal → Type 0
 GoesOn start at bytes outcome =
     ((SoundWithKings start.position → ⊥) × (outcome ≡ Err (Byte at why.Unsound)))
     ⊎ (SoundWithKings start.position × SetsFollow start at bytes outcome)
 
--- the bytes are the file of a claim with these tables, or this is the first reason why they are no file
+-- the bytes are the file of a claim with these tables, or this is the first reason why they are not a file
 abbrev pub File : List ℕ → Result Charts Refusal → Type 0
 File bytes outcome = Reads start_layout GoesOn 0 bytes outcome

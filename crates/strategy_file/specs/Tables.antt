@@ -13,7 +13,8 @@ use Rattle.strategy_file.specs.declared.refusal.ByteWhy.TheVariants as why
 use Rattle.strategy_file.specs.Layout.{Layout, Give, ◌>>=◌, one, between, repeated}
 use Rattle.strategy_file.specs.SharedTables.{nodes_layout, reference_layout, shared_states_layout, shared_with}
 
--- what a file has of an automaton: a state for each sign letter, and for each state a flag and a state for each letter
+-- the part of an automaton that a file has: a state for each sign letter, and for each state a flag and a state for
+-- each letter
 pub record Table : Type 0 where
   pub first : List ℕ
   pub next : List ℕ
@@ -22,12 +23,12 @@ pub record Table : Type 0 where
 abbrev pub table_of : Automaton → Table
 table_of a = record { first = a.first; next = a.next; accept = a.accept }
 
--- the automaton that has these tables, and no nodes
+-- the automaton with these tables and without nodes
 abbrev pub automaton_of : List Var → List ℕ → List ℕ → List Bool → Automaton
 automaton_of tracks first next accept =
     record { tracks = tracks; first = first; next = next; accept = accept; shapes = []; first_node = 0; row_nodes = [] }
 
--- one of so many states
+-- a state, given the number of states
 abbrev pub entry_layout : ℕ → Layout ℕ
 entry_layout states = one (between w32 0 (states - 1) why.Entry)
 
@@ -42,7 +43,7 @@ state_layout tracks states = do
   row ← row_layout tracks states
   Give (flag == 1, row)
 
--- so many states
+-- the states, given their number
 abbrev pub states_layout : ℕ → ℕ → Layout (List (Bool × List ℕ))
 states_layout tracks states = repeated states (state_layout tracks states)
 
@@ -63,7 +64,7 @@ table_over tracks t accept = record {
   accept = accept;
 }
 
--- the nodes that the rows share, a first row, and the states
+-- the shared nodes, a first row, and the states
 unfoldable pub shared_layout : ℕ → ℕ → Layout Table
 shared_layout tracks states = do
   count ← one (between w32 0 MOST_NODES why.Nodes)
@@ -72,7 +73,7 @@ shared_layout tracks states = do
   rows ← shared_states_layout (states + count) states
   Give (table_over tracks (shared_with nodes first rows) (map (λ s. s.0) rows))
 
--- the rows of so many states, in a file of a version
+-- the rows of the states in a file of a version
 unfoldable pub rows_layout : Version → ℕ → ℕ → Layout Table
 rows_layout versions.Dense tracks states = dense_layout tracks states
 rows_layout versions.Shared tracks states = shared_layout tracks states

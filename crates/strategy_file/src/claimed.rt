@@ -1,4 +1,4 @@
-//! Automata as a file has them.
+//! Automata as they are stored in a file.
 
 ghost use Rattle.std.specs.Prelude.{◌≡◌, length, IfOk};
 ghost use Rattle.auto_core.specs.Automaton.{IsAutomaton};
@@ -9,7 +9,7 @@ use crate::shared::SharedAuto;
 use auto_core::Auto;
 use std::alloc::{AllocError, Global};
 
-/// An automaton whose rows stand in memory as they stand in a file of one version or the other.
+/// An automaton whose rows are stored in memory as in a file of version 1 or 2.
 #[derive(Drop)]
 pub enum ClaimedAuto {
     Dense(DenseAuto),
@@ -17,7 +17,7 @@ pub enum ClaimedAuto {
 }
 
 impl ClaimedAuto {
-    /// The number of states.
+    /// Returns the number of states.
     pub fn states(&self) -> u32
         ensures { result ≡ length (automaton_in self.now).accept }
     {
@@ -27,7 +27,7 @@ impl ClaimedAuto {
         }
     }
 
-    /// The automaton with the same rows, which share what they have in common.
+    /// Converts to an automaton with the same rows, whose diagrams share nodes.
     pub fn to_auto(&self, alloc: Global) -> Result<Auto, AllocError>
         ensures tracks { IfOk result (λ a. a.tracks ≡ (automaton_in self.now).tracks) }
         ensures first { IfOk result (λ a. a.first ≡ (automaton_in self.now).first) }
@@ -41,7 +41,7 @@ impl ClaimedAuto {
         }
     }
 
-    /// `to_auto`, where the table is let go.
+    /// Like `to_auto`, but consumes the table.
     pub fn into_auto(self, alloc: Global) -> Result<Auto, AllocError>
         ensures tracks { IfOk result (λ a. a.tracks ≡ (automaton_in self).tracks) }
         ensures first { IfOk result (λ a. a.first ≡ (automaton_in self).first) }

@@ -9,8 +9,8 @@ use std::alloc::{AllocError, Global};
 use std::marker::Model;
 use track_word::Var;
 
-/// A complete deterministic automaton whose tables stand in memory as they stand in a file. An entry takes four bytes, whatever the
-/// others are, so that it is about as large as its bytes there.
+/// A complete DFA whose tables are stored in memory as in a file. An entry takes four bytes, so the automaton is about
+/// as large as its bytes in the file.
 #[derive(Drop)]
 pub struct DenseAuto {
     tracks: Vec<Var>,
@@ -32,8 +32,8 @@ impl Model for DenseAuto {
 }
 
 impl DenseAuto {
-    /// The automaton of these tables: `first` has a state for each sign letter, `next` a row of states for each state,
-    /// one after another, and `accept` a flag for each state.
+    /// Creates the automaton of these tables. `first` has a state for each sign letter, `next` has the rows of all
+    /// states, concatenated, and `accept` a flag for each state.
     pub fn new(tracks: Vec<Var>, first: Vec<u32>, next: Vec<u32>, accept: Vec<bool>) -> DenseAuto
         requires { AreTables tracks.items first.items next.items accept.items }
         ensures tracks { result.tracks ≡ tracks.items }
@@ -50,14 +50,14 @@ impl DenseAuto {
         }
     }
 
-    /// The number of states.
+    /// Returns the number of states.
     pub fn states(&self) -> u32
         ensures { result ≡ length self.now.accept }
     {
         self.accept.len() as u32
     }
 
-    /// `into_auto`, where the tables are kept.
+    /// Like `into_auto`, but keeps the tables.
     pub fn to_auto(&self, alloc: Global) -> Result<Auto, AllocError>
         ensures tracks { IfOk result (λ a. a.tracks ≡ self.now.tracks) }
         ensures first { IfOk result (λ a. a.first ≡ self.now.first) }
@@ -72,7 +72,7 @@ impl DenseAuto {
         Auto::from_rows(alloc, tracks, first, next, accept)
     }
 
-    /// The automaton with the same tables, whose rows share what they have in common.
+    /// Converts to an automaton with the same tables, whose diagrams share nodes.
     pub fn into_auto(self, alloc: Global) -> Result<Auto, AllocError>
         ensures tracks { IfOk result (λ a. a.tracks ≡ self.tracks) }
         ensures first { IfOk result (λ a. a.first ≡ self.first) }

@@ -1,6 +1,7 @@
-//! The bytes of a strategy file: exactly which bytes are read as a claim.
+//! Reads strategy files: defines which bytes are the file of which claim.
 //!
-//! `specs/Layout` says how bytes are read field by field, and `specs/StrategyFile` has the fields of a file in order.
+//! `specs/Layout` defines how bytes are read field by field, and `specs/StrategyFile` has the fields of a file in
+//! order.
 #![tactic(auto)]
 
 mod charts;

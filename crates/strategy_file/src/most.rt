@@ -1,4 +1,4 @@
-//! How many states a set in a file may have.
+//! The greatest number of states of a set in a file.
 
-/// The most states of a set that a file keeps.
+/// The greatest number of states of a set that a file may have.
 pub const MOST_FILED_STATES: u32 = 200_000;

@@ -1,4 +1,4 @@
-//! The nodes that the rows of a set share are read.
+//! Reads the nodes that the rows of a set share.
 
 ghost use Rattle.std.specs.Prelude.{◌≡◌, ◌≤◌, ◌<◌, ◌+◌, ◌++◌, ◌^◌, [], length, IfOk};
 ghost use Rattle.auto_nodes.specs.Nodes.{AreRowNodes, IsRowNode, named};
@@ -74,7 +74,7 @@ fn node_at<'a>(
     Ok((RowNode { track, low, high }, rest))
 }
 
-/// So many nodes.
+/// Reads `count` nodes.
 pub(crate) fn nodes_at<'a>(
     alloc: Global,
     tracks: u8,

@@ -1,4 +1,4 @@
-//! The numbers that stand for sides and kinds of men in a file.
+//! The numbers of sides and kinds of men in a file.
 
 ghost use Rattle.std.specs.Prelude.{◌≡◌};
 ghost use Rattle.strategy_file.specs.Men.{kind_of as kind_at, side_of as side_at, turn_of as turn_at, winner_of as winner_at};
@@ -15,7 +15,7 @@ pub(crate) fn side_of(number: u8) -> Side
     }
 }
 
-/// The number for the side of a man.
+/// Returns the number of a man's side.
 pub fn side_number(side: Side) -> u8
     ensures { result ≡ side_byte side }
 {
@@ -25,7 +25,7 @@ pub fn side_number(side: Side) -> u8
     }
 }
 
-/// The side to move.
+/// Returns the side to move.
 pub(crate) fn turn_of(number: u8) -> Side
     ensures { result ≡ turn_at number }
 {
@@ -35,7 +35,7 @@ pub(crate) fn turn_of(number: u8) -> Side
     }
 }
 
-/// The winner.
+/// Returns the winner.
 pub(crate) fn winner_of(number: u8) -> Side
     ensures { result ≡ winner_at number }
 {
@@ -45,7 +45,7 @@ pub(crate) fn winner_of(number: u8) -> Side
     }
 }
 
-/// The number for a winner and a side to move.
+/// Returns the number of a winner and a side to move.
 pub fn turn_number(winner: Side, turn: Side) -> u8
     ensures { result ≡ turn_byte winner turn }
 {
@@ -74,7 +74,7 @@ pub(crate) fn kind_of(number: u8) -> Kind
     }
 }
 
-/// The number for the kind of a man.
+/// Returns the number of a man's kind.
 pub fn kind_number(kind: Kind) -> u8
     ensures { result ≡ kind_byte kind }
 {

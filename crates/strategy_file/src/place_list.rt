@@ -1,4 +1,4 @@
-//! The plies and masks that a claim has a set for, in order.
+//! The plies and masks for which a claim has a set, in order.
 
 ghost use Rattle.std.specs.Prelude.{◌≡◌, ◌+◌, ◌≤◌, ◌++◌, ℕ, map, IfOk, OnOk};
 ghost use Rattle.mate_plan.specs.Claim.{every_second as second_plies, losers_plies};
@@ -19,7 +19,7 @@ fn push_masks(places: &mut Vec<(u8, u8)>, ply: u8, masks: &[u8]) -> Result<(), A
     Ok(())
 }
 
-/// The plies of the loser, ascending, and at each of them the masks in their order.
+/// Returns the plies of the loser in ascending order, each with every mask in ascending order.
 pub fn places(
     alloc: Global,
     winner: Side,

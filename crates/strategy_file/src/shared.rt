@@ -1,4 +1,4 @@
-//! Automata whose rows share nodes, as they stand in a file.
+//! Automata whose rows share nodes, as they are stored in a file.
 
 ghost use Rattle.std.specs.Prelude.{◌≡◌, ◌<◌, ◌≤◌, ◌^◌, All, length, IfOk};
 ghost use Rattle.track_word.specs.Tracks.{IsAscending};
@@ -21,8 +21,8 @@ use std::alloc::{AllocError, Global};
 use std::marker::Model;
 use track_word::Var;
 
-/// A complete deterministic automaton whose nodes and rows stand in memory as they stand in a file, so that it is about as large as its
-/// bytes there.
+/// A complete DFA whose nodes and rows are stored in memory as in a file. It is about as large as its bytes in the
+/// file.
 pub struct SharedAuto {
     tracks: Vec<Var>,
     table: NodeTable,
@@ -53,7 +53,7 @@ impl Model for SharedAuto {
 }
 
 impl SharedAuto {
-    /// The automaton of this table.
+    /// Creates the automaton of this table.
     pub fn new(tracks: Vec<Var>, table: NodeTable, accept: Vec<bool>) -> SharedAuto
         requires { CanBeBuilt tracks.items (shared_of table) accept.items }
         ensures tracks { result.tracks ≡ tracks.items }
@@ -69,14 +69,14 @@ impl SharedAuto {
         }
     }
 
-    /// The number of states.
+    /// Returns the number of states.
     pub fn states(&self) -> u32
         ensures { result ≡ length self.now.accept }
     {
         self.accept.len() as u32
     }
 
-    /// The automaton with the same rows.
+    /// Converts to an automaton with the same rows.
     pub fn to_auto(&self, alloc: Global) -> Result<Auto, AllocError>
         ensures tracks { IfOk result (λ a. a.tracks ≡ self.now.tracks) }
         ensures first { IfOk result (λ a. a.first ≡ self.now.first) }
@@ -117,7 +117,7 @@ fn shared_states_at<'a>(
     Ok((accept, rows, left))
 }
 
-/// The automaton of so many states over some tracks.
+/// Reads an automaton of this number of states over some tracks.
 #[tactic(auto, unfolding(crate::specs::Tables::shared_layout))]
 pub(crate) fn shared_at(
     alloc: Global,

@@ -1,4 +1,4 @@
-//! What stands before the sets, with its men as a position.
+//! The fields before the sets, with their men as a position.
 
 ghost use Rattle.std.specs.Prelude.{◌≤◌, length};
 ghost use Rattle.limits.specs.declared.numbers.TheConstants.{MOST_MOVES};
@@ -9,7 +9,8 @@ ghost use Rattle.strategy_file.specs.Versions.{most_men};
 use crate::version::Version;
 use chess_game::{Position, Side};
 
-/// What stands before the sets: as many moves as there may be, and a sound position, a king on each side, of as many men as the version has.
+/// The fields before the sets: a number of moves within the limit, and a sound position with a king on each side and at
+/// most as many men as the version allows.
 #[derive(Clone, Copy)]
 pub(crate) struct FileHead {
     pub(crate) version: Version,

@@ -9,7 +9,8 @@ ghost use Rattle.strategy_file.specs.Versions.{most_kind, most_men, most_turn, v
 use crate::numbers::{kind_number, turn_number};
 use chess_game::{Position, Side};
 
-/// How the rows of a file's sets stand. All else is the same in both versions, but for the greatest numbers of some bytes.
+/// The version of a file, which determines how the rows of its sets are stored. Everything else is the same in both
+/// versions, except for the greatest values of some bytes.
 #[derive(Clone, Copy, PartialEq, Eq)]
 pub enum Version {
     /// Version 1: a row has a state for each letter.
@@ -19,7 +20,7 @@ pub enum Version {
 }
 
 impl Version {
-    /// Whether a file of the version can tell the winner and the men of a position.
+    /// Returns whether a file of the version can have this winner and the men of the position.
     pub fn fits(self, winner: Side, position: &Position) -> bool
         ensures { IsTrue result ↔ FitsVersion self winner position.now }
     {
@@ -44,7 +45,7 @@ impl Version {
         true
     }
 
-    /// The version of a number that is 1 or 2.
+    /// Returns the version of a number, 1 or 2.
     pub(crate) fn of_byte(byte: u8) -> Version
         ensures { result ≡ version_of byte }
     {
@@ -54,7 +55,7 @@ impl Version {
         }
     }
 
-    /// The number that stands for it in a file.
+    /// Returns the number of the version in a file.
     pub fn byte(self) -> u8
         ensures { result ≡ version_byte self }
     {
@@ -64,7 +65,7 @@ impl Version {
         }
     }
 
-    /// The greatest number for the side to move and the winner.
+    /// Returns the greatest number for the side to move and the winner.
     pub(crate) fn most_turn(self) -> u8
         ensures { result ≡ most_turn self }
     {
@@ -74,7 +75,7 @@ impl Version {
         }
     }
 
-    /// How many men a file of it has at most.
+    /// Returns the greatest number of men of a file.
     pub(crate) fn most_men(self) -> u8
         ensures most { result ≡ most_men self }
         ensures few { result ≤ 8 }
@@ -85,7 +86,7 @@ impl Version {
         }
     }
 
-    /// The greatest number of a kind of man.
+    /// Returns the greatest number of a kind of man.
     pub(crate) fn most_kind(self) -> u8
         ensures { result ≡ most_kind self }
     {
