@@ -10,7 +10,7 @@ abbrev pub IsBytesOf : Version → Claim → List ℕ → Type 0
 IsBytesOf versions.Dense c bytes = bytes ≡ written_dense c
 IsBytesOf versions.Shared c bytes = IsSharedFile c bytes
 
--- how many bytes that file has, or would have
+-- the number of bytes of that file
 pub record IsLengthOf (version : Version) (c : Claim) (size : ℕ) : Type 0 where
   pub bytes : List ℕ
   pub are : IsBytesOf version c bytes

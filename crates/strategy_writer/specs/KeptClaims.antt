@@ -1,4 +1,4 @@
--- The claim of a solved position in memory as data.
+-- The claim of a solved position, as contracts see it.
 use Rattle.std.specs.Prelude.{map}
 use Rattle.mate_plan.specs.Claim.{Claim, ClaimedSet}
 use Rattle.strategy_writer.specs.declared.kept_claim.KeptClaim.{KeptClaim}

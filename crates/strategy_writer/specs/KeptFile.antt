@@ -1,4 +1,4 @@
--- The file of what is kept, said of a position, a side and a number of moves.
+-- The file of the kept sets, defined from a position, a winner and a number of moves.
 use Rattle.std.specs.Prelude.{◌≡◌, ℕ, ◌<◌, List, map, Ok}
 use Rattle.std.specs.List.{All}
 use Rattle.auto_core.specs.Integers.{DecidesIntegers}
@@ -17,16 +17,16 @@ use Rattle.strategy_writer.specs.Written.{most_bytes}
 use Rattle.strategy_writer.specs.Files.{IsBytesOf, IsLengthOf}
 use Rattle.strategy_file.specs.declared.version.Version.{Version}
 
--- The set decides a set of integers, and has as its tuples the coordinates of what is kept at its ply with the live men
--- of its mask. It has no state too many, and its states are numbered in the order in which a breadth-first walk in
--- ascending letters meets them. So its table is fixed.
+-- The set decides a set of integers and contains the coordinates of the positions kept at its ply with the live men of
+-- its mask. It is minimal, and its states are numbered in the order of a breadth-first traversal in ascending letters.
+-- So its table is determined.
 pub record IsKeptSetOf (winner : Side) (p : Position) (moves : ℕ) (c : ClaimedSet) : Type 0 where
   pub tracks : c.set.tracks ≡ mask_tracks p c.mask
   pub integers : DecidesIntegers c.set
   pub tuples : HasTuplesOf (Kept winner p moves c.ply) c.mask c.set
   pub in_order : IsInOrder c.set
 
--- the claim of what is kept: at each ply of the loser and each mask, in order, the set of it
+-- the claim of the kept sets: one for each ply of the loser and each mask, in order
 pub record IsKeptClaim (winner : Side) (p : Position) (moves : ℕ) (c : Claim) : Type 0 where
   pub position_is : c.position ≡ p
   pub winner_is : c.winner ≡ winner
@@ -41,14 +41,14 @@ pub record IsKeptFile (version : Version) (winner : Side) (p : Position) (moves 
   pub has_file : HasFile version claim
   pub bytes_are : IsBytesOf version claim bytes
 
--- that file would have this many bytes, which are too many
+-- that file would have this number of bytes, which is too many
 pub record IsKeptTooLarge (version : Version) (winner : Side) (p : Position) (moves : ℕ) (size : ℕ) : Type 0 where
   pub claim : Claim
   pub kept : IsKeptClaim winner p moves claim
   pub size_is : IsLengthOf version claim size
   pub large : most_bytes < size
 
--- the bytes are read as tables whose claim, of this position, side and number of moves, is won
+-- the bytes are read as tables whose claim, of this position, winner and number of moves, is won
 pub record IsReadAsWon (winner : Side) (p : Position) (moves : ℕ) (bytes : List ℕ) : Type 0 where
   pub charts : Charts
   pub read : File bytes (Ok charts)

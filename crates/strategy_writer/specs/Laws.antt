@@ -1,4 +1,4 @@
--- The laws of strategy files that are written.
+-- The laws of the strategy files that are written.
 use Rattle.std.specs.Prelude.{◌≡◌, ◌≤◌, ℕ, List, length, Ok}
 use Rattle.game_rules.specs.Game.{Position, Sound, Value}
 use Rattle.game_rules.specs.declared.men.Side.{Side}
@@ -15,13 +15,13 @@ use Rattle.strategy_writer.specs.Files.{IsBytesOf}
 use Rattle.strategy_writer.specs.ReducedClaims.{IsWrittenOf, IsWrittenTooLarge}
 use Rattle.strategy_file.specs.declared.version.Version.{Version}
 
--- what is written for a claim that has a file is read as that claim
+-- the file written for a claim that has a file is read as that claim
 abbrev pub WrittenIsRead : Type 0
 WrittenIsRead =
     (version : Version) (c : Claim) (bytes : List ℕ) → HasFile version c → IsBytesOf version c bytes
     → length bytes ≤ most_bytes → File bytes (Ok (charts_of c))
 
--- a claim has one file that is written of it, or one size where that is too large
+-- a claim has exactly one written file, or one size if that is too large
 pub record HasOneWritten (c : Claim) : Type 0 where
   pub one_file : (a b : List ℕ) → IsWrittenOf c a → IsWrittenOf c b → a ≡ b
   pub one_size : (a b : ℕ) → IsWrittenTooLarge c a → IsWrittenTooLarge c b → a ≡ b
@@ -30,7 +30,8 @@ pub record HasOneWritten (c : Claim) : Type 0 where
 abbrev pub OneWritten : Type 0
 OneWritten = (c : Claim) → HasOneWritten c
 
--- what is written of a claim that has a file is read as a claim with the same position, sides, number of moves and words
+-- the file written for a claim that has a file is read as a claim with the same position, sides, number of moves and
+-- words
 pub record IsReadAsSame (c : Claim) (bytes : List ℕ) : Type 0 where
   pub charts : Charts
   pub read : File bytes (Ok charts)
@@ -44,7 +45,7 @@ WrittenIsSame =
 abbrev pub OneFile : Type 0
 OneFile = (version : Version) (s : Solution) (a b : List ℕ) → IsFileOf version s a → IsFileOf version s b → a ≡ b
 
--- what is kept has one file, or one size where that is too large
+-- the kept sets have one file, or one size if that is too large
 pub record HasOneKeptFile (version : Version) (winner : Side) (p : Position) (moves : ℕ) : Type 0 where
   pub one_file : (a b : List ℕ) → IsKeptFile version winner p moves a → IsKeptFile version winner p moves b → a ≡ b
   pub one_size : (a b : ℕ) → IsKeptTooLarge version winner p moves a → IsKeptTooLarge version winner p moves b → a ≡ b
@@ -54,7 +55,7 @@ pub record HasOneKeptFile (version : Version) (winner : Side) (p : Position) (mo
 abbrev pub OneKeptFile : Type 0
 OneKeptFile = (version : Version) (winner : Side) (p : Position) (moves : ℕ) → HasOneKeptFile version winner p moves
 
--- the file of a solved position is that of what is kept, and so is its size
+-- the file of a solved position is that of its kept sets, and so is its size
 pub record HasKeptFile (version : Version) (s : Solution) : Type 0 where
   pub file : (bytes : List ℕ) → IsFileOf version s bytes → IsKeptFile version s.winner s.position s.moves bytes
   pub size : (size : ℕ) → IsTooLarge version s size → IsKeptTooLarge version s.winner s.position s.moves size
@@ -62,7 +63,7 @@ pub record HasKeptFile (version : Version) (s : Solution) : Type 0 where
 abbrev pub FileIsKept : Type 0
 FileIsKept = (version : Version) (s : Solution) → IsSolution s → HasKeptFile version s
 
--- where the winner mates in time, the file of what is kept is read as a claim that is won
+-- the file of the kept sets is read as a won claim if the winner mates in time
 abbrev pub KeptFileIsClaim : Type 0
 KeptFileIsClaim =
     (version : Version) (winner : Side) (p : Position) (moves : ℕ) (bytes : List ℕ) → Sound p → Value winner moves p

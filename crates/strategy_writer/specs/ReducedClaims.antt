@@ -1,4 +1,4 @@
--- The file that is written of a claim, whose sets are reduced.
+-- The file written for a claim, with its sets reduced.
 use Rattle.std.specs.Prelude.{◌≡◌, ◌<◌, ◌≤◌, ℕ, List, length}
 use Rattle.std.specs.List.{AllZip}
 use Rattle.auto_reduce.specs.Tables.{AcceptSameWords, IsInOrder}
@@ -9,8 +9,8 @@ use Rattle.strategy_writer.specs.declared.writing.WriteFileError.TheVariants.{To
 use Rattle.strategy_writer.specs.Files.{IsBytesOf, IsLengthOf}
 use Rattle.strategy_writer.specs.Written.{most_bytes}
 
--- The set accepts the words that the claimed set accepts. It has no state too many, and its states are numbered in the
--- order in which a breadth-first walk in ascending letters meets them. So its table is fixed.
+-- The set accepts the words that the claimed set accepts. It is minimal, and its states are numbered in the order of a
+-- breadth-first traversal in ascending letters. So its table is determined.
 pub record IsReducedSet (of made : ClaimedSet) : Type 0 where
   pub ply : made.ply ≡ of.ply
   pub mask : made.mask ≡ of.mask
@@ -26,13 +26,13 @@ pub record IsReducedClaim (of made : Claim) : Type 0 where
   pub moves : made.moves ≡ of.moves
   pub sets : AllZip IsReducedSet of.sets made.sets
 
--- the bytes are the file of version 2 that is written of the claim
+-- the bytes are the file of version 2 written for the claim
 pub record IsWrittenOf (c : Claim) (bytes : List ℕ) : Type 0 where
   pub reduced : Claim
   pub is : IsReducedClaim c reduced
   pub file : IsBytesOf versions.Shared reduced bytes
 
--- that file would have this many bytes, which are too many
+-- that file would have this number of bytes, which is too many
 pub record IsWrittenTooLarge (c : Claim) (size : ℕ) : Type 0 where
   pub reduced : Claim
   pub is : IsReducedClaim c reduced

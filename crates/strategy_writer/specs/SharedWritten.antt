@@ -26,7 +26,7 @@ shared_table_bytes accept t =
 unfoldable pub shared_set_bytes : ClaimedSet → Shared → List ℕ
 shared_set_bytes c t = (c.ply ∷ c.mask ∷ []) ++ shared_table_bytes c.set.accept t
 
--- sets with their tables, one after another
+-- sets with their tables, in order
 abbrev pub shared_sets_bytes : List ClaimedSet → List Shared → List ℕ
 shared_sets_bytes [] tables = []
 shared_sets_bytes (c ∷ sets) [] = []
@@ -46,13 +46,13 @@ pub record IsSharedFile (c : Claim) (bytes : List ℕ) : Type 0 where
   pub are : AreTablesOf c.sets tables
   pub bytes_are : bytes ≡ written_shared c tables
 
--- a set's bytes stand behind others
+-- the bytes of a set are appended
 pub record AddsSharedSet (c : ClaimedSet) (old new : List ℕ) : Type 0 where
   pub table : Shared
   pub is : IsTableOf c.set table
   pub bytes : new ≡ old ++ shared_set_bytes c table
 
--- the bytes of sets stand behind others
+-- the bytes of sets are appended
 pub record AddsSharedSets (sets : List ClaimedSet) (old new : List ℕ) : Type 0 where
   pub tables : List Shared
   pub are : AreTablesOf sets tables
@@ -68,7 +68,7 @@ pub record HasSharedLengths (sets : List ClaimedSet) (size : ℕ) : Type 0 where
   pub are : AreTablesOf sets tables
   pub size_is : size ≡ length (shared_sets_bytes sets tables)
 
--- the set has a table, which has no more nodes than a table may have
+-- the set has a table with at most as many nodes as a table may have
 pub record HasFewNodes (c : ClaimedSet) : Type 0 where
   pub table : Shared
   pub is : IsTableOf c.set table

@@ -13,8 +13,8 @@ use Rattle.strategy_file.specs.declared.version.Version.{Version}
 use Rattle.strategy_writer.specs.declared.writing.WriteFileError.{WriteFileError}
 use Rattle.strategy_writer.specs.declared.writing.WriteFileError.TheVariants.{TooLarge, Memory}
 
--- The set accepts the words that the kept set of its ply and mask accepts. It has no state too many, and its states
--- are numbered in the order in which a breadth-first walk in ascending letters meets them.
+-- The set accepts the words that the kept set of its ply and mask accepts. It is minimal, and its states are numbered
+-- in the order of a breadth-first traversal in ascending letters.
 pub record IsOfKeptSet (s : Solution) (c : ClaimedSet) : Type 0 where
   pub kept : Automaton
   pub is_there : kept_at s c.ply c.mask ≡ Some kept
@@ -23,7 +23,7 @@ pub record IsOfKeptSet (s : Solution) (c : ClaimedSet) : Type 0 where
   pub in_order : IsInOrder c.set
   pub fewer : length c.set.accept ≤ length kept.accept
 
--- the claim of a solved position: at each ply of the loser and each mask, in order, the kept set
+-- the claim of a solved position: the kept set for each ply of the loser and each mask, in order
 pub record IsClaimOf (s : Solution) (c : Claim) : Type 0 where
   pub position : c.position ≡ s.position
   pub winner : c.winner ≡ s.winner
@@ -38,14 +38,14 @@ pub record IsFileOf (version : Version) (s : Solution) (bytes : List ℕ) : Type
   pub has_file : HasFile version claim
   pub bytes_are : IsBytesOf version claim bytes
 
--- that file would have this many bytes, which are too many
+-- that file would have this number of bytes, which is too many
 pub record IsTooLarge (version : Version) (s : Solution) (size : ℕ) : Type 0 where
   pub claim : Claim
   pub of : IsClaimOf s claim
   pub size_is : IsLengthOf version claim size
   pub large : most_bytes < size
 
--- why no file of the solved position is written
+-- why the file of a solved position is not written
 abbrev pub IsFileRefusal : Version → Solution → WriteFileError → Type 0
 IsFileRefusal version s (TooLarge size) = IsTooLarge version s size
 IsFileRefusal version s Memory = Unit {0}

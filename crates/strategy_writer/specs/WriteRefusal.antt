@@ -1,4 +1,4 @@
--- Why no file of a claim in memory is written.
+-- Why the file of a claim is not written.
 use Rattle.std.specs.Prelude.{◌<◌}
 use Rattle.mate_plan.specs.Claim.{Claim}
 use Rattle.strategy_writer.specs.Files.{IsLengthOf}
@@ -7,7 +7,7 @@ use Rattle.strategy_file.specs.declared.version.Version.{Version}
 use Rattle.strategy_writer.specs.declared.writing.WriteFileError.{WriteFileError}
 use Rattle.strategy_writer.specs.declared.writing.WriteFileError.TheVariants.{TooLarge, Memory}
 
--- the file of the version would have this many bytes, which are too many; or there is no memory
+-- the file of the version would have this number of bytes, which is too many; or an allocation failed
 abbrev pub IsWriteRefusal : Version → Claim → WriteFileError → Type 0
 IsWriteRefusal version c (TooLarge n) = IsLengthOf version c n × (most_bytes < n)
 IsWriteRefusal version c Memory = Unit {0}

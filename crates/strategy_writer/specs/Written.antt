@@ -1,4 +1,4 @@
--- The bytes that are written for a claim.
+-- The bytes written for a claim.
 use Rattle.std.specs.Prelude.{ℕ, Bool, true, false, List, [], ◌∷◌, ◌++◌, length, codes, ℤ}
 use Rattle.std.specs.Int.{w32, w64, to_be_bytes, cast_unsigned}
 use Rattle.std.specs.List.{flat_map, range_with_len}
@@ -31,13 +31,13 @@ place_bytes (At x y) = square_bytes x y
 unfoldable pub man_bytes : Man → List ℕ
 man_bytes m = (side_byte m.side ∷ kind_byte m.kind ∷ []) ++ place_bytes m.place
 
--- all that stands before the sets
+-- all fields before the sets
 unfoldable pub start_bytes : Version → Side → Position → ℕ → List ℕ
 start_bytes version winner p moves =
     (codes "ICSF" ++ version_byte version ∷ moves ∷ turn_byte winner p.turn ∷ length p.men ∷ [])
     ++ flat_map man_bytes p.men
 
--- a state for each letter, ascending
+-- a state for each letter, in ascending order
 unfoldable pub row_bytes : ℕ → (ℕ → ℕ) → List ℕ
 row_bytes letters state = flat_map (λ letter. to_be_bytes w32 (state letter)) (range_with_len 0 letters)
 

@@ -1,4 +1,4 @@
-//! The claim of a solved position, and the claim that was read with its sets reduced.
+//! The claim of a solved position, and a claim from a file with its sets reduced.
 
 ghost use Rattle.std.specs.Prelude.{◌≡◌, All, IfOk, IsSome, OnOk, map};
 ghost use Rattle.winning_sets.specs.Solve.{IsSolution, kept_at};
@@ -16,7 +16,7 @@ use std::alloc::{AllocError, Global};
 use strategy_file::{Claim, ClaimedSet, places};
 use winning_sets::{Origin, Solved};
 
-/// The claim of the sets that are kept at the plies of the loser.
+/// Returns the claim of the sets kept at the plies of the loser.
 pub(crate) fn kept_claim(alloc: Global, solved: &Solved) -> Result<KeptClaim, AllocError>
     requires plan { solved.now.origin ≡ Origin.Plan }
     ensures claim { IfOk result (λ c. IsClaimOf solved.now (as_claim c)) }
@@ -58,7 +58,7 @@ fn kept_sets(
     Ok(sets)
 }
 
-/// The claim with its sets reduced.
+/// Returns the claim with its sets reduced.
 pub(crate) fn reduced_claim(alloc: Global, claim: &Claim) -> Result<KeptClaim, AllocError>
     requires { HasFileOf (claim_of claim.now) }
     ensures { IfOk result (λ c. IsReducedClaim (claim_of claim.now) (as_claim c)) }

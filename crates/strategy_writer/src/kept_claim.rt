@@ -1,11 +1,11 @@
-//! A claim whose sets are automata that share what their rows have in common.
+//! A claim whose sets are automata that share nodes.
 
 ghost use Rattle.std.specs.Prelude.{◌≤◌, ◌^◌, length};
 
 use auto_core::Auto;
 use chess_game::{Position, Side};
 
-/// The set that is kept at a ply and a mask. Its rows share what they have in common: as a table it could be larger than any file.
+/// The kept set of a ply and a mask. Its rows share nodes: as a table it could be larger than any file.
 #[derive(Drop)]
 pub(crate) struct KeptSet {
     pub(crate) ply: u8,

@@ -1,38 +1,38 @@
-//! Laws of strategy files that are written, each the contract of a function that does nothing.
+//! Laws of the strategy files that are written. Each is the contract of a function that does nothing.
 
 ghost use Rattle.strategy_writer.specs.Laws.{FileIsKept, KeptFileIsClaim, OneFile, OneKeptFile, OneWritten, WrittenIsRead, WrittenIsSame};
 
-/// What is written for a claim is read as that claim.
+/// States that the file written for a claim is read as that claim.
 pub fn written_is_read()
     ensures { WrittenIsRead }
 {}
 
-/// A claim has one file that is written of it.
+/// States that exactly one file is written for a claim.
 pub fn one_written()
     ensures { OneWritten }
 {}
 
-/// What is written of a claim that was read is read as a claim of the same sets.
+/// States that the file written for a claim that was read is read as a claim of the same sets.
 pub fn written_is_same()
     ensures { WrittenIsSame }
 {}
 
-/// A solved position has one file.
+/// States that a solved position has one file.
 pub fn one_file()
     ensures { OneFile }
 {}
 
-/// What is kept of a position, for a side and a number of moves, has one file, whatever solved it.
+/// States that the kept sets of a position, a winner and a number of moves have one file, whatever computed them.
 pub fn one_kept_file()
     ensures { OneKeptFile }
 {}
 
-/// The file of a solved position is that of what is kept.
+/// States that the file of a solved position is that of its kept sets.
 pub fn file_is_kept()
     ensures { FileIsKept }
 {}
 
-/// Where the winner mates in time, the file of what is kept is read as a claim that is won.
+/// States that the file of the kept sets is read as a won claim if the winner mates in time.
 pub fn kept_file_is_claim()
     ensures { KeptFileIsClaim }
 {}

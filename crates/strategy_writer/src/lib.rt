@@ -1,7 +1,7 @@
-//! Strategy files as they are written: the bytes of a claim, and which claim is written for a solved position.
+//! Writes strategy files: defines the bytes of a claim, and the claim of a solved position.
 //!
-//! `specs/Written` and `specs/SharedWritten` have the bytes of both versions, and `specs/SolvedFile` says which claim is
-//! that of a solved position.
+//! `specs/Written` and `specs/SharedWritten` define the bytes of versions 1 and 2, and `specs/SolvedFile` the claim of
+//! a solved position.
 #![tactic(auto)]
 
 mod kept;

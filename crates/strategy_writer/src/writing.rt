@@ -1,4 +1,4 @@
-//! A file is written.
+//! Writes a file.
 
 ghost use Rattle.std.specs.Prelude.{◌≡◌, ◌<◌, ◌≤◌, ◌++◌, ◌∷◌, [], ◌^◌, ℕ, length, map, IfOk, IfErr, OnOk};
 ghost use Rattle.auto_core.specs.Automaton.{first_state, next_state, width};
@@ -180,7 +180,7 @@ fn push_coordinate(out: &mut Vec<u8>, x: i64) -> Result<(), AllocError>
     out.extend_from_slice(&x.to_be_bytes())
 }
 
-/// All that stands before the sets.
+/// Appends all fields before the sets.
 #[tactic(auto, unfolding(crate::specs::Written::start_bytes))]
 pub(crate) fn push_start(
     out: &mut Vec<u8>,
@@ -222,7 +222,7 @@ fn man_length(man: Man) -> u128
     }
 }
 
-/// The number of bytes of the men.
+/// Returns the number of bytes of the men.
 pub(crate) fn men_length(position: &Position) -> u128
     ensures length { result ≡ length (flat_map man_bytes position.now.men) }
     ensures bound { result < 2 ^ 20 }
@@ -254,8 +254,10 @@ fn write_dense(alloc: Global, claim: &KeptClaim) -> Result<Vec<u8>, WriteFileErr
     Ok(out)
 }
 
-/// The bytes of the file of version 2 of a position that was solved by the plan, if there are not too many. Where the winner doesn't mate
-/// in time, they are the file of a claim that isn't won.
+/// Returns the file, of version 2, of a position solved by the plan. If the winner does not mate in time, it is the
+/// file of a claim that is not won.
+///
+/// Errors: the file would have too many bytes, or an allocation failed.
 pub fn write_file(alloc: Global, solved: &Solved) -> Result<Vec<u8>, WriteFileError>
     requires plan { solved.now.origin ≡ Origin.Plan }
     requires kings { HasBothKings solved.now.position }
@@ -268,7 +270,8 @@ pub fn write_file(alloc: Global, solved: &Solved) -> Result<Vec<u8>, WriteFileEr
     Ok(bytes)
 }
 
-/// The bytes of the file of version 1 of such a position, where `Version::Dense` fits the winner and the position.
+/// Returns the file, of version 1, of a position solved by the plan. `Version::Dense` must fit the winner and the
+/// position. Errors as in `write_file`.
 pub fn write_file_1(alloc: Global, solved: &Solved) -> Result<Vec<u8>, WriteFileError>
     requires plan { solved.now.origin ≡ Origin.Plan }
     requires kings { HasBothKings solved.now.position }
@@ -282,8 +285,8 @@ pub fn write_file_1(alloc: Global, solved: &Solved) -> Result<Vec<u8>, WriteFile
     Ok(bytes)
 }
 
-/// The bytes of the file of version 2 of a claim that was read from a file of either version, if there are not too many. Its sets are
-/// reduced.
+/// Returns the file, of version 2, of a claim that was read from a file of either version. Its sets are reduced. Errors
+/// as in `write_file`.
 pub fn write_claim(alloc: Global, claim: &Claim) -> Result<Vec<u8>, WriteFileError>
     requires { HasFileOf (claim_of claim.now) }
     ensures file { IfOk result (λ bytes. IsWrittenOf (claim_of claim.now) bytes.items) }

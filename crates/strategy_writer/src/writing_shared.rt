@@ -1,4 +1,4 @@
-//! A file of version 2 is written.
+//! Writes a file of version 2.
 
 ghost use Rattle.std.specs.Prelude.{◌≡◌, ◌<◌, ◌≤◌, ◌++◌, ◌^◌, All, length, map, IfOk, IfErr, OnOk};
 ghost use Rattle.chess_game.specs.Near.{IsNarrowPosition};
@@ -130,8 +130,8 @@ fn shared_lengths(alloc: Global, sets: &[KeptSet]) -> Result<u128, AllocError>
     Ok(total)
 }
 
-/// The bytes of the file of a claim whose sets are reduced, if there are not too many. How many there are is known before the first is
-/// made, and room for them is taken once.
+/// Returns the file of a claim whose sets are reduced. The number of bytes is computed first, and room for them is
+/// allocated once.
 pub(crate) fn write_shared(alloc: Global, claim: &KeptClaim) -> Result<Vec<u8>, WriteFileError>
     ensures written { IfOk result (λ bytes. IsSharedFile (as_claim claim.now) bytes.items) }
     ensures small { IfOk result (λ bytes. length bytes.items ≤ most_bytes) }
