@@ -1,4 +1,4 @@
--- What the check of a claim answers.
+-- The results of the check of a claim.
 use Rattle.std.specs.Prelude.{◌≡◌, ℕ, Some}
 use Rattle.set_plan.specs.Outcome.{Ends, IsPlanError}
 use Rattle.set_plan.specs.declared.stop.PlanError.{PlanError}
@@ -13,18 +13,18 @@ use Rattle.claim_plan.specs.SameClaims.{IsSameClaim}
 use Rattle.claim_check.specs.declared.error.CheckError.{CheckError}
 use Rattle.claim_check.specs.declared.error.CheckError.TheVariants as check_error
 
--- the solution comes of the claim: its sets are those that are claimed, though their tables may be others
+-- the solution has the sets of the claim, possibly with other tables
 pub record IsChecked (c : Claim) (s : Solution) : Type 0 where
   pub origin : s.origin ≡ origin.Claim
   pub same : IsSameClaim c (claim_of s)
 
--- the rule is the first that the claim does not keep, or the step is the first of its plan that exceeds the budget
+-- the rule is the first one that fails, or the step is the first one of the plan that exceeds the budget
 abbrev pub IsCheckError : Claim → ℕ → CheckError → Type 0
 IsCheckError c budget (check_error.NotKept failed) = Ends (check_plan c) budget (Some failed)
 IsCheckError c budget (check_error.Over step) = IsSolveError (check_plan c) c.moves budget (solve_error.Over step)
 IsCheckError c budget check_error.Memory = Unit {0}
 
--- for this reason the plan of a claim of so many moves does not come to its end, and this is the error
+-- the plan of a claim of this number of moves does not end for this reason, and this is the error of the check
 abbrev pub IsErrorFor : ℕ → PlanError PartName → CheckError → Type 0
 IsErrorFor moves reason error =
     (c : Claim) (budget : ℕ) → c.moves ≡ moves → IsPlanError (check_plan c) budget reason → IsCheckError c budget error

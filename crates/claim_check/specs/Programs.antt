@@ -1,4 +1,4 @@
--- Programs of a claim's plan, with the claimed sets and the levels that names in a table stand for.
+-- The programs of a claim's plan, over the claimed sets and the levels that names in a table refer to.
 use Rattle.std.specs.Prelude.{ℕ, suc, ◌+◌, List}
 use Rattle.auto_core.specs.Automaton.{Automaton}
 use Rattle.game_rules.specs.Game.{other}
@@ -28,13 +28,13 @@ set_in s table at = level_in s.position table at.level.now at.stage.mask
 abbrev pub reached_in : ClaimedSets → List Automaton → Replies → Level
 reached_in s table r = level_in s.position table r.reached
 
--- no two live men stand on one square in the set of the stage
+-- no two live men stand on one square in the stage's set
 abbrev pub check_same_in : ClaimedSets → List Automaton → StageLevel → Program Finding
 check_same_in s table at =
     holds_by (rule_at at.stage.ply at.stage.mask rule.Same)
     (are_on_distinct_squares s.position at.stage.ply at.stage.mask (set_in s table at))
 
--- no man of the side bears on the other king there
+-- in no position of the stage's set a man of the side bears on the other king
 abbrev pub check_guard_in : ClaimedSets → List Automaton → StageLevel → Program Finding
 check_guard_in s table at = check_guard (rules_in s) at.stage.side at.stage.ply at.stage.mask (set_in s table at)
 
@@ -42,24 +42,24 @@ check_guard_in s table at = check_guard (rules_in s) at.stage.side at.stage.ply 
 abbrev pub check_start_in : ClaimedSets → Program Finding
 check_start_in s = check_first (claim_in s) (plies_before_turn s.winner s.position.turn)
 
--- what the replies reach from what is claimed at a ply
+-- the level that the replies reach from what is claimed at a ply
 abbrev pub reach_in : ClaimedSets → ℕ → Program Level
 reach_in s ply = reach_level (rules_in s) (other s.winner) (suc ply) (claimed_level (claim_in s) ply)
 
--- what the replies reach with the mask has an answer into what is claimed two plies later
+-- each reached position with the mask has a move into what is claimed two plies later
 abbrev pub check_left_in : ClaimedSets → List Automaton → Replies → ℕ → Program Finding
 check_left_in s table r mask =
     check_left (rules_in s) s.winner (suc r.ply) (reached_in s table r) (claimed_level (claim_in s) (r.ply + 2)) mask
 
--- the loser is in check, or has one of the replies, in what is claimed with the mask
+-- in each claimed position with the mask the loser is in check or has one of the replies
 abbrev pub check_stale_in : ClaimedSets → List Automaton → Replies → ℕ → Program Finding
 check_stale_in s table r mask =
     check_stale (rules_in s) (other s.winner) r.ply (claimed_level (claim_in s) r.ply) (reached_in s table r) mask
 
--- the former mask by mask
+-- `check_left_in`, mask by mask
 abbrev pub check_all_left_in : ClaimedSets → List Automaton → Replies → Program Finding
 check_all_left_in s table r = for_each (rules_in s).masks (check_left_in s table r)
 
--- and the latter
+-- `check_stale_in`, mask by mask
 abbrev pub check_all_stale_in : ClaimedSets → List Automaton → Replies → Program Finding
 check_all_stale_in s table r = for_each (rules_in s).masks (check_stale_in s table r)

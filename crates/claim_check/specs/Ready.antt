@@ -1,4 +1,4 @@
--- Claimed sets with which the plan of their claim can be gone through.
+-- Claimed sets whose claim's plan can be executed.
 use Rattle.std.specs.Prelude.{◌≡◌, ℕ, ◌≤◌, List, length, Option, IsSome, Some}
 use Rattle.limits.specs.declared.numbers.TheConstants.{MOST_MOVES, MOST_STATES}
 use Rattle.auto_core.specs.Automaton.{Automaton}
@@ -18,7 +18,7 @@ use Rattle.winning_sets.specs.declared.claimed.ClaimedSets.{ClaimedSets}
 abbrev pub claim_in : ClaimedSets → Claim
 claim_in s = claim_of (solution_of s)
 
--- they are a claim within at most twenty moves, and each is reduced and has no more states than the greatest budget
+-- they are a claim within at most 20 moves; each set is reduced and has at most as many states as the greatest budget
 pub record IsReady (s : ClaimedSets) : Type 0 where
   pub masks : s.masks.items ≡ masks_of s.position
   pub moves : s.moves ≤ MOST_MOVES
@@ -26,7 +26,7 @@ pub record IsReady (s : ClaimedSets) : Type 0 where
   pub reduced : (ply mask : ℕ) (a : Automaton) → claimed_at (claim_in s) ply mask ≡ Some a → IsReduced a
   pub few : (ply mask : ℕ) (a : Automaton) → claimed_at (claim_in s) ply mask ≡ Some a → length a.accept ≤ MOST_STATES
 
--- a set is claimed at the ply for each mask of the game
+-- there is a claimed set at the ply for each mask of the game
 abbrev pub AreThere : Claim → ℕ → Type 0
 AreThere c ply = (mask : ℕ) → IsGameMask c.position mask → IsSome (claimed_at c ply mask)
 
@@ -34,7 +34,7 @@ AreThere c ply = (mask : ℕ) → IsGameMask c.position mask → IsSome (claimed
 abbrev pub AreSigned : Claim → Type 0
 AreSigned c = (ply mask : ℕ) (a : Automaton) → claimed_at c ply mask ≡ Some a → DecidesIntegers a
 
--- the start is itself claimed, before any move
+-- the starting position is claimed at ply 0
 abbrev pub IsStartClaimed : Claim → Type 0
 IsStartClaimed c = Member (claimed_level c 0 (mask_of c.position)) (tuple_of c.position)
 

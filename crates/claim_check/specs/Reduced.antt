@@ -1,4 +1,4 @@
--- Claimed sets that were reduced, place by place.
+-- Claimed sets before and after reduction.
 use Rattle.std.specs.Prelude.{◌≡◌, ◌≤◌, List, length}
 use Rattle.std.specs.List.{AllZip}
 use Rattle.auto_core.specs.Automaton.{Automaton}
@@ -6,13 +6,13 @@ use Rattle.auto_core.specs.Reduced.{IsReduced}
 use Rattle.mate_plan.specs.Claim.{ClaimedSet}
 use Rattle.claim_plan.specs.SameClaims.{IsSameSet}
 
--- the same words over the same tracks, in a reduced automaton of no more states
+-- the same words over the same tracks, in a reduced automaton with at most as many states
 pub record IsReducedOf (a b : Automaton) : Type 0 where
   pub same : IsSameSet a b
   pub reduced : IsReduced b
   pub fewer : length b.accept ≤ length a.accept
 
--- the same of sets at the same ply and mask
+-- the same for sets of the same ply and mask
 pub record IsReducedSet (c d : ClaimedSet) : Type 0 where
   pub ply : c.ply ≡ d.ply
   pub mask : c.mask ≡ d.mask

@@ -6,7 +6,7 @@ use Rattle.winning_sets.specs.declared.claimed.ClaimedSets.{ClaimedSets}
 use Rattle.claim_check.specs.declared.replies.Replies.{Replies}
 use Rattle.claim_check.specs.Ready.{AreNamesOf}
 
--- names in a table, of what is claimed at the ply and two plies later, and of what is reached between
+-- names in a table: of what is claimed at the ply and two plies later, and of what is reached between
 pub record AreReplies (s : ClaimedSets) (ply : ℕ) (table : List Automaton) (r : Replies) : Type 0 where
   pub ply_is : r.ply ≡ ply
   pub low : ply ≤ 41

@@ -40,8 +40,9 @@ fn check_plan(claim: &ReducedClaim, work: &mut PlanState) -> FirstFailure
     check_replies(claim, work, plies)
 }
 
-/// Checks a claim, whoever made it. The answer is the solved position of its sets, or the first rule that the claim does
-/// not keep; a step of its plan may need so many states.
+/// Checks a claim, no matter who made it. Returns the solved position of its sets.
+///
+/// Errors: the first rule that fails, the first step that exceeds the budget, or that an allocation failed.
 pub fn check(alloc: Global, claim: Claim, budget: Budget) -> Result<Solved, CheckError>
     requires claim { HasFileOf (claim_of claim) }
     ensures claimed { IfOk result (λ s. IsChecked (claim_of claim) s) }

@@ -1,4 +1,4 @@
-//! The sets that are claimed, one by one, and as levels of a plan.
+//! The claimed sets, one by one and as levels of a plan.
 ghost use Rattle.std.specs.Prelude.{◌≡◌, IfOk};
 ghost use Rattle.lin_formula.specs.SetOf.{Table};
 ghost use Rattle.rule_formula.specs.Fits.{IsGameMask};
@@ -17,7 +17,7 @@ use mate_plan::{LevelBuilder, LevelNames, PartName, PlanContext, PlanState, leve
 use set_plan::PlanError;
 use std::alloc::AllocError;
 
-/// The level that has a copy of this set for a mask, and no set for the others.
+/// Returns the level with a copy of this set for one mask, and no set for the others.
 pub(crate) fn lone_level(
     claim: &ReducedClaim,
     work: &mut PlanState,
@@ -76,7 +76,7 @@ impl LevelBuilder for ClaimedPly<'_> {
     }
 }
 
-/// What is claimed at a ply, for each mask. Past the last ply nothing is.
+/// Returns the claimed level of a ply. It has no sets after the last ply.
 pub(crate) fn claimed_level(
     claim: &ReducedClaim,
     work: &mut PlanState,

@@ -29,7 +29,7 @@ impl From<AllocError> for CheckError {
     }
 }
 
-/// Why a claim of so many moves is not accepted, from why its plan does not come to its end.
+/// Returns the error of a check, from the error of the plan for this number of moves.
 pub(crate) fn check_error(moves: u8, error: PlanError<PartName>) -> CheckError
     ensures { IsErrorFor moves error result }
 {

@@ -1,4 +1,4 @@
-//! The rule of the start: the winner has a move from the position into what is claimed, or the position is claimed
+//! The rule of the start: a move of the winner leads from the position into a claimed set, or the position is claimed
 //! itself.
 ghost use Rattle.std.specs.Prelude.{◌≡◌, ◌↔◌, ℕ, IsTrue};
 ghost use Rattle.mask_sets.specs.Stock.{mask_of};
@@ -59,7 +59,7 @@ fn check_waiting(claim: &ReducedClaim) -> Option<RuleAt>
     failed_rule(first_rule(claim), is_claimed(claim))
 }
 
-/// The rule of the start.
+/// Checks the rule of the start.
 pub(crate) fn check_first(claim: &ReducedClaim, work: &mut PlanState) -> FirstFailure
     requires { AreSigned (claim_in claim.now) }
     ensures finds { FindsBy work.old (check_start_in claim.now) result }

@@ -1,4 +1,4 @@
-//! Checks of one item after another, up to the first rule that fails.
+//! Checks items in order, up to the first rule that fails.
 ghost use Rattle.std.specs.Prelude.{◌≡◌, ℕ, All, List};
 ghost use Rattle.auto_core.specs.Automaton.{Automaton};
 ghost use Rattle.set_plan.specs.Sets.{Grows};
@@ -12,7 +12,7 @@ use claim_plan::RuleAt;
 use mate_plan::{PartName, PlanState};
 use set_plan::{ProgramFold, each};
 
-/// What checks an item, as a ply or a mask.
+/// Checks one item, such as a ply or a mask.
 pub(crate) trait Checks {
     /// The program of an item, over the sets of a table.
     ghost program: { Self → List Automaton → ℕ → Program plan.Finding };
@@ -72,7 +72,7 @@ impl<C: Checks> ProgramFold for InTurn<'_, C> {
     }
 }
 
-/// The first rule that fails at one of the items, which are checked in turn, or none.
+/// Returns the first rule that fails, of the items in order, or none.
 pub(crate) fn first_failing<C: Checks>(
     checks: &C,
     work: &mut PlanState,

@@ -1,7 +1,8 @@
-//! Checking a claim: a position, the side that is to mate within so many of its moves, and a set of positions for each
-//! ply of the other side and each mask. It doesn't matter who made the claim. Its sets are reduced, and then its plan is
-//! gone through, rule by rule in the order of `claim_plan/specs/CheckPlan`. What keeps all rules is won, and becomes a
-//! solved position.
+//! Checks a claim, no matter who made it, and turns a won claim into a solved position.
+//!
+//! A claim is a position, the winner, a number of moves, and a set of positions for each ply of the loser and each
+//! mask. The sets are reduced first. Then the claim's plan is executed, rule by rule in the order of
+//! `claim_plan/specs/CheckPlan`. A claim of which all rules are true is won.
 #![tactic(auto)]
 
 mod checking;

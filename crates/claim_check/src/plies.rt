@@ -8,7 +8,7 @@ use limits::MOST_MOVES;
 use mate_plan::plies_before_turn;
 use std::alloc::{AllocError, Global};
 
-/// Every second ply from a first one on, so many of them.
+/// `count` plies, every second one from `first` on.
 #[derive(Clone, Copy)]
 pub(crate) struct Plies {
     pub(crate) first: u8,
@@ -18,7 +18,7 @@ pub(crate) struct Plies {
 impl Plies {
     ghost use Rattle.std.specs.Prelude.{◌+◌, ◌*◌, ◌<◌};
 
-    /// The ply after so many of them.
+    /// Returns the ply after `before` others.
     pub(crate) fn ply(self, before: u8) -> u8
         requires few { AreFew self }
         requires before { before < self.count }
@@ -28,7 +28,7 @@ impl Plies {
         self.first + 2 * before
     }
 
-    /// The plies, one after another.
+    /// Returns the plies in order.
     pub(crate) fn list(self, alloc: Global) -> Result<Vec<u8>, AllocError>
         requires few { AreFew self }
         ensures list { IfOk result (λ plies. plies.items ≡ plies_in self) }
@@ -42,7 +42,7 @@ impl Plies {
     }
 }
 
-/// The plies of the loser, by the winner and by the side that moves first.
+/// Returns the plies of the loser, given the winner and the side that moves first.
 pub(crate) fn losers_plies(winner: Side, first: Side, moves: u8) -> Plies
     requires { moves ≤ MOST_MOVES }
     ensures plies { plies_in result ≡ plies_of winner first moves }

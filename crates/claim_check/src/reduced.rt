@@ -1,4 +1,4 @@
-//! A claim as it is read from a file, with its sets reduced and ply by ply.
+//! A claim from a file, with its sets reduced and stored ply by ply.
 ghost use Rattle.std.specs.Prelude.{◌≡◌, ◌≤◌, ◌++◌, ◌∷◌, [], IfOk, OnOk, map, option_copied};
 ghost use Rattle.std.specs.List.{AllZip};
 ghost use Rattle.mate_plan.specs.Claim.{claimed_at};
@@ -24,7 +24,7 @@ use std::marker::Model;
 use strategy_file::{Claim, ClaimedSet};
 use winning_sets::{ClaimedSets, PlySets, Solved, set_at};
 
-/// A claim with its sets reduced, ready for its plan to be gone through.
+/// A claim with its sets reduced, ready for its plan.
 #[derive(Drop)]
 pub(crate) struct ReducedClaim {
     alloc: Global,
@@ -64,7 +64,7 @@ impl ReducedClaim {
         })
     }
 
-    /// The bench of its position.
+    /// Returns the plan context of its position.
     pub(crate) fn bench(&self) -> PlanContext<'_>
         ensures position { result.position.now ≡ self.now.position }
         ensures ready { IsReady self.now }
@@ -76,14 +76,14 @@ impl ReducedClaim {
         }
     }
 
-    /// The side that is to mate.
+    /// Returns the winner.
     pub(crate) fn winner(&self) -> Side
         ensures { result ≡ self.now.winner }
     {
         self.claimed.winner
     }
 
-    /// How many moves the winner has.
+    /// Returns the number of moves of the winner.
     pub(crate) fn moves(&self) -> u8
         ensures moves { result ≡ self.now.moves }
         ensures few { result ≤ MOST_MOVES }
@@ -91,7 +91,7 @@ impl ReducedClaim {
         self.claimed.moves
     }
 
-    /// The set that is claimed at a ply for a mask.
+    /// Returns the claimed set of a ply and a mask.
     pub(crate) fn set(&self, ply: u8, mask: u8) -> Option<&Auto>
         ensures { option_copied result ≡ claimed_at (claim_in self.now) ply mask }
     {
@@ -103,7 +103,7 @@ impl ReducedClaim {
         )
     }
 
-    /// The solved position of its sets, where the claim is won. It takes no memory.
+    /// Returns the solved position of its sets, if the claim is won. Allocates nothing.
     pub(crate) fn into_solved(self) -> Solved
         requires { IsWonClaim (solution_of self) }
         ensures { result ≡ solution_of self }

@@ -1,5 +1,5 @@
-//! The rules of the replies: each has an answer into what is claimed two plies later, and where the loser is not in check
-//! he has one.
+//! The rules of the replies: each reply has an answer into what is claimed two plies later, and the loser has a reply
+//! if he is not in check.
 ghost use Rattle.std.specs.Prelude.{◌≡◌, ◌≤◌, All, IfOk};
 ghost use Rattle.rule_formula.specs.Fits.{IsGameMask};
 ghost use Rattle.mate_plan.specs.Bench.{IsLater};
@@ -211,7 +211,7 @@ impl Checks for RepliesByPly<'_> {
     }
 }
 
-/// The rules of the replies at all plies of the loser.
+/// Checks the rules of the replies at all plies of the loser.
 pub(crate) fn check_replies(
     claim: &ReducedClaim,
     work: &mut PlanState,

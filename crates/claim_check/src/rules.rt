@@ -1,4 +1,4 @@
-//! Rules, kept or not.
+//! Results of rules.
 ghost use Rattle.std.specs.Prelude.{◌≡◌};
 ghost use Rattle.claim_plan.specs.CheckPlan as plan;
 ghost use Rattle.claim_check.specs.Finds.{IsJudgedBy};
@@ -7,24 +7,24 @@ use claim_plan::{Rule, RuleAt};
 use mate_plan::PartName;
 use set_plan::PlanError;
 
-/// The first rule that fails, or none; or why a plan does not come to its end.
+/// The first rule that fails, or none; or why the plan does not end.
 pub(crate) type FirstFailure = Result<Option<RuleAt>, PlanError<PartName>>;
 
-/// A rule at a ply and a mask.
+/// Returns the rule at a ply and a mask.
 pub(crate) fn rule_at(ply: u8, mask: u8, rule: Rule) -> RuleAt
     ensures { result ≡ plan.rule_at ply mask rule }
 {
     RuleAt { ply, mask, rule }
 }
 
-/// The rule, where it is not kept.
+/// Returns the rule if it is not kept.
 pub(crate) fn failed_rule(rule: RuleAt, kept: bool) -> Option<RuleAt>
     ensures { result ≡ plan.failed_rule rule kept }
 {
     if kept { None } else { Some(rule) }
 }
 
-/// The rule, where it is not kept, as a program answers.
+/// Returns the rule if the program's value is false.
 pub(crate) fn failed_rule_by(
     rule: RuleAt,
     answer: Result<bool, PlanError<PartName>>,

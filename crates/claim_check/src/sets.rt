@@ -1,5 +1,5 @@
-//! The rules of the claimed sets: each by itself is a set of tuples of integers, its men stand apart, and the winner is
-//! not in check.
+//! The rules of the claimed sets: each is a set of tuples of integers, its men stand on distinct squares, and the
+//! winner is not in check.
 ghost use Rattle.std.specs.Prelude.{◌≡◌, ℕ, All, IsSome, None, Ok, Some};
 ghost use Rattle.auto_core.specs.Integers.{DecidesIntegers};
 ghost use Rattle.rule_formula.specs.Fits.{IsGameMask};
@@ -138,7 +138,7 @@ impl Checks for SetsByPly<'_> {
     }
 }
 
-/// The rules of the sets of all plies of the loser.
+/// Checks the rules of the sets of all plies of the loser.
 pub(crate) fn check_sets(claim: &ReducedClaim, work: &mut PlanState, plies: &[u8]) -> FirstFailure
     requires { plies.now ≡ losers_plies claim.now.winner claim.now.position.turn claim.now.moves }
     ensures finds { FindsBy work.old (plan.for_each plies.now (plan.check_sets (claim_in claim.now))) result }
