@@ -1,4 +1,4 @@
--- A ray has one set of distances, and one end of its formula within a budget.
+-- Uniqueness of the set of a ray, and of its error within a budget.
 use Rattle.std.specs.Prelude.{◌≡◌, ◌≢◌, ◌↔◌, ℕ, List, ℤ}
 use Rattle.auto_core.specs.Automaton.{Automaton}
 use Rattle.auto_core.specs.Integers.{IsAccepted}
@@ -16,14 +16,14 @@ HasFirsts =
     (winner : Side) (n : ℕ) (p : Position) (man ray : ℕ) (a : Automaton) → IsFirstSet winner n p man ray a
     → (t : ℕ) → Has a t ↔ Firsts winner n p man ray t
 
--- two automata of a ray have the same tuples
+-- two automata of a ray accept the same tuples
 abbrev pub OneFirstSet : Type 0
 OneFirstSet =
     (winner : Side) (n : ℕ) (p : Position) (man ray : ℕ) (a b : Automaton) → IsFirstSet winner n p man ray a
     → IsFirstSet winner n p man ray b
     → (tuple : List ℤ) → IsAccepted a tuple ↔ IsAccepted b tuple
 
--- where no step exceeds the budget, there is no error but want of memory
+-- if no step exceeds the budget, the only error is out of memory
 abbrev pub NoErrorWithin : Type 0
 NoErrorWithin =
     (winner : Side) (n : ℕ) (p : Position) (man ray budget : ℕ) (why : CompileError)
@@ -31,7 +31,7 @@ NoErrorWithin =
     → IsRayError winner n p man ray budget why
     → why ≡ Memory
 
--- and there is one error at most beside want of memory
+-- there is at most one error apart from out of memory
 abbrev pub OneRayError : Type 0
 OneRayError =
     (winner : Side) (n : ℕ) (p : Position) (man ray budget : ℕ) (why other : CompileError) → why ≢ Memory

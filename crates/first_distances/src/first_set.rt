@@ -14,8 +14,9 @@ use move_choice::his_ray;
 use std::alloc::Global;
 use winning_sets::Solved;
 
-/// The distances of the winner's first moves along a ray that keep the promised count, captures included: of the whole board, and all of them. The
-/// formula is compiled step by step within the budget, with each of its sets, also one that is empty.
+/// Computes the distances, on the whole board, of the winner's first moves along a ray after which he mates in time;
+/// captures are included. The formula is compiled step by step within the budget, with each of its sets, even an empty
+/// one. The error is the first step that exceeds the budget, or that an allocation failed.
 pub fn ray_set(
     alloc: Global,
     solved: &Solved,

@@ -1,4 +1,4 @@
-//! The formula of the distances along a ray. Err is want of memory alone.
+//! The formula of the distances along a ray. The only error is that an allocation failed.
 ghost use Rattle.std.specs.Prelude.{◌≡◌, ◌≤◌, IfOk, length, neg_ℤ, unsigned_abs};
 ghost use Rattle.track_word.specs.Atom.{IsAtom};
 ghost use Rattle.lin_formula.specs.Tree as tree;
@@ -253,7 +253,7 @@ fn line(
     gone_along(alloc, others, his, p.man(his.man).place)
 }
 
-/// For one of the masks after a move of the man along his ray, its line.
+/// Returns the formula: for one of the masks after a move of the man along his ray, its line is true.
 pub(crate) fn ray_formula(
     alloc: Global,
     p: &Position,

@@ -33,7 +33,7 @@ fn kept_set(solved: &Solved, mask: u8) -> &Auto
     }
 }
 
-/// The sets that are kept after the first move, one for each of the masks.
+/// Returns the sets kept after the first move, one for each of the masks.
 pub(crate) fn kept_sets(
     alloc: Global,
     solved: &Solved,

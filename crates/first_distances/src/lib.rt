@@ -1,5 +1,7 @@
-//! The distances of the winner's first moves along a ray that keep the promised count, all of them, as a set of integers: the automaton of a formula
-//! over the kept sets of a solved position. `specs/RayFormula` has the formula, `specs/FirstSet` what its set is and where it stops.
+//! Computes all winning first moves along a ray as a set of distances.
+//!
+//! The set is the automaton of a formula over the kept sets of a solved position. `specs/RayFormula` has the formula,
+//! and `specs/FirstSet` the meaning of its set and the errors.
 #![tactic(auto)]
 
 mod first_set;

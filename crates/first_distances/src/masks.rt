@@ -1,4 +1,4 @@
-//! The masks that there may be after a move.
+//! The possible masks after a move.
 ghost use Rattle.std.specs.Prelude.{◌≡◌, ◌≤◌, ◌++◌, ◌∷◌, [], if◌then◌else◌, IfOk, OnOk, length};
 ghost use Rattle.mask_sets.specs.Stock.{mask_of};
 ghost use Rattle.rule_formula.specs.Fits.{mask_without};
@@ -10,7 +10,7 @@ use chess_game::Position;
 use rule_formula::{Opt, is_king, is_side};
 use std::alloc::{AllocError, Global};
 
-/// Whether man k is in the mask.
+/// Returns whether man k is in the mask.
 pub(crate) fn is_live(mask: u8, k: u8) -> bool
     requires low { 1 ≤ k }
     requires high { k ≤ 8 }
@@ -63,7 +63,7 @@ fn push_capture(all: &mut Vec<u8>, p: &Position, k: u8) -> Result<(), AllocError
     Ok(())
 }
 
-/// The masks that there may be after a move of the side to move: that of the position, and those after a capture.
+/// Returns the possible masks after a move of the side to move: that of the position, and those after a capture.
 pub(crate) fn masks_after(alloc: Global, p: &Position) -> Result<Vec<u8>, AllocError>
     ensures all { IfOk result (λ all. all.items ≡ all_masks p.now) }
     ensures few { IfOk result (λ all. length all.items ≤ 9) }

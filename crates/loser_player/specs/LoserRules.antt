@@ -10,19 +10,19 @@ use Rattle.loser_session.specs.Defending.{DefenceMatch, DefencePick, IsDefence, 
 use Rattle.loser_session.specs.declared.defence.Stand.{Stand}
 use Rattle.loser_session.specs.declared.defence.Stand.TheVariants.{Held, Stuck, Attack, Answer}
 
--- how a game stands for who plays the loser
+-- the state of a game for the player of the loser
 abbrev pub standing_of : Stand → GameState
 standing_of Held = Over ending.Held
 standing_of Stuck = Over ending.Stuck
 standing_of Attack = LineDue
 standing_of Answer = ToMove
 
--- the game stands so
+-- the game has this state
 abbrev pub StandsFor : DefenceMatch → GameState → Type 0
 StandsFor g standing = (stand : Stand) × (standing ≡ standing_of stand) × StandsAs g stand
 
--- the loser moves: the first of his moves, by man, ray and distance, that lead to positions from which the winner does
--- not mate within the moves that he has left
+-- the loser's move is the first one, by man, ray and distance, that leads to a position from which the winner does not
+-- mate within the moves left
 abbrev pub loser_rules : Rules DefenceMatch
 loser_rules =
     record {
@@ -33,7 +33,7 @@ loser_rules =
       Picks = DefencePick;
     }
 
--- a defence is seen as the game
+-- the game is that of a defence
 pub record IsOfDefence (g : DefenceMatch) : Type 0 where
   pub game : Game
   pub defence : IsDefence game

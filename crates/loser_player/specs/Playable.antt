@@ -1,4 +1,5 @@
--- The games of defences can be played by the loser's rules: what the law of a player asks, step by step. Definitions cite nothing of it.
+-- The games of defences can be played by the loser's rules: the conditions of the law of a player, step by step. No
+-- definition cites this module.
 use Rattle.std.proofs.Common.{◌≡◌, Option, Some, refl, sym, ap, subst, ◌∙◌}
 use Rattle.game_rules.specs.Game.{Legal, Position, other}
 use Rattle.game_laws.proofs.MoveLemmas.{same_after}
@@ -19,7 +20,7 @@ use Rattle.loser_session.proofs.Defending.{pick_keeps, some_stand, typed_keeps, 
 use Rattle.loser_session.proofs.Matches.{stands_once}
 use Rattle.loser_player.specs.LoserRules.{IsOfDefence, StandsFor, loser_rules, standing_of}
 
--- whose turn a standing tells of
+-- whose turn it is in a state
 abbrev TellsOf : DefenceMatch → GameState → Type 0
 TellsOf g (Over ending) = Unit {0}
 TellsOf g LineDue = StandsAs g Attack
@@ -31,14 +32,14 @@ tells g Stuck h = tt
 tells g Attack h = h
 tells g Answer h = h
 
--- a line is due where the winner is to move, and the loser is to move where he is to answer
+-- a line is due if it is the winner's turn, and it is the loser's turn if he is to answer
 pub told_turn : (g : DefenceMatch) (standing : GameState) → StandsFor g standing → TellsOf g standing
 told_turn g standing (stand, is, h) = subst (TellsOf g) (sym is) (tells g stand h)
 
 stand_once : (g : DefenceMatch) (one two : GameState) → StandsFor g one → StandsFor g two → one ≡ two
 stand_once g one two (s, e, h) (t, f, k) = e ∙ ap standing_of (stands_once g s t h k) ∙ sym f
 
--- what is said of a defence holds of the game that it is seen as
+-- a property of defences is a property of the games that they are seen as
 module _ (P : DefenceMatch → Type 0) (each : (g : Game) → IsDefence g → P (seen g)) where
   pub of_defence : (g : DefenceMatch) → IsOfDefence g → P g
   of_defence g h = subst P h.same (each h.game h.defence)
@@ -59,7 +60,7 @@ module _ (g : Game) (keeps : IsDefence g) where
       let same : pick.position ≡ q = same_after pick.leads.legal.step.after legal.step.after in
       pick_keeps g keeps answer.2 answer.0 legal (subst (IsNextUnwon (seen g)) same pick.leads.is_in)
 
-  -- and it is then the winner's turn
+  -- it is then the winner's turn
   moves_once : (c : Choice) (q : Position) → StandsFor (seen g) ToMove → Legal g.position c.mv.man (target c.mv) q
       → StandsFor (moved (seen g) q) ToMove → ⊥
   moves_once c q stands legal again =

@@ -1,20 +1,21 @@
-//! Laws of the definitions, each the contract of a function that does nothing.
+//! Laws of the definitions. Each is the contract of a function that does nothing.
 ghost use Rattle.play_loop.specs.Laws.{OneReport, SomeReport};
 ghost use Rattle.loser_player.specs.Laws.{ReportIsSaved};
 ghost use Rattle.loser_player.specs.LoserRules.{IsOfDefence, loser_rules};
 
-/// Of a game and the same lines there is one report at most.
+/// States that a game and its lines have at most one report.
 pub fn one_report()
     ensures { OneReport loser_rules }
 {}
 
-/// Each game of a defence has a report, whatever the lines are.
+/// States that each game of a defence has a report, whatever the lines are.
 pub fn some_report()
     ensures { SomeReport loser_rules IsOfDefence }
 {}
 
-/// Where the winner does not mate within n moves, then whatever the lines are, after each move of the loser in a report, and in the end, legal moves have
-/// led to the position, the winner has made at most n moves, and he does not mate within those that he has left; nor is the loser mated.
+/// States that a report keeps the loser safe if the winner does not mate within n moves, whatever the lines are. After
+/// each move of the loser and at the end, legal moves have led to the position, the winner has made at most n moves, he
+/// does not mate within the moves left, and the loser is not mated.
 pub fn report_is_saved()
     ensures { ReportIsSaved }
 {}

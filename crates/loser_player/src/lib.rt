@@ -1,5 +1,7 @@
-//! The loser as a player of a game, whose other side's moves come as lines of a source: the rules of such a game (`specs/LoserRules`), that there is
-//! exactly one report of it, and that nobody is mated in one (`laws`).
+//! The loser of a game as a player against lines.
+//!
+//! `specs/LoserRules` has his rules. The laws state that a game has exactly one report, and that the loser is not mated
+//! in it.
 #![tactic(auto)]
 
 pub mod laws;

@@ -1,4 +1,4 @@
-//! The loser of a game, as a player.
+//! The loser of a game as a player.
 ghost use Rattle.std.specs.Prelude.{◌≡◌};
 ghost use Rattle.loser_player.specs.LoserRules.{standing_of as standing_is};
 ghost use Rattle.loser_session.specs.Defending.{seen};
@@ -23,6 +23,7 @@ impl Model for Loser {
 }
 
 impl Loser {
+    /// Creates the player of a defence.
     pub fn new(defence: Defence) -> Self
         ensures { result ≡ seen defence }
     {

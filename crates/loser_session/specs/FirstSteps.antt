@@ -1,4 +1,4 @@
--- Whether there is a legal move, and that the first steps of the rays decide it.
+-- Whether there is a legal move; the first steps of the rays decide it.
 use Rattle.std.specs.Prelude.{◌⊎◌, ℕ, IsSomeAnd}
 use Rattle.std.specs.List.{Any}
 use Rattle.game_rules.specs.Game.{Position, HasMove, InCheck, IsLiveAnd, Legal, Sound, after_steps, man_at}
@@ -17,8 +17,8 @@ abbrev pub CanStep : Position → ℕ → Type 0
 CanStep p i =
     IsSomeAnd (man_at p i) (λ m. IsLiveAnd m (λ a. Any (λ r. CanGo p i (first_square a r)) (rays_of m.kind m.side)))
 
--- at a sound position where the side to move is not in check, a man who has a legal move along a ray has one to its first
--- square
+-- at a sound position in which the side to move is not in check, a man with a legal move along a ray has one to its
+-- first square
 abbrev pub FirstStepIsFree : Type 0
 FirstStepIsFree =
     (p : Position) (i : ℕ) (z : Square) (q : Position) (l : Legal p i z q)

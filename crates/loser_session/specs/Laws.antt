@@ -13,40 +13,40 @@ use Rattle.loser_session.specs.Leading.{LeadsNowhere}
 use Rattle.loser_session.specs.Unwon.{RestsFit}
 use Rattle.loser_session.specs.declared.defence.Stand.{Stand}
 
--- whatever moves are typed, after at most so many moves of the winner the loser is not mated, neither at first nor after
--- any move
+-- after at most `moves` moves of the winner the loser is not mated, neither at the start nor after any move, whatever
+-- moves are given
 abbrev pub NeverMated : Type 0
 NeverMated =
     (g : Game) (typed : List Move) (games : List Game) → IsDefence g → Defends g typed games
     → (IsMated (seen g) → ⊥)
     × ((k : ℕ) (after : Game) → slice_get games k ≡ Some after → IsSaved g after)
 
--- so it is from the start, where the winner does not mate in time
+-- this is true from the start if the winner does not mate in time
 abbrev pub StartIsDefence : Type 0
 StartIsDefence =
     (s : Solution) (f : Frame) → s.origin ≡ Plan → IsSolution s → (Value s.winner s.moves s.position → ⊥)
     → IsDefence (start_of s f)
 
--- where the loser is to move and has a legal move, it is not so that each of them leads to a position that is won
+-- if it is the loser's turn and he has a legal move, not every one leads to a won position
 abbrev pub MovesAreLeft : Type 0
 MovesAreLeft =
     (g : Game) → IsDefence g → HasMovesLeft (seen g) → IsLosersTurn (seen g) → HasMove g.position
     → LeadsNowhere (IsNextUnwon (seen g)) g.position
     → ⊥
 
--- the loser has one move at most, and not both one and none
+-- the loser has at most one move, and not both a move and none
 abbrev pub OneDefencePick : Type 0
 OneDefencePick = (g : DefenceMatch) → OnePick (IsNextUnwon g) g.frame g.position
 
--- a game stands in one way at most
+-- a game has at most one state
 abbrev pub OneStand : Type 0
 OneStand = (g : DefenceMatch) (one two : Stand) → StandsAs g one → StandsAs g two → one ≡ two
 
--- and a defence in one way at least
+-- a defence has at least one state
 abbrev pub SomeStand : Type 0
 SomeStand = (g : Game) → IsDefence g → (stand : Stand) × StandsAs (seen g) stand
 
--- where no step of the plan exceeds the budget, none of its parts in which kept sets are taken from reached ones does
+-- if no step of the plan exceeds the budget, no step of its parts that subtract kept sets from reached ones does
 abbrev pub PlanFits : Type 0
 PlanFits =
     (s : Solution) (budget : ℕ) → IsSolution s → IsWithin (plan_of s.winner s.position s.moves) budget

@@ -1,4 +1,4 @@
-//! Whether some move leads into sets, to whatever square of the board.
+//! Whether some move leads into sets, to any square of the board.
 ghost use Rattle.std.specs.Prelude.{◌≡◌, ◌≤◌, ℕ, length, true, false};
 ghost use Rattle.game_rules.specs.Game.{Sound};
 ghost use Rattle.mask_sets.specs.Sets.{HaveAtMost, IsIn};
@@ -48,7 +48,8 @@ fn leads_for(search: &mut Search, aim: &Aim, man: u8) -> bool
     false
 }
 
-/// Whether some legal move leads into the sets, to whatever square of the board. It takes no memory: the search has room for each of the sets.
+/// Returns whether some legal move leads into the sets, to any square of the board. Allocates nothing: the search has
+/// room for each of the sets.
 pub(crate) fn has_move_into(search: &mut Search, sets: &MaskSets, p: &Position) -> bool
     requires sound { Sound p.now }
     requires next { AreNext p.now sets.now }

@@ -22,7 +22,7 @@ use std::marker::Model;
 use winner_session::TooWide;
 use winning_sets::{PlySets, Solved};
 
-/// How a game stands.
+/// The state of a game.
 #[derive(Clone, Copy, Debug, PartialEq, Eq)]
 pub enum Stand {
     /// The winner has made all his moves.
@@ -62,8 +62,9 @@ impl Model for Defence {
 }
 
 impl Defence {
-    /// Takes all memory of the game. Where there is not enough, the solved position is handed back. The budget has to suffice for what is left of the
-    /// reached positions without the kept ones, as the one does within which the position was solved.
+    /// Starts a game and allocates all its memory. If an allocation fails, the solved position is returned as the
+    /// error. The budget must suffice for subtracting the kept sets from the reached ones; the budget with which the
+    /// position was solved does.
     pub fn begin(
         alloc: Global,
         solved: Solved,
@@ -96,7 +97,7 @@ impl Defence {
         }
     }
 
-    /// The position after the moves that were made.
+    /// Returns the current position.
     pub fn position(&self) -> Position
         ensures position { result ≡ self.now.position }
         ensures defence { IsDefence self.now }
@@ -104,14 +105,14 @@ impl Defence {
         self.position
     }
 
-    /// The side that does not mate in time.
+    /// Returns the winner, the side that does not mate in time.
     pub fn winner(&self) -> Side
         ensures { result ≡ self.now.solution.winner }
     {
         self.solved.winner()
     }
 
-    /// How many moves the winner has left.
+    /// Returns the number of moves that the winner has left.
     pub fn moves_left(&self) -> u8
         ensures { result + made_in self.now ≡ self.now.solution.moves }
     {
@@ -145,8 +146,8 @@ impl Defence {
         }
     }
 
-    /// How the game stands. Where the loser is to answer, some legal move of his leads to a position from which the winner does not mate within the moves
-    /// that he has left, to whatever square of the board. It takes no memory.
+    /// Returns the state of the game. If the loser is to answer, some legal move of his, to any square of the board,
+    /// leads to a position from which the winner does not mate within the moves left. Allocates nothing.
     pub fn stand(&mut self) -> Stand
         ensures stands { StandsAs (seen self.old) result }
         ensures defends { result ≡ Stand.Answer → CanDefend (seen self.old) }
@@ -199,7 +200,7 @@ impl Defence {
         }
     }
 
-    /// The winner's move is made, if it is legal. It takes no memory.
+    /// Makes the winner's move. The error is the first reason why it is not legal. Allocates nothing.
     pub fn typed(&mut self, mv: Move) -> Result<(), Illegal>
         requires left { HasMovesLeft (seen self.old) }
         requires turn { IsWinnersTurn (seen self.old) }
@@ -213,8 +214,9 @@ impl Defence {
         self.make(mv)
     }
 
-    /// The loser makes his first move, by man, ray and distance, to a square of the frame that leads to a position from which the winner does not mate
-    /// within the moves that he has left, captures included. It takes no memory.
+    /// Makes the loser's first move, by man, ray and distance, that goes to a square of the frame and leads to a
+    /// position from which the winner does not mate within the moves left; captures are included. The error is that
+    /// there is no such move in the frame. Allocates nothing.
     pub fn answer(&mut self) -> Result<Move, TooWide>
         requires left { HasMovesLeft (seen self.old) }
         requires turn { IsLosersTurn (seen self.old) }

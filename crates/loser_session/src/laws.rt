@@ -1,48 +1,48 @@
-//! Laws of the definitions, each the contract of a function that does nothing.
+//! Laws of the definitions. Each is the contract of a function that does nothing.
 ghost use Rattle.loser_session.specs.FirstSteps.{FirstStepIsFree, MoveOrNone};
 ghost use Rattle.loser_session.specs.Laws.{MovesAreLeft, NeverMated, OneDefencePick, OneStand, PlanFits, SomeStand, StartIsDefence};
 
-/// Where the side to move is not in check, a man who may go along a ray may go its first step.
+/// States that a man who may go along a ray may go its first step, if the side to move is not in check.
 pub fn first_step_is_free()
     ensures { FirstStepIsFree }
 {}
 
-/// Each sound position has a legal move, or has none.
+/// States that each sound position has a legal move, or has none.
 pub fn move_or_none()
     ensures { MoveOrNone }
 {}
 
-/// Whatever moves are typed: after at most n moves of the winner the loser is not mated.
+/// States that the loser is not mated after at most n moves of the winner, whatever moves are given.
 pub fn never_mated()
     ensures { NeverMated }
 {}
 
-/// Where the winner does not mate within n moves, the start of a game is one that can be defended.
+/// States that the start of a game can be defended if the winner does not mate within n moves.
 pub fn start_is_defence()
     ensures { StartIsDefence }
 {}
 
-/// Where the loser has a legal move, it is not so that each of them leads to a position that is won.
+/// States that if the loser has a legal move, not every one leads to a won position.
 pub fn moves_are_left()
     ensures { MovesAreLeft }
 {}
 
-/// In each game the loser has one pick at most, and not both one and none.
+/// States that the loser has at most one pick in each game, and not both a pick and none.
 pub fn one_pick()
     ensures { OneDefencePick }
 {}
 
-/// A game stands in one way at most.
+/// States that a game has at most one state.
 pub fn one_stand()
     ensures { OneStand }
 {}
 
-/// A defence stands in one way at least.
+/// States that a defence has at least one state.
 pub fn some_stand()
     ensures { SomeStand }
 {}
 
-/// Where a solved position was found within a budget, its defence can be begun with that budget.
+/// States that the defence of a solved position can be started with the budget with which it was solved.
 pub fn plan_fits()
     ensures { PlanFits }
 {}

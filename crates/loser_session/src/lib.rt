@@ -1,6 +1,8 @@
-//! A game that the loser plays where the winner does not mate in time: his moves lead to positions that are reached and not won, and the winner's are
-//! typed. `specs/Unwon` has the sets of these positions, `specs/Defending` what a defence keeps, how it stands, which move is the loser's, and what
-//! comes of any list of moves that are typed; `specs/FirstSteps` by which moves it is known whether there is a legal one.
+//! A game in which the loser avoids mate within the given number of moves, and the winner's moves are given.
+//!
+//! The loser's moves lead to positions that are reached and not won. `specs/Unwon` defines the sets of these positions,
+//! `specs/Defending` the state of a defence, the loser's move, and the result of any list of given moves, and
+//! `specs/FirstSteps` which moves decide whether there is a legal one.
 #![tactic(auto)]
 
 mod any_move;

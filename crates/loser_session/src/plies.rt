@@ -1,4 +1,4 @@
-//! Who is to move at a ply, and the sets that moves are to lead into there.
+//! The side to move at a ply, and the sets that its moves must reach there.
 ghost use Rattle.std.specs.Prelude.{◌≡◌, ◌<◌, length, true, false};
 ghost use Rattle.game_rules.specs.Game.{other};
 ghost use Rattle.mate_plan.specs.Plan.{turn_at};
@@ -15,7 +15,7 @@ fn side_at(first: Side, ply: u8) -> Side
     if ply % 2 == 0 { first } else { first.other() }
 }
 
-/// Whether the winner is to move at a ply.
+/// Returns whether it is the winner's turn at a ply.
 pub(crate) fn is_winners(solved: &Solved, ply: u8) -> bool
     ensures his { result ≡ true → turn_at solved.now.position.turn ply ≡ solved.now.winner }
     ensures not_his { result ≡ false → turn_at solved.now.position.turn ply ≡ other solved.now.winner }
@@ -23,8 +23,8 @@ pub(crate) fn is_winners(solved: &Solved, ply: u8) -> bool
     side_at(solved.position().turn(), ply) == solved.winner()
 }
 
-/// The sets that moves are to lead into at a ply, where these are the sets of what is not won with the winner to move. With the loser to move nothing
-/// that is reached is won.
+/// Returns the sets that moves must reach at a ply: the sets of unwon positions if it is the winner's turn there, and
+/// the reached sets if it is the loser's, since no reached position is won then.
 pub(crate) fn sets_into<'a>(solved: &'a Solved, plies: &'a [PlySets], ply: u8) -> &'a [Auto]
     requires { ply < length plies.now }
     ensures { result.now ≡ into_ply solved.now plies.now ply }

@@ -1,4 +1,4 @@
-//! How much room a search needs.
+//! The room that a search needs.
 ghost use Rattle.std.specs.Prelude.{◌≡◌, ◌≤◌, All, length};
 ghost use Rattle.winning_sets.specs.Solve.{end_of};
 ghost use Rattle.loser_session.specs.Unwon.{HaveRoom};
@@ -18,7 +18,7 @@ fn most_in(sets: &[Auto]) -> u32
     most
 }
 
-/// At least as many states as each of the sets has that moves are to lead into.
+/// Returns at least the greatest number of states of the sets that moves must reach.
 pub(crate) fn most_states(solved: &Solved, plies: &[PlySets]) -> u32
     requires { length plies.now ≡ end_of solved.now }
     ensures { HaveRoom result solved.now plies.now }

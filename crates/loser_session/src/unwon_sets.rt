@@ -142,7 +142,7 @@ fn unwon_at(alloc: Global, solved: &Solved, ply: u8, budget: Budget) -> Result<P
     Ok(sets)
 }
 
-/// The sets of all plies before the last. No move leads into the last ply while the winner has a move left.
+/// Computes the sets of all plies before the last one. No move leads to the last ply while the winner has a move left.
 pub(crate) fn unwon_plies(
     alloc: Global,
     solved: &Solved,

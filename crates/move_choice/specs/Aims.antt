@@ -1,4 +1,4 @@
--- What is asked of the sets, who moves, and what a man's ray makes of the coordinates.
+-- Conditions on the sets, the men who may move, and the coordinates along a man's ray.
 use Rattle.std.specs.Prelude.{◌≡◌, ◌≢◌, ◌↔◌, ℕ, ◌+◌, ◌≤◌, List, ℤ, slice_set, MatchOption, Option, Some}
 use Rattle.auto_core.specs.Automaton.{Automaton}
 use Rattle.auto_core.specs.Integers.{IsAccepted}
@@ -19,13 +19,13 @@ use Rattle.mask_sets.specs.Sets.{IsAskable, IsIn, Table}
 use Rattle.game_laws.specs.Stock.{HasStock}
 use Rattle.mask_sets.specs.Tuple.{tuple_of}
 
--- any position of the men of p can be asked for, and the sets hold no position to which a step from p leads that leaves
--- the mover's king attacked
+-- any position of the men of p can be looked up, and the sets contain no position that a step from p reaches and that
+-- leaves the mover's king attacked
 pub record AreNext (p : Position) (sets : Table) : Type 0 where
   pub askable : (q : Position) → HasStock p.men q → IsAskable sets q
   pub legal : (i : ℕ) (z : Square) (q : Position) → Step p i z q → IsIn sets q → InCheck q p.turn → ⊥
 
--- he is live, and of the side
+-- the man is live and belongs to the side
 abbrev pub IsLiveOf : Side → Man → Type 0
 IsLiveOf s m = (m.side ≡ s) × (m.place ≢ Gone)
 
@@ -46,25 +46,25 @@ HasRay p i n = (r : Ray) × IsMover p i n r
 abbrev pub HoldsMen : Frame → Position → Type 0
 HoldsMen f p = (i : ℕ) (z : Square) → StandsAt p i z → IsInside f z
 
--- the distances at which man i may go along the ray, over empty squares to an empty one of the frame, are those from the
--- one to the other
+-- the distances at which man i may go along the ray, over empty squares to an empty one of the frame, are exactly those
+-- from the first to the second
 abbrev pub IsFreeBetween : Position → ℕ → Ray → Frame → ℕ → ℕ → Type 0
 IsFreeBetween p i r f near far = (t : ℕ) → ((near ≤ t) × (t ≤ far)) ↔ IsFree p i r f t
 
--- the first man whom man i meets on the ray, in the frame, stands on the square
+-- the first man that man i meets on the ray in the frame stands on the square
 pub record IsMet (p : Position) (i : ℕ) (r : Ray) (f : Frame) (z : Square) : Type 0 where
   pub number : ℕ
   pub hit : IsHit p i r f number
   pub there : StandsAt p number z
 
--- the coordinates of the position where this man has gone so far along the ray
+-- the coordinates of the position after this man has gone t steps along the ray
 abbrev pub tuple_along : Position → ℕ → Ray → ℕ → List ℤ
 tuple_along p man r t =
     let x = coordinates_before p man in
     let y = coordinates_before p man + 1 in
     slice_set (slice_set (tuple_of p) x (value_after (tuple_of p) x r.dx t)) y (value_after (tuple_of p) y r.dy t)
 
--- the way that is searched is that of the man along the ray
+-- the line of coordinates is that of the man along the ray
 pub record IsAlong (p : Position) (man : ℕ) (r : Ray) (way : TupleRay) : Type 0 where
   pub fixed : way.fixed.now ≡ tuple_of p
   pub x_track : way.x_track ≡ coordinates_before p man
@@ -72,7 +72,7 @@ pub record IsAlong (p : Position) (man : ℕ) (r : Ray) (way : TupleRay) : Type 
   pub dx : way.dx ≡ r.dx
   pub dy : way.dy ≡ r.dy
 
--- these coordinates are in the set
+-- the coordinates after t steps are in the set
 abbrev pub IsHitAlong : Automaton → Position → ℕ → Ray → ℕ → Type 0
 IsHitAlong a p man r t = IsAccepted a (tuple_along p man r t)
 
@@ -83,6 +83,6 @@ pub record IsLeast (P : ℕ → Type 0) (near far t : ℕ) : Type 0 where
   pub has : P t
   pub least : (u : ℕ) → near ≤ u → P u → t ≤ u
 
--- that number, or that there is none
+-- the least such number, or that there is none
 abbrev pub IsLeastFound : (ℕ → Type 0) → ℕ → ℕ → Option ℕ → Type 0
 IsLeastFound P near far found = MatchOption found ((t : ℕ) → near ≤ t → t ≤ far → P t → ⊥) (IsLeast P near far)

@@ -1,4 +1,4 @@
--- How far along a ray a man's moves go that lead into a set: at which distances, how many there are, and the least.
+-- The moves of a man along a ray that lead into a set: their distances, their number, and the least distance.
 use Rattle.std.specs.Prelude.{◌≡◌, ◌↔◌, ℕ, ◌≤◌, IsSomeAnd, MatchOption, Option, Some}
 use Rattle.game_rules.specs.Game.{Position, IsEmptySquare, IsOccupiedBy, IsLiveAnd, Legal, StandsOn, man_at, other}
 use Rattle.game_rules.specs.Rays.{IsAt}
@@ -9,7 +9,8 @@ use Rattle.game_laws.specs.OnRay.{IsOnRay}
 use Rattle.chess_game.specs.Way.{IsInside}
 use Rattle.chess_game.specs.declared.way.Frame.{Frame}
 
--- so far along the ray of this number the man has a legal move, to a square with the property, that leads into the set
+-- at this distance along the ray of this number the man has a legal move, to a square with the property, that leads
+-- into the set
 pub record LeadsAlong (Target : Square → Type 0) (Set : Position → Type 0) (p : Position) (man ray distance : ℕ) : Type
     0 where
   pub him : Man
@@ -23,23 +24,23 @@ pub record LeadsAlong (Target : Square → Type 0) (Set : Position → Type 0) (
   pub legal : Legal p man to after
   pub is_in : Set after
 
--- the same to any square of the board
+-- the same, to any square of the board
 abbrev pub LeadsAnywhere : (Position → Type 0) → Position → ℕ → ℕ → ℕ → Type 0
 LeadsAnywhere Set p man ray distance = LeadsAlong (λ z. Unit {0}) Set p man ray distance
 
--- to a square of the frame
+-- the same, to a square of the frame
 abbrev pub LeadsInside : Frame → (Position → Type 0) → Position → ℕ → ℕ → ℕ → Type 0
 LeadsInside frame Set p man ray distance = LeadsAlong (IsInside frame) Set p man ray distance
 
--- to an empty square
+-- the same, to an empty square
 abbrev pub QuietAlong : (Position → Type 0) → Position → ℕ → ℕ → ℕ → Type 0
 QuietAlong Set p man ray distance = LeadsAlong (IsEmptySquare p) Set p man ray distance
 
--- and to a man of the other side
+-- the same, to a square with a man of the other side
 abbrev pub CaptureAlong : (Position → Type 0) → Position → ℕ → ℕ → ℕ → Type 0
 CaptureAlong Set p man ray distance = LeadsAlong (IsOccupiedBy p (other p.turn)) Set p man ray distance
 
--- a number with a property, and none is less
+-- the number has the property, and no lesser number has
 pub record IsLeastOf (P : ℕ → Type 0) (number : ℕ) : Type 0 where
   pub has : P number
   pub least : (n : ℕ) → P n → number ≤ n
@@ -48,20 +49,20 @@ pub record IsLeastOf (P : ℕ → Type 0) (number : ℕ) : Type 0 where
 abbrev pub IsLeastOrNone : (ℕ → Type 0) → Option ℕ → Type 0
 IsLeastOrNone P least = MatchOption least ((n : ℕ) → P n → ⊥) (IsLeastOf P)
 
--- so far along the ray lies an empty square of the board, and all squares before it are empty
+-- the square at this distance along the ray is empty, and so are all squares before it
 pub record IsClearFrom (p : Position) (a : Square) (r : Ray) (distance : ℕ) : Type 0 where
   pub to : Square
   pub leads : IsAt r distance a to
   pub empty : (k : ℕ) (z : Square) → k ≤ distance → IsAt r k a z → IsEmptySquare p z
 
--- so far along the ray the man may go to an empty square of the board, over empty squares
+-- man i may go this distance along the ray, over empty squares to an empty square of the board
 abbrev pub IsClear : Position → ℕ → Ray → ℕ → Type 0
 IsClear p man r distance = IsSomeAnd (man_at p man) (λ m. IsLiveAnd m (λ a. IsClearFrom p a r distance))
 
--- he may go so at the distances from 1 to the last, and no farther
+-- man i may go at the distances from 1 to the last one, and no farther
 abbrev pub IsClearTo : Position → ℕ → Ray → ℕ → Type 0
 IsClearTo p man r last = (t : ℕ) → ((1 ≤ t) × (t ≤ last)) ↔ IsClear p man r t
 
--- he may go on and on
+-- man i may go at every distance
 abbrev pub IsClearForever : Position → ℕ → Ray → Type 0
 IsClearForever p man r = (t : ℕ) → (1 ≤ t) ↔ IsClear p man r t

@@ -1,4 +1,5 @@
--- That a man moves, and what is asked of the sets, has one proof at most, so that a struct can hold it.
+-- The facts that a man moves, and that the sets meet their conditions, are propositions. So fields of a struct can hold
+-- them.
 use Rattle.std.specs.Prelude.{◌≡◌, ℕ, Option, Some, length, unwrap_or}
 use Rattle.std.specs.Coded.{Coded, Coded-set, coded_bool, coded_option, coded_ℕ, ×_prop, →_prop, Π_prop, Σ_prop}
 use mathlib.Core.HLevel.{¬_prop, Σ_prop_path}
@@ -18,12 +19,12 @@ use Rattle.mask_sets.specs.Sets.{IsSetFor, Table}
 use Rattle.mask_sets.specs.Tuple.{tuple_of}
 use Rattle.move_choice.specs.Aims.{AreNext, IsMover}
 
--- what an option holds is one value
+-- an option contains at most one value
 only_one : {A : Type 0} → Coded A → (o : Option A) → IsProp ((x : A) × (o ≡ Some x))
 only_one code o u v = Σ_prop_path (λ x. Coded-set (coded_option code) o (Some x)) (ap (λ w. unwrap_or w u.0) (sym u.1 ∙ v.1))
 
 module _ (p : Position) (i n : ℕ) (r : Ray) where
-  -- the man, then his square, each with what is said of it
+  -- the man and his square, each with its property
   abbrev MoverParts : Type 0
   MoverParts =
       (m : (him : Man) × (man_at p i ≡ Some him))

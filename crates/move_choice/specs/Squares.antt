@@ -1,4 +1,4 @@
--- The squares that can be named.
+-- The squares with coordinates of 64 bits.
 use Rattle.std.specs.Prelude.{◌-◌, ◌^◌, pos, negsuc}
 use Rattle.chess_game.specs.declared.way.Frame.{Frame}
 

@@ -1,4 +1,4 @@
-//! What a move is asked to do, and what it goes along.
+//! The aim of a move, and its ray.
 ghost use Rattle.game_rules.specs.Game.{Sound};
 ghost use Rattle.move_choice.specs.Aims.{AreNext, IsMover};
 ghost use Rattle.move_choice.specs.Facts.{AreNext-prop, IsMover-prop};
@@ -7,7 +7,7 @@ ghost use Rattle.game_laws.specs.Soundness.{Sound-prop};
 use chess_game::{Frame, Position, Ray};
 use mask_sets::MaskSets;
 
-/// What a move is asked to do: it goes from the sound position to a square of the frame, and leads into the sets.
+/// The aim of a move: it starts in the sound position, goes to a square of the frame, and leads into the sets.
 #[derive(Drop)]
 pub struct Aim<'a> {
     pub position: &'a Position,
@@ -17,7 +17,7 @@ pub struct Aim<'a> {
     pub ghost next: { AreNext position.now sets.now } by { AreNext-prop position.now sets.now },
 }
 
-/// One of a man's rays, with his number and its own.
+/// One of a man's rays, with the numbers of the man and the ray.
 #[derive(Clone, Copy)]
 pub struct ManRay {
     pub man: u8,
@@ -25,7 +25,7 @@ pub struct ManRay {
     pub ray: Ray,
 }
 
-/// A ray of a live man of the side to move, beside what his moves are asked to do.
+/// A ray of a live man of the side to move, with the aim of his moves.
 #[derive(Clone, Copy)]
 pub struct AimedRay<'a> {
     pub aim: &'a Aim<'a>,

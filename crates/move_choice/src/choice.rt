@@ -10,7 +10,7 @@ use crate::aim::AimedRay;
 use auto_search::value_along;
 use chess_game::{Frame, Move, Place, Ray};
 
-/// A move, the number of the ray that it goes along, and how far it goes, in steps of the ray.
+/// A move, the number of its ray, and its distance in steps of the ray.
 #[derive(Clone, Copy, PartialEq, Eq)]
 pub struct Choice {
     pub mv: Move,
@@ -28,7 +28,8 @@ fn moved(value: i64, slope: i8, distance: u128) -> i64
     value_along(value, slope, distance) as i64
 }
 
-/// The move of the man so far along the ray. It goes to a square of the frame, so that its coordinates fit.
+/// Returns the man's move of this distance along the ray. It goes to a square of the frame, so that its coordinates
+/// fit.
 pub(crate) fn choice_along(along: &AimedRay, frame: Frame, distance: u128) -> Choice
     requires distance { distance ≤ 2 ^ 64 }
     requires free { IsFree along.now.aim.now.position.now along.now.his.man along.now.his.ray frame distance }
@@ -91,7 +92,7 @@ fn steps_between(ray: Ray, x: i64, y: i64, to_x: i64, to_y: i64) -> u128
     }
 }
 
-/// How many steps of the ray the move goes, which leads along it.
+/// Returns the distance of the move, which goes along the ray, in steps of the ray.
 pub(crate) fn steps_of(along: &AimedRay, mv: Move) -> u128
     ensures steps { AreHisSteps along.now.aim.now.position.now along.now.his.man along.now.his.ray (target mv) result }
     ensures few { result ≤ 2 ^ 64 }

@@ -1,5 +1,8 @@
-//! What a game needs, whoever plays: moves in the order of the rays, the first of them that leads into a set of positions, and how many do along one
-//! ray. `specs/Choice` says which move is the first, `specs/Along` how far moves along a ray go, `specs/Aims` what is asked of the sets.
+//! Finds moves that lead into sets of positions: the first one in the order of men, rays and distances, and how many
+//! there are along one ray.
+//!
+//! Both sides of a game use it. `specs/Choice` defines which move is the first, `specs/Along` how far moves along a ray
+//! go, and `specs/Aims` the conditions on the sets.
 #![tactic(auto)]
 
 mod aim;

@@ -1,4 +1,4 @@
-//! A frame in which all men stand: whoever is not met in it is not met at all.
+//! A frame that contains all men: a man who is not met in it is not met at all.
 ghost use Rattle.std.specs.Prelude.{◌≡◌, Some};
 ghost use Rattle.game_rules.specs.Game.{place_square};
 ghost use Rattle.game_rules.specs.declared.men.Square.{Square};
@@ -23,7 +23,7 @@ fn widened(frame: Frame, place: Place) -> Frame
     }
 }
 
-/// A frame in which all live men stand.
+/// Returns a frame that contains all live men.
 pub(crate) fn frame_of_men(p: &Position) -> Frame
     ensures { HoldsMen result p.now }
 {

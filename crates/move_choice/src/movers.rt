@@ -1,11 +1,11 @@
-//! Who may move, and along which rays.
+//! The men who may move, and their rays.
 ghost use Rattle.std.specs.Prelude.{◌≡◌, ◌↔◌, ◌≤◌, IsTrue, length, true, false};
 ghost use Rattle.move_choice.specs.Aims.{HasRay, IsLiveOf, IsMover};
 
 use crate::aim::ManRay;
 use chess_game::{Man, Place, Position, Side, ray as ray_of_kind};
 
-/// Whether the man is live and of the side.
+/// Returns whether the man is live and belongs to the side.
 pub(crate) fn is_live_of(man: Man, side: Side) -> bool
     ensures yes { result ≡ true → IsLiveOf side man }
     ensures no { result ≡ false → IsLiveOf side man → ⊥ }
@@ -13,7 +13,7 @@ pub(crate) fn is_live_of(man: Man, side: Side) -> bool
     man.side == side && man.place != Place::Gone
 }
 
-/// Whether the man is a live one of the side to move, and one of his rays has this number, counted from 0.
+/// Returns whether the man is a live one of the side to move and one of his rays has this number, counted from 0.
 pub fn has_ray(p: &Position, man: u8, number: u8) -> bool
     requires first { 1 ≤ man }
     requires last { man ≤ length p.now.men }
@@ -26,7 +26,7 @@ pub fn has_ray(p: &Position, man: u8, number: u8) -> bool
     ray_of_kind(him.kind, him.side, number).is_some()
 }
 
-/// The man's ray of this number, with both numbers.
+/// Returns the man's ray of this number, with both numbers.
 pub fn his_ray(p: &Position, man: u8, number: u8) -> ManRay
     requires { HasRay p.now man number }
     ensures man { result.man ≡ man }

@@ -51,8 +51,8 @@ fn of_any(search: &mut Search, aim: &Aim, man: u8) -> Option<Choice>
     of_man(search, aim, man)
 }
 
-/// The first legal move, by man, ray and distance, whose target lies in the frame and that leads into the sets, captures included. It takes no
-/// memory: the search has room for each of the sets.
+/// Returns the first legal move, by man, ray and distance, that goes to a square of the frame and leads into the sets;
+/// captures are included. Allocates nothing: the search has room for each of the sets.
 pub fn first_move(search: &mut Search, aim: &Aim) -> Option<Choice>
     requires few { HaveAtMost search.old aim.now.sets.now }
     ensures pick { Pick (IsIn aim.now.sets.now) aim.now.frame aim.now.position.now result }

@@ -1,4 +1,4 @@
-//! How many moves along one ray lead into the sets, and how far the nearest of them goes.
+//! The number of moves along one ray that lead into the sets, and the distance of the nearest.
 ghost use Rattle.std.specs.Prelude.{◌≡◌, ◌≤◌, ◌^◌, length, IfNone, IfSome};
 ghost use Rattle.auto_search.specs.Fews.{HasFew};
 ghost use Rattle.mask_sets.specs.Sets.{HaveAtMost, IsSetFor};
@@ -17,7 +17,8 @@ use auto_search::{Few, Search};
 use chess_game::{Move, Place, Way};
 use mask_sets::coordinates;
 
-/// Of the moves along a ray that lead into sets: how many there are on the whole board, and the least distance of those whose square lies in a frame.
+/// The moves along a ray that lead into the sets: their number on the whole board, and the least distance of those to a
+/// square of the frame.
 #[derive(Clone, Copy, PartialEq, Eq)]
 pub struct RayMoves {
     pub few: Few,
@@ -154,8 +155,8 @@ fn count_captures(along: &AimedRay, hits: Option<u8>) -> Few
     }
 }
 
-/// How many of the man's moves along the ray lead into the sets, captures included, without a look for the nearest of them. It takes no memory: the
-/// search has room for each of the sets.
+/// Returns the number of the man's moves along the ray that lead into the sets; captures are included. It does not look
+/// for the nearest of them. Allocates nothing: the search has room for each of the sets.
 pub fn count_along(search: &mut Search, along: &AimedRay) -> Few
     requires few { HaveAtMost search.old along.now.aim.now.sets.now }
     ensures few { HasFew result (MoveInto along.now) }
@@ -187,8 +188,8 @@ fn least_along(search: &mut Search, along: &AimedRay) -> Option<u128>
     }
 }
 
-/// How many of the man's moves along the ray lead into the sets, captures included, and the least distance of those to a square of the frame. It takes
-/// no memory: the search has room for each of the sets.
+/// Returns the number of the man's moves along the ray that lead into the sets, captures included, and the least
+/// distance of those to a square of the frame. Allocates nothing: the search has room for each of the sets.
 pub fn moves_along(search: &mut Search, along: &AimedRay) -> RayMoves
     requires few { HaveAtMost search.old along.now.aim.now.sets.now }
     ensures few { HasFew result.few (MoveInto along.now) }

@@ -14,7 +14,7 @@ use auto_search::Search;
 use chess_game::{Kind, Move, Place, Way, try_move};
 use mask_sets::coordinates;
 
-/// The least distance of the way at which the man's move along the ray leads to coordinates in the set.
+/// Returns the least distance of the way at which the man's move along the ray leads to coordinates in the set.
 pub(crate) fn least_hit(search: &mut Search, set: &Auto, along: &AimedRay, way: Way) -> Option<u128>
     requires suits { IsSetFor along.now.aim.now.position.now set.now }
     requires room { length set.now.accept ≤ search.old }
@@ -45,7 +45,7 @@ fn quiet(search: &mut Search, along: &AimedRay, way: Way) -> Option<Choice>
     }
 }
 
-/// Whether the ray of this number serves moves onto an empty square.
+/// Returns whether the ray of this number serves moves onto an empty square.
 pub(crate) fn serves_moves(kind: Kind, number: u8) -> bool
     ensures { result ≡ serving kind number }
 {
@@ -89,7 +89,7 @@ fn take(along: &AimedRay, mv: Move) -> Option<Choice>
     })
 }
 
-/// Of the man's captures along the ray, of which there is one at most, the one that leads into the sets.
+/// Returns the man's capture along the ray if it leads into the sets. There is at most one capture.
 pub(crate) fn capture(along: &AimedRay, hits: Option<u8>) -> Option<Choice>
     requires met { MeetsFirst along.now hits }
     ensures first { FirstCapture along.now result }
@@ -110,7 +110,8 @@ pub(crate) fn capture(along: &AimedRay, hits: Option<u8>) -> Option<Choice>
     }
 }
 
-/// Of the man's moves along the ray, the first that leads into the sets. A capture lies behind all moves to an empty square.
+/// Returns the first of the man's moves along the ray that leads into the sets. A capture comes after all moves to an
+/// empty square.
 pub(crate) fn along_ray(search: &mut Search, along: &AimedRay) -> Option<Choice>
     requires few { HaveAtMost search.old along.now.aim.now.sets.now }
     ensures first { FirstMove along.now result }

@@ -1,4 +1,4 @@
-//! A man's ray as a way that he may go, and as a way that is searched.
+//! A man's ray as the way that he may go, and as a line of coordinates that is searched.
 ghost use Rattle.std.specs.Prelude.{◌≡◌, ◌≤◌, ◌^◌};
 ghost use Rattle.auto_search.specs.TupleRay.{IsTupleRay};
 ghost use Rattle.mask_sets.specs.Tuple.{tuple_of};
@@ -10,7 +10,8 @@ use auto_search::TupleRay;
 use chess_game::{Way, free_way};
 use mask_sets::place_of_man;
 
-/// How far the man may go along the ray, inside the frame, over squares that are empty, and the first man whom he meets there.
+/// Returns how far the man may go along the ray inside the frame over empty squares, and the first man that he meets
+/// there.
 pub(crate) fn way_of(along: &AimedRay) -> Way
     ensures free { MayGoBetween along.now result.near result.far }
     ensures far { result.far ≤ 2 ^ 64 }
@@ -24,7 +25,7 @@ pub(crate) fn way_of(along: &AimedRay) -> Way
     )
 }
 
-/// The way of the man along his ray, from these coordinates, which are those of the position.
+/// Returns the line of coordinates of the man's moves along his ray, from the coordinates of the position.
 pub(crate) fn way_along<'a>(along: &AimedRay, tuple: &'a [i64]) -> TupleRay<'a>
     requires tuple { tuple.now ≡ tuple_of along.now.aim.now.position.now }
     ensures along { IsAlong along.now.aim.now.position.now along.now.his.man along.now.his.ray result }

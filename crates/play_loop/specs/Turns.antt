@@ -1,4 +1,4 @@
--- Games that a player plays against lines: what a player's rules say, and what comes of the start of a game and of each
+-- Games that a player plays against lines: the rules of a player, and the results of the start of a game and of each
 -- line.
 use Rattle.std.specs.Prelude.{◌≡◌, ◌⊎◌, List, ℕ, [], ◌∷◌, ◌++◌, codes, Option, Some, None, Result, Ok, Err}
 use Rattle.std.specs.Io.KnownBytes.{Appends}
@@ -19,8 +19,8 @@ use Rattle.play_loop.specs.declared.ending.Ending.TheVariants.{Mated, Held, Stuc
 use Rattle.play_loop.specs.declared.player.GameState.{GameState}
 use Rattle.play_loop.specs.declared.player.GameState.TheVariants.{Over, LineDue, ToMove}
 
--- A side that is played, over what is told of a game: where the men stand, the game after a move to a position, whose
--- moves the player makes, how a game stands, and which move is the player's, or that there is none.
+-- The rules of a side, over the exposed state of a game: the position, the game after a move to a position, whose moves
+-- the player makes, the state of the game, and the player's move, or that there is none.
 pub record Rules (G : Type 0) : Type 1 where
   pub position : G → Position
   pub moved : G → Position → G
@@ -28,45 +28,45 @@ pub record Rules (G : Type 0) : Type 1 where
   pub Stands : G → GameState → Type 0
   pub Picks : G → Option Choice → Type 0
 
--- Games that are kept can be played by the rules.
+-- Valid games can be played by the rules.
 pub record ArePlayable {G : Type 0} (rules : Rules G) (Kept : G → Type 0) : Type 0 where
-  -- a game stands in one way at most, and a kept one in one way at least
+  -- a game has at most one state, and a valid one has at least one
   pub one_standing : (g : G) (one two : GameState) → rules.Stands g one → rules.Stands g two → one ≡ two
   pub some_standing : (g : G) → Kept g → (standing : GameState) × rules.Stands g standing
-  -- the player has one move at most, and not both one and none; of a kept game he has one, or there is none
+  -- the player has at most one move, and not both a move and none; in a valid game he has a move, or has none
   pub one_pick : (g : G) (one two : Option Choice) → rules.Picks g one → rules.Picks g two → one ≡ two
   pub some_pick : (g : G) → Kept g → rules.Stands g ToMove → (choice : Option Choice) × rules.Picks g choice
-  -- his move is legal, and keeps the game; he does not move again
+  -- his move is legal and leads to a valid game, in which it is not his turn
   pub picks_lead :
       (g : G) (c : Choice) → rules.Picks g (Some c) → (q : Position) × Legal (rules.position g) c.mv.man (target c.mv) q
   pub picks_keep :
       (g : G) (c : Choice) (q : Position) → Kept g → rules.Stands g ToMove → rules.Picks g (Some c)
       → Legal (rules.position g) c.mv.man (target c.mv) q
       → Kept (rules.moved g q) × (rules.Stands (rules.moved g q) ToMove → ⊥)
-  -- each legal move of the other side keeps it
+  -- each legal move of the other side leads to a valid game
   pub typed_keep :
       (g : G) (mv : Move) (q : Position) → Kept g → rules.Stands g LineDue
       → Legal (rules.position g) mv.man (target mv) q
       → Kept (rules.moved g q)
-  -- after a move the men stand there
+  -- after a move the position is that one
   pub moved_to : (g : G) (q : Position) → rules.position (rules.moved g q) ≡ q
 
--- the move is the player's, and has led from the one game to the other
+-- the move is the player's and leads from the first game to the second
 abbrev pub IsMadeBy : {G : Type 0} → Rules G → G → Move → G → Type 0
 IsMadeBy rules g mv after =
     (choice : Choice) × (choice.mv ≡ mv) × rules.Picks g (Some choice)
     × Legal (rules.position g) mv.man (target mv) (rules.position after)
     × (after ≡ rules.moved g (rules.position after))
 
--- What comes of the start of a game, or of a line: the text that is written, the game after each move of the player, the
--- game as it then stands, and how it is over, if it is; else a line is due.
+-- The result of the start of a game or of a line: the text written, the game after each move of the player, the
+-- resulting game, and how it ended; if it has not ended, a line is due.
 pub record Turn (G : Type 0) : Type 0 where
   pub text : List ℕ
   pub games : List G
   pub after : G
   pub over : Option Ending
 
--- the word that the text tells an ending by; the others have their line apart from the text
+-- the word for an ending in the text; the other endings have a line that is not part of the text
 abbrev pub ending_word : Ending → List ℕ
 ending_word Mated = codes "mate\n"
 ending_word Held = codes "held\n"
@@ -82,19 +82,19 @@ abbrev pub side_word : Side → List ℕ
 side_word White = codes "white "
 side_word Black = codes "black "
 
--- the line of a move of the player
+-- the line for a move of the player
 abbrev pub move_line : Side → Move → List ℕ
 move_line side mv = side_word side ++ move_text mv ++ codes "\n"
 
--- this is told, and the game stays as it was
+-- this text is written, and the game does not change
 abbrev pub told : {G : Type 0} → List ℕ → G → Turn G
 told text g = record { text = text; games = []; after = g; over = None }
 
--- the game is over so, without a move
+-- the game ends without a move
 abbrev pub stopped : {G : Type 0} → Ending → G → Turn G
 stopped ending g = record { text = ending_word ending; games = []; after = g; over = Some ending }
 
--- the player's move comes first, which leads to this game
+-- first the player's move, which leads to this game
 abbrev pub moves_first : {G : Type 0} → Rules G → Move → G → Turn G → Turn G
 moves_first rules mv next later =
     record {
@@ -110,7 +110,7 @@ AtRest rules g turn =
     ((ending : Ending) × rules.Stands g (Over ending) × (turn ≡ stopped ending g))
     ⊎ (rules.Stands g LineDue × (turn ≡ told [] g))
 
--- the player is to move: he has no move, or he makes it
+-- it is the player's turn: he has no move, or he makes one
 abbrev pub AtMove : {G : Type 0} → Rules G → G → Turn G → Type 0
 AtMove {G} rules g turn =
     (rules.Picks g None × (turn ≡ stopped Wide g))
@@ -119,33 +119,33 @@ AtMove {G} rules g turn =
     × AtRest rules (rules.moved g q) later
     × (turn ≡ moves_first rules choice.mv (rules.moved g q) later))
 
--- what comes of a game, however it stands
+-- the result of a game, whatever its state
 abbrev pub Comes : {G : Type 0} → Rules G → G → Turn G → Type 0
 Comes rules g turn = AtRest rules g turn ⊎ (rules.Stands g ToMove × AtMove rules g turn)
 
--- what comes of a move that is typed: it is not legal, and this is told, or it is made
+-- the result of a typed move: it is illegal, and this is reported, or it is made
 abbrev pub OfMove : {G : Type 0} → Rules G → G → Move → Turn G → Type 0
 OfMove rules g mv turn =
     (((q : Position) → Legal (rules.position g) mv.man (target mv) q → ⊥) × (turn ≡ told (codes "illegal\n") g))
     ⊎ ((q : Position) × Legal (rules.position g) mv.man (target mv) q × Comes rules (rules.moved g q) turn)
 
--- what comes of what is typed, where `None` is a line that can't be read
+-- the result of what was typed; `None` is a line that cannot be read
 abbrev pub OfTyped : {G : Type 0} → Rules G → G → Option Typed → Turn G → Type 0
 OfTyped rules g None turn = turn ≡ told (codes "unreadable\n") g
 OfTyped rules g (Some typed.Quit) turn = turn ≡ stopped Quit g
 OfTyped rules g (Some (typed.Move mv)) turn = OfMove rules g mv turn
 
--- the line is this reply, or, where there is none, no reply
+-- the line is this reply, or, for None, no reply
 abbrev pub IsTyped : List ℕ → Option Typed → Type 0
 IsTyped line (Some reply) = IsReply line reply
 IsTyped line None = (why : MoveWhy) × IsReplyRefusal line why
 
--- what comes of a line
+-- the result of a line
 abbrev pub OfLine : {G : Type 0} → Rules G → G → List ℕ → Turn G → Type 0
 OfLine rules g line turn = (reply : Option Typed) × IsTyped line reply × OfTyped rules g reply turn
 
--- A turn that may come is made: its text is written, the game is then as it says, and over so. Where the sink has
--- failed, a front of its text is written.
+-- A turn is made: its text is written, and the game and its end are as it says. If the sink fails, a prefix of its text
+-- is written.
 abbrev pub IsTurnMade :
     {G : Type 0} → (Turn G → Type 0) → Result (Option Ending) Failed → (after : G) → (old new : Option (List ℕ)) → Type 0
 IsTurnMade {G} May (Ok over) after old new =

@@ -1,6 +1,6 @@
-//! How a game ends.
+//! The endings of a game.
 
-/// How a game ends.
+/// How a game ended.
 #[derive(Clone, Copy, PartialEq, Eq)]
 pub enum Ending {
     /// The other side is mated.

@@ -1,6 +1,7 @@
-//! A game of two sides, of which a player makes the moves of the one, and lines of a source are the moves of the other. `specs/Turns` says what comes of a
-//! line, `specs/LineReport` what a run reports of all its lines, and `specs/Played` how a game that is played moves its ports. A player's rules are a
-//! value of `Rules`; the code plays whoever is a `Player`.
+//! Plays a game in which a player makes the moves of one side and lines of an input are the moves of the other.
+//!
+//! `specs/Turns` defines the result of a line, `specs/LineReport` the report of a whole game, and `specs/Played` what a
+//! game reads and writes. The rules of a player are a value of `Rules`; the code plays any implementation of `Player`.
 #![tactic(auto)]
 
 mod ending;

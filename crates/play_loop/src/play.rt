@@ -1,4 +1,4 @@
-//! A game of a player, and of lines.
+//! A game of a player against lines.
 ghost use Rattle.std.specs.Prelude.{◌≡◌, ◌≤◌, ◌<◌, ◌+◌, ◌^◌, IsErrOf, None, length};
 ghost use Rattle.desk_base.specs.Faults.{HasRisen};
 ghost use Rattle.play_loop.specs.LineReport.{most_lines};
@@ -9,7 +9,7 @@ use crate::player::Player;
 use crate::turn::{go_on, reply};
 use desk_base::{Line, LineError, LineReader, Sink, Source};
 
-/// Why a game does not come to its end.
+/// Why a game was not played to its end.
 #[derive(Clone, Copy, PartialEq, Eq)]
 pub enum GameError {
     /// The source has failed where a line was due.
@@ -21,8 +21,9 @@ pub enum GameError {
 /// The most lines that are read in a game.
 const MOST_LINES: u32 = 10_000;
 
-/// Plays a game to its end, however it stands, and writes what is reported of it, each line as soon as it is known. The line that tells of an ending
-/// apart from the text is not written. So many lines of the input stood before those of the game. It takes no memory but what the player takes.
+/// Plays a game to its end from its current state, and writes its report, each line as soon as it is known. The line
+/// for an ending that is not part of the text is not written. `before` is the number of lines of the input before those
+/// of the game. Only the player allocates.
 pub fn play_game<P: Player, S: Source, K: Sink>(
     player: &mut P,
     reader: &mut LineReader,

@@ -8,7 +8,7 @@ ghost use Rattle.play_loop.specs.Turns.{ArePlayable, IsMadeBy, Rules};
 use crate::ending::Ending;
 use chess_game::{Illegal, Move, Side};
 
-/// How a game stands.
+/// The state of a game: whose turn it is, or that it is over.
 #[derive(Clone, Copy, PartialEq, Eq)]
 pub enum GameState {
     /// It is over.
@@ -19,7 +19,7 @@ pub enum GameState {
     ToMove,
 }
 
-/// A side of a game that is played. The moves of the other side come as lines.
+/// A side of a game that is played by code. The moves of the other side come as lines.
 pub trait Player {
     /// What is reported of a game.
     ghost Seen: { Type 0 };

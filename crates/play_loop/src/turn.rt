@@ -1,4 +1,4 @@
-//! What comes of the start of a game, and of a line.
+//! The result of the start of a game, and of a line.
 ghost use Rattle.std.specs.Prelude.{◌≡◌, ◌≤◌, Some, IfOk, OnErr, OnOk, length};
 ghost use Rattle.std.specs.Io.KnownBytes.{Appends};
 ghost use Rattle.desk_base.specs.Faults.{HasRisen};
@@ -92,7 +92,7 @@ fn answer<P: Player, K: Sink>(player: &mut P, sink: &mut K) -> Result<Option<End
     rest(player, sink)
 }
 
-/// What comes of a game, however it stands.
+/// Continues a game from its current state.
 pub(crate) fn go_on<P: Player, K: Sink>(
     player: &mut P,
     sink: &mut K,
@@ -129,7 +129,7 @@ fn make<P: Player, K: Sink>(
     }
 }
 
-/// What comes of a line.
+/// Handles one line.
 pub(crate) fn reply<P: Player, K: Sink>(
     player: &mut P,
     line: &[u8],

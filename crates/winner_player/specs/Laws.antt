@@ -11,7 +11,7 @@ use Rattle.play_loop.specs.declared.ending.Ending.TheVariants.{Mated}
 use Rattle.winner_session.specs.Game.{Game, Plays, start_of}
 use Rattle.winner_player.specs.WinnerRules.{Match, first_seen, seen, winner_rules}
 
--- the games of a report are those that come of some moves that are typed
+-- the games of a report are those of a session with some given moves
 abbrev pub ReportIsPlayed : Type 0
 ReportIsPlayed =
     (before : ℕ) (lines : Lines) (s : Solution) (report : LineReport Match)
@@ -19,14 +19,14 @@ ReportIsPlayed =
     → (typed : List Move) × (games : List Game) × Plays (start_of s all_squares) typed games
     × (report.games ≡ map seen games)
 
--- a report that ends by mate ends with the loser mated
+-- in a report that ends by mate the loser is mated
 abbrev pub MatedIsMate : Type 0
 MatedIsMate =
     (before : ℕ) (lines : Lines) (g : Match) (report : LineReport Match) → IsReport winner_rules before lines g report
     → report.ending ≡ Mated
     → Mate report.last.position
 
--- after the k-th move of the winner, counted from 0, of a report of n, the loser is mated within n - (k + 1)
+-- in a report of n moves the loser is mated within n - (k + 1) after the winner's move number k, counted from 0
 abbrev pub ReportIsLost : Type 0
 ReportIsLost =
     (before : ℕ) (lines : Lines) (s : Solution) (report : LineReport Match) → IsValid s
@@ -35,7 +35,7 @@ ReportIsLost =
     → (k : ℕ) (after : Match) → slice_get report.games k ≡ Some after
     → (suc k ≤ s.moves) × Lost s.winner (s.moves - suc k) after.position
 
--- a report that ends otherwise than by mate has fewer of the winner's moves than were promised
+-- a report that does not end by mate has fewer moves of the winner than n
 abbrev pub MatedInTime : Type 0
 MatedInTime =
     (before : ℕ) (lines : Lines) (s : Solution) (report : LineReport Match) → IsValid s

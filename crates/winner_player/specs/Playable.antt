@@ -1,4 +1,5 @@
--- The games of sessions can be played by the winner's rules: what the law of a player asks, step by step. Definitions cite nothing of it.
+-- The games of sessions can be played by the winner's rules: the conditions of the law of a player, step by step. No
+-- definition cites this module.
 use Rattle.std.proofs.Common.{◌≡◌, ◌↔◌, inl, inr, ℕ, suc, Option, Some, refl, sym, ap, subst, ◌∙◌}
 use Rattle.game_rules.specs.Game.{Position, Legal, Mate, other}
 use Rattle.game_laws.proofs.DecideLemmas.{Decided}
@@ -21,7 +22,7 @@ use Rattle.play_loop.specs.declared.player.GameState.{GameState}
 use Rattle.play_loop.specs.declared.player.GameState.TheVariants.{Over, LineDue, ToMove}
 use Rattle.winner_player.specs.WinnerRules.{HeldPick, IsHeldBy, IsLosersTurn, IsOfSession, Match, StandsAs, moved, seen, strategy_by, winner_rules}
 
--- the winner's first move into what is held is the one that is told
+-- the winner's first move into held positions is the one in the report
 pick_by : (o : Origin) (s : Solution) (f : Frame) (p : Position) (ply : ℕ) (choice : Option Choice)
     → Pick (IsHeldOf o s (suc ply)) f p choice
     ↔ HeldPick (record { winner = s.winner; start = s.position; moves = s.moves; strategy = strategy_by o s; frame = f; position = p; ply = ply }) choice
@@ -42,7 +43,7 @@ one_standing g ToMove (Over b) h k = absurd (other_differs g.winner (sym h ∙ k
 one_standing g ToMove LineDue h k = absurd (other_differs g.winner (sym h ∙ k.0))
 one_standing g ToMove ToMove h k = refl
 
--- in the words of a session
+-- the same, for a session
 module _ (g : Game) (game : IsGame g) where
   losers_standing : g.position.turn ≡ other g.solution.winner → Decided (Mate g.position) → (standing : GameState) × StandsAs (seen g) standing
   losers_standing turn (inl mate) = (Over Mated, (refl, turn, mate))

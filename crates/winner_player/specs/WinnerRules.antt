@@ -1,4 +1,4 @@
--- The winner of a game, as a side that is played against lines.
+-- The winner of a game as a side that is played against lines.
 use Rattle.std.specs.Prelude.{◌≡◌, ℕ, suc, Option}
 use Rattle.game_rules.specs.Game.{Position, Mate, other}
 use Rattle.game_rules.specs.declared.men.Side.{Side}
@@ -18,13 +18,13 @@ use Rattle.play_loop.specs.declared.player.GameState.{GameState}
 use Rattle.play_loop.specs.declared.player.GameState.TheVariants.{Over, LineDue, ToMove}
 use Rattle.winner_session.specs.Game.{Game, IsGame, start_of}
 
--- by what a winner plays: what is kept of the positions that are reached from the start of the game, or what is claimed
+-- the strategy of the winner: the kept positions of the plan from the start of the game, or the claimed ones
 pub data Strategy : Type 0 where
   ByKept : Strategy
   ByClaim : Claim → Strategy
 
--- a game: which side is to mate, from which position and within how many moves of its own, by what it plays, to which
--- squares, and the position after so many moves of both sides
+-- a game: the winner, the starting position, the number of moves, the strategy, the frame of target squares, and the
+-- position after `ply` moves of both sides
 pub record Match : Type 0 where
   pub winner : Side
   pub start : Position
@@ -47,20 +47,20 @@ moved g q =
       ply = suc g.ply;
     }
 
--- the position is one of those that the winner's moves are to lead into at the ply: it is kept, or it is claimed
+-- the position is one that the winner's moves must reach at the ply: it is kept, or it is claimed
 abbrev pub IsHeldBy : Strategy → Match → ℕ → Position → Type 0
 IsHeldBy ByKept g ply q = Kept g.winner g.start g.moves ply q
 IsHeldBy (ByClaim c) g ply q = IsClaimed c ply q
 
--- the winner's first move, by man, ray and distance, to a square of the frame, that leads to such a position
+-- the winner's first move, by man, ray and distance, that goes to a square of the frame and leads to such a position
 abbrev pub HeldPick : Match → Option Choice → Type 0
 HeldPick g choice = Pick (IsHeldBy g.strategy g (suc g.ply)) g.frame g.position choice
 
--- the loser is to move
+-- it is the loser's turn
 abbrev pub IsLosersTurn : Match → Type 0
 IsLosersTurn g = g.position.turn ≡ other g.winner
 
--- how the game stands: the loser is to move and is mated, or not; or the winner is to move
+-- the state of the game: the loser's turn, mated or not, or the winner's turn
 abbrev pub StandsAs : Match → GameState → Type 0
 StandsAs g (Over ending) = (ending ≡ Mated) × IsLosersTurn g × Mate g.position
 StandsAs g LineDue = IsLosersTurn g × (Mate g.position → ⊥)
@@ -77,7 +77,7 @@ winner_rules =
       Picks = HeldPick;
     }
 
--- by what the winner plays who has these sets
+-- the strategy of the winner with these sets
 abbrev pub strategy_by : Origin → Solution → Strategy
 strategy_by Plan s = ByKept
 strategy_by Claimed s = ByClaim (claim_of s)
@@ -85,7 +85,7 @@ strategy_by Claimed s = ByClaim (claim_of s)
 abbrev pub strategy_of : Solution → Strategy
 strategy_of s = strategy_by s.origin s
 
--- what a report tells of the game of a session
+-- the game of a session, as a report has it
 abbrev pub seen : Game → Match
 seen g =
     record {
@@ -98,10 +98,10 @@ seen g =
       ply = g.ply;
     }
 
--- what it tells of a solved position from which nothing was moved yet
+-- the game of a solved position before the first move, as a report has it
 abbrev pub first_seen : Solution → Match
 first_seen s = seen (start_of s all_squares)
 
--- it is what is told of a game that a session keeps
+-- the game is that of a session
 abbrev pub IsOfSession : Match → Type 0
 IsOfSession m = (g : Game) × IsGame g × (seen g ≡ m)

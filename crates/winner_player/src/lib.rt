@@ -1,5 +1,6 @@
-//! The winner of a game as a player against lines, who plays by a session: `specs/WinnerRules` says by which rules, and `laws` what the winner's moves in a
-//! report come to.
+//! The winner of a game as a player against lines.
+//!
+//! He plays by a session. `specs/WinnerRules` has his rules, and `laws` states what his moves in a report achieve.
 #![tactic(auto)]
 
 pub mod laws;

@@ -1,4 +1,4 @@
-//! The winner of a game, as a player.
+//! The winner of a game as a player.
 ghost use Rattle.std.specs.Prelude.{◌≡◌};
 ghost use Rattle.winner_player.specs.WinnerRules.{seen};
 
@@ -22,6 +22,7 @@ impl Model for Winner {
 }
 
 impl Winner {
+    /// Creates the player of a session.
     pub fn new(session: Session) -> Self
         ensures { result ≡ seen session }
     {

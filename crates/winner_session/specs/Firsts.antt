@@ -1,4 +1,4 @@
--- The winner's first moves along a ray, from which he mates in time.
+-- The winner's first moves along a ray after which he mates in time.
 use Rattle.std.specs.Prelude.{◌≡◌, ◌≢◌, ℕ, ◌-◌, Some}
 use Rattle.auto_search.specs.Fews.{HasFew}
 use Rattle.auto_search.specs.declared.few.Few.TheVariants.{Zero}
@@ -11,21 +11,21 @@ use Rattle.chess_game.specs.declared.way.Frame.{Frame}
 use Rattle.move_choice.specs.Along.{IsLeastOrNone, LeadsAnywhere, LeadsInside}
 use Rattle.winner_session.specs.declared.first_line.FirstLine.{FirstLine}
 
--- the distances at which the man's move along the ray of this number is legal, and after which the loser, who is then
--- to move, is mated within n - 1 moves of the winner, whatever he plays
+-- the distances at which the man's move along the ray of this number is legal and after which the loser, whose turn it
+-- is, is mated within n - 1 moves of the winner, whatever he plays
 abbrev pub Firsts : Side → ℕ → Position → ℕ → ℕ → ℕ → Type 0
 Firsts winner n p man ray distance = LeadsAnywhere (Lost winner (n - 1)) p man ray distance
 
--- there are none
+-- there is no such distance
 abbrev pub NoFirsts : Side → ℕ → Position → ℕ → ℕ → Type 0
 NoFirsts winner n p man ray = (distance : ℕ) → Firsts winner n p man ray distance → ⊥
 
--- those of them whose square lies in the frame
+-- such distances to a square of the frame
 abbrev pub FirstsInside : Frame → Side → ℕ → Position → ℕ → ℕ → ℕ → Type 0
 FirstsInside frame winner n p man ray distance = LeadsInside frame (Lost winner (n - 1)) p man ray distance
 
--- the line tells of the man, of the step of his ray, of how many such distances there are on the board, one at least,
--- and of the least of those whose square lies in the frame, or that there is none
+-- the line has the man, the step of his ray, the number of such distances on the board, at least one, and the least of
+-- those to a square of the frame, or that there is none
 pub record IsFirstLine (frame : Frame) (winner : Side) (n : ℕ) (p : Position) (man ray : ℕ) (line : FirstLine) : Type
     0 where
   pub him : Man

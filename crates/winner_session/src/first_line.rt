@@ -11,8 +11,8 @@ use mask_sets::MaskSets;
 use move_choice::{Aim, AimedRay, his_ray, moves_along};
 use winning_sets::Solved;
 
-/// The first moves of a man along a ray that keep the promised count: the man, the step of the ray, the least distance among those whose square lies
-/// in the frame, and how many there are on the whole board.
+/// The winning first moves of a man along a ray: the man, the step of the ray, the least distance of those to a square
+/// of the frame, and their number on the whole board.
 #[derive(Clone, Copy, PartialEq, Eq)]
 pub struct FirstLine {
     pub man: u8,
@@ -22,8 +22,8 @@ pub struct FirstLine {
     pub few: Few,
 }
 
-/// The winner's first moves along a ray that keep the promised count, captures included. It takes no memory: the search has room for each of the
-/// kept sets.
+/// Returns the winner's first moves along a ray after which he still mates in time; captures are included. Returns
+/// `None` if there is none. Allocates nothing: the search has room for each of the kept sets.
 pub fn first_moves(
     solved: &Solved,
     search: &mut Search,

@@ -1,5 +1,7 @@
-//! A game that the winner plays: his moves lead into the sets of a solved position, those of a plan or those of a claim that is won, and the other
-//! side's are typed. `specs/Game` says what a session keeps, which move is the winner's, and what comes of any list of replies.
+//! A game in which the winner's moves come from the sets of a solved position and the loser's are given.
+//!
+//! The sets are those of a plan or of a won claim. `specs/Game` defines the state of a session, the winner's move, and
+//! the result of any list of replies.
 #![tactic(auto)]
 
 mod first_line;

@@ -13,7 +13,7 @@ use std::alloc::Global;
 use std::marker::Model;
 use winning_sets::Solved;
 
-/// A move that was made, the number of the ray that it went along, how far it went in steps of the ray, and whether it mates.
+/// A move that was made, the number of its ray, its distance in steps of the ray, and whether it mates.
 #[derive(Clone, Copy, PartialEq, Eq)]
 pub struct Played {
     pub mv: Move,
@@ -48,7 +48,8 @@ impl Model for Session {
 }
 
 impl Session {
-    /// Takes all memory of the game. Where there is not enough, the solved position is handed back.
+    /// Starts a game and allocates all its memory. If an allocation fails, the solved position is returned as the
+    /// error.
     pub fn begin(alloc: Global, solved: Solved, frame: Frame) -> Result<Session, Solved>
         requires { Value solved.winner solved.moves solved.position }
         ensures ok { IfOk result (λ s. s ≡ start_of solved frame) }
@@ -70,7 +71,7 @@ impl Session {
         }
     }
 
-    /// The position after the moves that were made.
+    /// Returns the current position.
     pub fn position(&self) -> Position
         ensures position { result ≡ self.now.position }
         ensures game { IsGame self.now }
@@ -78,21 +79,21 @@ impl Session {
         self.position
     }
 
-    /// The side that is to mate.
+    /// Returns the winner, the side that mates.
     pub fn winner(&self) -> Side
         ensures { result ≡ self.now.solution.winner }
     {
         self.solved.winner()
     }
 
-    /// How many moves the winner has left.
+    /// Returns the number of moves that the winner has left.
     pub fn moves_left(&self) -> u8
         ensures { result + made_in self.now ≡ self.now.solution.moves }
     {
         (self.solved.last_ply() - self.ply) / 2
     }
 
-    /// Whether the side to move is mated. It is then the loser's turn.
+    /// Returns whether the side to move is mated. It is then the loser's turn.
     pub fn over(&self) -> bool
         ensures { IsTrue result ↔ Mate self.now.position }
     {
@@ -134,8 +135,9 @@ impl Session {
         }
     }
 
-    /// The winner makes his first move, by man, ray and distance, to a square of the frame that leads into the sets of the next ply, captures included.
-    /// After it he still mates within the moves that he has left. It takes no memory.
+    /// Makes the winner's first move, by man, ray and distance, that goes to a square of the frame and leads into the
+    /// sets of the next ply; captures are included. The winner then still mates within the moves left. The error is
+    /// that there is no such move in the frame. Allocates nothing.
     pub fn win_move(&mut self) -> Result<Played, TooWide>
         requires turn { self.old.position.turn ≡ self.old.solution.winner }
         ensures picked { IfOk result (λ played. IsPicked self.old (choice_of played) self.new) }
@@ -159,7 +161,8 @@ impl Session {
         }
     }
 
-    /// The other side's move is made, if it is legal. Where that side is mated, none is. It takes no memory.
+    /// Makes the loser's move. The error is the first reason why it is not legal; once he is mated no move is legal.
+    /// Allocates nothing.
     pub fn other_move(&mut self, mv: Move) -> Result<(), Illegal>
         requires turn { self.old.position.turn ≡ other self.old.solution.winner }
         ensures legal { OnOk result (Legal self.old.position mv.man (target mv) self.new.position) }
