@@ -1,4 +1,4 @@
--- What is reported of a crowd, and how `crowd` ends.
+-- The report of `crowd`, and how it ends.
 use Rattle.std.specs.Prelude.{◌≡◌, ℕ, ◌+◌, List, [], ◌++◌, length, Bool, Option, codes}
 use Rattle.std.specs.Fmt.{decimal}
 use Rattle.chess_text.specs.Grammar.{crowds}
@@ -24,29 +24,29 @@ use Rattle.desk_report.specs.declared.status.Status.{Status}
 use Rattle.desk_report.specs.declared.status.Status.TheVariants as is
 use Rattle.desk_verdict.specs.Verdict.{IsVerdict}
 
--- a crowd's text says a problem, of up to 32 men
+-- crowd texts state problems of up to 32 men
 abbrev pub crowd_texts : Reading Problem
 crowd_texts = record { grammar = crowds; says = problem_of }
 
--- the problem of a crowd, as its text says it
+-- the problem that the text of a crowd states
 abbrev pub problem_in : Crowd → Problem
 problem_in c = record { position = position_of c; winner = c.winner; lines = length c.men.now + 3 }
 
--- the crowd is what the text says
+-- the crowd is that of the text's contents
 pub record IsCrowdOf (d : Draft) (c : Crowd) : Type 0 where
   pub men : c.men.now ≡ d.men
   pub turn : c.turn ≡ d.turn
   pub winner : c.winner ≡ d.winner
 
--- the fault line of the step of this number, which is the first of the crowd's plan that exceeds the budget
+-- the fault line of the step of this number, the first one that exceeds the budget
 abbrev pub step_line : (step : ℕ) → List ℕ
 step_line step = codes "over budget at crowd " ++ decimal step ++ codes "\n"
 
--- no step of the plan by which the crowd's winner is to mate within n moves exceeds the budget
+-- no step of the plan of a mate within n moves exceeds the budget
 abbrev pub FitsPlan : Problem → (budget n : ℕ) → Type 0
 FitsPlan problem budget n = (verdict : Option Bool) × Ends (plan problem.position problem.winner n) budget verdict
 
--- the step of this number is the first of that plan that exceeds the budget
+-- the step of this number is the first one of that plan that exceeds the budget
 abbrev pub ExceedsPlan : Problem → (budget n : ℕ) → (step : ℕ) → Type 0
 ExceedsPlan problem budget n step =
     Stops (plan problem.position problem.winner n) budget (record { part = tt; at = step })
@@ -59,31 +59,31 @@ CrowdReports n budget problem files =
     FitsPlan problem budget n
     × ((line : List ℕ) × IsVerdict n problem line × (report ≡ done_with files line))) files
 
--- the report on the crowd's text that the lines begin with
+-- the report of the crowd text at the front of the lines
 abbrev pub CrowdSays : (n budget : ℕ) → Lines → Files → Report → Type 0
 CrowdSays n budget lines files =
     OfLines crowd_texts (λ problem rest. CrowdReports n budget problem files) files lines
 
--- memory may be wanting after the text of a sound crowd was taken
+-- memory may run out after the text of a sound crowd has been taken
 abbrev pub IsBehindCrowd : (taken : List ℕ) → Type 0
 IsBehindCrowd taken = IsBehindTextOf crowd_texts (λ problem. Unit {0}) taken
 
--- the status where there is no text
+-- the status if there is no text
 abbrev pub status_of : TextEnd → Status
 status_of Fault = is.ReadFault
 status_of (Refused number why) = is.Text
 
--- and the fault line
+-- the fault line if there is no text
 abbrev pub end_line : TextEnd → List ℕ
 end_line Fault = codes "read fault\n"
 end_line (Refused number why) = refusal_line number why
 
--- how `crowd` ends, of whose input nothing was taken before; what is held in the end is `pending`
+-- how `crowd` ends; nothing of its input was taken before, and at the end it holds `pending`
 abbrev pub CrowdEnds : (n budget : ℕ) → Files → Status → (pending : List ℕ) → Seen → Seen → Type 0
 CrowdEnds n budget files status pending old new =
     EndsByLines (λ lines. CrowdSays n budget lines files) IsBehindCrowd (λ bytes. NeverMisses) status [] pending old new
 
--- how it ends on a source and a sink that it is lent, whatever files there are
+-- how it ends with a source and a sink, for any files
 abbrev pub CrowdEndsOn : {S K : Type 0} → SourceModel S → SinkModel K → (n budget : ℕ) → Status
     → (ports : Lent S × Lent K) → Type 0
 CrowdEndsOn s k n budget status ports =

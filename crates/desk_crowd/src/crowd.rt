@@ -23,7 +23,7 @@ use limits::Budget;
 use line_engine::{Crowd, CrowdError, MOST_CROWD_MOVES, decide_crowd};
 use std::alloc::Global;
 
-/// Writes whether the winner of the crowd whose text is at the front of the source mates within so many moves of his own.
+/// Reads the crowd text at the front of the source, and writes whether its winner mates within `moves` moves.
 pub fn crowd<S: Source, K: Sink>(
     alloc: Global,
     moves: u8,

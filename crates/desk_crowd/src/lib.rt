@@ -1,4 +1,6 @@
-//! The command that answers of a crowd, of up to 32 men: whether its winner mates. `specs/Crowd` says what is reported of it.
+//! The command `crowd`: whether the winner of a position of up to 32 men mates.
+//!
+//! `specs/Crowd` defines what is reported of it.
 #![tactic(auto)]
 
 pub mod crowd;

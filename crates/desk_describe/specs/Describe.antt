@@ -1,4 +1,4 @@
--- What is reported of `describe`.
+-- The report of `describe`.
 use Rattle.std.specs.Prelude.{◌≡◌, ◌⊎◌, ℕ, zero, suc, List, [], ◌++◌, length, Result, Ok, Err, codes}
 use Rattle.auto_core.specs.Automaton.{Automaton}
 use Rattle.auto_numbers.specs.Numbers.{Has}
@@ -23,8 +23,8 @@ use Rattle.desk_describe.specs.declared.ray_step.RayPart.{RayPart}
 use Rattle.desk_describe.specs.declared.ray_step.RayPart.TheVariants.{Line, Period}
 use Rattle.desk_describe.specs.declared.ray_step.RayStep.{RayStep}
 
--- An automaton whose set is the distances of the winner's first moves along a ray, and no step of the formula of these
--- distances exceeds the budget. What is told of it depends on the distances alone.
+-- An automaton of the distances of the winner's first moves along a ray, and no step of the formula of these distances
+-- exceeds the budget. The description depends on the distances alone.
 pub record IsSetWithin (budget : ℕ) (winner : Side) (n : ℕ) (p : Position) (man ray : ℕ) (a : Automaton) : Type 0 where
   pub firsts : IsFirstSet winner n p man ray a
   pub within : RayStaysWithin winner n p man ray budget
@@ -34,8 +34,8 @@ abbrev pub IsDescribed : (budget : ℕ) → Side → ℕ → Position → (man r
 IsDescribed budget winner n p man ray description =
     (a : Automaton) × IsSetWithin budget winner n p man ray a × IsDescription a budget description
 
--- the step of this number is the first that exceeds the budget: of the formula of these distances, or, where none does
--- of that one, of the formulas by which periods are tried
+-- the step of this number is the first one that exceeds the budget, in the formula of these distances, or, if none does
+-- there, in the formulas by which periods are tried
 abbrev pub IsFirstOver : (budget : ℕ) → Side → ℕ → Position → (man ray : ℕ) → RayPart → (at : ℕ) → Type 0
 IsFirstOver budget winner n p man ray Line at = IsRayError winner n p man ray budget (compile_error.Over at)
 IsFirstOver budget winner n p man ray Period at =
@@ -54,12 +54,12 @@ IsRayLine budget winner n p man ray text =
     × IsDescribed budget winner n p man ray description
     × (text ≡ ray_line man step description)
 
--- a text, or the step that exceeds the budget before it is known
+-- a text, or the step that exceeds the budget before the text is known
 abbrev pub Told : Type 0
 Told = Result (List ℕ) RayStep
 
--- what is told of a ray: nothing where the man has no first move along it, and else its line, or the step at which its
--- description stops
+-- the result for a ray: an empty text if the man has no first move along it; otherwise its line, or the step at which
+-- its description stops
 abbrev pub RayTells : (budget : ℕ) → Side → ℕ → Position → (man ray : ℕ) → Told → Type 0
 RayTells budget winner n p man ray (Ok text) =
     (NoFirsts winner n p man ray × (text ≡ []))
@@ -67,7 +67,7 @@ RayTells budget winner n p man ray (Ok text) =
 RayTells budget winner n p man ray (Err step) =
     (¬ NoFirsts winner n p man ray) × StopsAt budget winner n p man ray step
 
--- what is told of the first so many, one after another: their texts, or the first step at which one of them stops
+-- the results of the first n, in order: their texts, or the first step at which one of them stops
 unfoldable pub AllTell : (ℕ → Told → Type 0) → ℕ → Told → Type 0
 AllTell Of zero (Ok text) = text ≡ []
 AllTell Of zero (Err step) = ⊥
@@ -76,11 +76,11 @@ AllTell Of (suc k) (Ok text) =
 AllTell Of (suc k) (Err step) =
     AllTell Of k (Err step) ⊎ ((front : List ℕ) × AllTell Of k (Ok front) × Of k (Err step))
 
--- what is told of a man, by ray, of as many as a kind has at most
+-- the result for a man: those of his rays, up to the greatest number of rays of a kind
 abbrev pub ManTells : (budget : ℕ) → Side → ℕ → Position → (man : ℕ) → Told → Type 0
 ManTells budget winner n p man = AllTell (RayTells budget winner n p man) MOST_RAYS
 
--- what is told of all men
+-- the result for all men
 abbrev pub MenTell : (budget : ℕ) → Side → ℕ → Position → Told → Type 0
 MenTell budget winner n p = AllTell (λ before. ManTells budget winner n p (suc before)) (length p.men)
 
@@ -89,14 +89,14 @@ abbrev pub AreRayLines : (budget : ℕ) → Side → ℕ → Position → List �
 AreRayLines budget winner n p told =
     (text : List ℕ) × MenTell budget winner n p (Ok text) × (told ≡ text ++ codes "end\n")
 
--- these, or the first step that exceeds the budget: of the plan, or else of the rays
+-- these lines, or the first step that exceeds the budget, of the plan or, if none does there, of the rays
 abbrev pub RaysReport : ℕ → ℕ → Problem → Files → Report → Type 0
 RaysReport n budget problem files =
     WithinBudget n budget problem
     (FirstOver ray_step_line (λ step. MenTell budget problem.winner n problem.position (Err step))
     (λ report. (told : List ℕ) × AreRayLines budget problem.winner n problem.position told × (report ≡ done_with files told)) files) files
 
--- the last line alone where the winner has no first move, and else what is reported of his rays
+-- the last line alone if the winner has no first move, and the report of his rays otherwise
 abbrev pub DescribeReports : ℕ → ℕ → Problem → Files → Report → Type 0
 DescribeReports n budget problem files report =
     (HasNoFirstMove n problem × (report ≡ done_with files (codes "end\n")))

@@ -1,4 +1,4 @@
--- What is told of a set of distances.
+-- The description of a set of distances.
 use Rattle.std.specs.Prelude.{◌≡◌, ℕ, ◌==◌, List, [], ◌∷◌, ◌++◌, codes}
 use Rattle.std.specs.Fmt.{decimal, signed_decimal}
 use Rattle.std.specs.Int.{bit_at}
@@ -14,15 +14,15 @@ use Rattle.period_sets.specs.declared.periodic.Run.{Run}
 use Rattle.desk_describe.specs.declared.description.Description.{Description}
 use Rattle.desk_describe.specs.declared.description.Description.TheVariants as tells
 
--- the numbers of the automaton's set from 1 on: where they run, from where on and by which period they repeat; or why
--- this is not told. No step by which periods are tried exceeds the budget
+-- the numbers of the automaton's set from 1 on: their runs, from where on they are periodic, and the period; or why
+-- this is not determined. No step by which periods are tried exceeds the budget
 abbrev pub IsDescription : Automaton → ℕ → Description → Type 0
 IsDescription a budget (tells.Repeats p) = IsPeriodic (Has a) p × StaysWithin a budget p.period
 IsDescription a budget tells.NoPeriod = HasNoPeriod (Has a) a budget
 IsDescription a budget tells.Far = IsTooFar (Has a) a budget
 IsDescription a budget tells.Many = HasTooMany (Has a) a budget
 
--- texts parted by commas, or that there is none
+-- texts separated by commas, or that there is none
 abbrev pub listed : {A : Type 0} → (A → List ℕ) → List A → List ℕ
 listed text [] = codes "none"
 listed text (x ∷ xs) = join_by text (codes ",") (x ∷ xs)
@@ -31,17 +31,17 @@ listed text (x ∷ xs) = join_by text (codes ",") (x ∷ xs)
 abbrev pub run_text : Run → List ℕ
 run_text run = decimal run.low ++ codes "-" ++ decimal run.high
 
--- the rests whose bits are set
+-- the rests (residues) whose bits are set
 abbrev pub rests_in : (rests period : ℕ) → List ℕ
 rests_in rests period = filter (λ rest. bit_at rests rest == 1) (range_with_len 0 period)
 
--- the runs, from where on the set repeats, its period, and which rests are in it
+-- the runs, from where on the set is periodic, its period, and the rests (residues) in it
 abbrev pub periodic_text : Periodic → List ℕ
 periodic_text p =
     codes "runs " ++ listed run_text p.runs.items ++ codes " from " ++ decimal p.from ++ codes " every "
     ++ decimal p.period ++ codes " rests " ++ listed decimal (rests_in p.rests p.period)
 
--- what is told of a description
+-- the text of a description
 abbrev pub description_text : Description → List ℕ
 description_text (tells.Repeats p) = periodic_text p
 description_text tells.NoPeriod = codes "no period up to 60"

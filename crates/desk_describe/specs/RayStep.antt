@@ -10,7 +10,7 @@ use Rattle.desk_describe.specs.declared.ray_step.RayPart.{RayPart}
 use Rattle.desk_describe.specs.declared.ray_step.RayPart.TheVariants.{Line, Period}
 use Rattle.desk_describe.specs.declared.ray_step.RayStep.{RayStep}
 
--- the word for what a step is for
+-- the word for the purpose of a step
 abbrev pub part_word : RayPart → List ℕ
 part_word Line = codes "line"
 part_word Period = codes "period"
@@ -21,12 +21,12 @@ ray_step_line step =
     codes "over budget at describe man " ++ decimal step.man ++ codes " ray " ++ decimal step.ray ++ codes " "
     ++ part_word step.part ++ codes " " ++ decimal step.at ++ codes "\n"
 
--- the run names the step that exceeds the budget, where that is the error
+-- if the error is a step that exceeds the budget, the run names it
 abbrev pub NamesRayStep : DescribeError → Files → Report → Type 0
 NamesRayStep error files report =
     (step : RayStep) × (error ≡ Over step) × (report ≡ refusal_as files is.Budget (ray_step_line step) false)
 
--- where a step exceeds the budget, this holds of it; want of memory aside
+-- if a step exceeds the budget, this is true of it; running out of memory aside
 abbrev pub StopsWith : (RayStep → Type 0) → DescribeError → Type 0
 StopsWith Holds (Over step) = Holds step
 StopsWith Holds Memory = Unit {0}

@@ -22,8 +22,8 @@ use move_choice::{has_ray, his_ray};
 use std::alloc::Global;
 use winner_session::first_moves;
 
-/// Writes for each man and ray along which the winner has a first move, by which he mates within so many moves of his own, at which distances he has
-/// one, and a last line. All of it is known before the first byte is written.
+/// Writes, for each man and ray along which the winner has a first move of a mate in time, at which distances he has
+/// one, and a last line. The whole text is computed before the first byte is written.
 pub fn describe<K: Sink>(alloc: Global, task: &Task, sink: &mut K) -> Status
     requires { IsTask task.now }
     ensures ends { EndsOnSink K.Sink result (OfTask DescribeReports task.now) (MayMoveFirst task.now) sink.old sink.new }

@@ -1,4 +1,4 @@
-//! What is told of the distances of a ray.
+//! The description of the distances of a ray.
 
 ghost use Rattle.std.specs.Prelude.{◌≡◌, ◌≤◌, IfErr, IfOk};
 ghost use Rattle.move_choice.specs.Aims.{HasRay};
@@ -15,7 +15,7 @@ use period_sets::{PeriodError, Periodic, describe_set};
 use std::alloc::Global;
 use winning_sets::Solved;
 
-/// What is told of a set of distances.
+/// The description of a set of distances.
 #[derive(Drop)]
 pub enum Description {
     /// From which number on it repeats, and what is in it.
@@ -36,7 +36,7 @@ pub struct Rays<'a> {
     pub budget: Budget,
 }
 
-/// The description of the distances of the winner's first moves along a ray.
+/// Computes the description of the distances of the winner's first moves along a ray.
 pub fn described(of: &Rays, man: u8, ray: u8) -> Result<Description, DescribeError>
     requires plan { of.now.solved.now.origin ≡ Plan }
     requires turn { of.now.solved.now.position.turn ≡ of.now.solved.now.winner }

@@ -1,5 +1,7 @@
-//! The command that describes the distances of the winner's first moves, ray by ray: all of them, on the whole board. `specs/Describe` says what is
-//! reported, `specs/Description` what is told of a ray, `specs/RayStep` how a step is named that exceeds the budget.
+//! The command `describe`: all distances of the winner's first moves, ray by ray, on the whole board.
+//!
+//! `specs/Describe` defines the report, `specs/Description` the text for a set of distances, and `specs/RayStep` how a
+//! step that exceeds the budget is named.
 #![tactic(auto)]
 
 pub mod describe;

@@ -1,4 +1,4 @@
-//! Texts one after another, parted by commas.
+//! Texts separated by commas.
 
 ghost use Rattle.std.specs.Prelude.{◌≡◌, ◌++◌, IfOk, OnOk};
 ghost use Rattle.std.specs.Fmt.{decimal};
@@ -10,7 +10,7 @@ use desk_report::push_large;
 use period_sets::Run;
 use std::alloc::{AllocError, Global};
 
-/// Adds the runs, or that there is none.
+/// Appends the runs, or that there is none.
 pub fn push_runs(text: &mut Vec<u8>, runs: &[Run]) -> Result<(), AllocError>
     ensures { OnOk result (text.new.items ≡ text.old.items ++ listed specs.run_text runs.now) }
 {
@@ -38,7 +38,7 @@ fn push_run(text: &mut Vec<u8>, run: Run) -> Result<(), AllocError>
     text.extend_from_slice(piece.as_slice())
 }
 
-/// Adds the rests below the number whose bits are set, or that there is none.
+/// Appends the rests (residues) below the period whose bits are set, or that there is none.
 pub fn push_rests(
     alloc: Global,
     text: &mut Vec<u8>,

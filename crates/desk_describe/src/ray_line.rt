@@ -1,4 +1,4 @@
-//! The line that describes a ray.
+//! The line of a ray.
 
 ghost use Rattle.std.specs.Prelude.{◌≡◌, ◌≤◌, ◌++◌, OnOk, codes};
 ghost use Rattle.std.specs.Fmt.{decimal, signed_decimal};
@@ -12,7 +12,7 @@ use desk_report::push_large;
 use period_sets::Periodic;
 use std::alloc::{AllocError, Global};
 
-/// Adds the line of a man's ray.
+/// Appends the line of a man's ray.
 pub fn push_ray_line(
     alloc: Global,
     text: &mut Vec<u8>,

@@ -11,7 +11,7 @@ use desk_base::Sink;
 use desk_report::{Status, refuse};
 use std::alloc::AllocError;
 
-/// What a step is for.
+/// The purpose of a step.
 #[derive(Clone, Copy)]
 pub enum RayPart {
     /// The formula of the ray's distances.
@@ -20,7 +20,8 @@ pub enum RayPart {
     Period,
 }
 
-/// A step of the description of a ray: its man, the ray's number among his, counted from 0, what the step is for, and its number there, counted from 1.
+/// A step of the description of a ray: the man, the number of the ray, counted from 0, the purpose of the step, and its
+/// number, counted from 1.
 #[derive(Clone, Copy)]
 pub struct RayStep {
     pub man: u8,
@@ -46,7 +47,7 @@ impl From<AllocError> for DescribeError {
     }
 }
 
-/// Writes why rays are not described.
+/// Writes why rays are not described, and returns the status.
 pub fn print_stop<K: Sink>(sink: &mut K, error: DescribeError) -> Status
     ensures ends { EndsOnSink K.Sink result (NamesRayStep error) (error ≡ DescribeError.Memory) sink.old sink.new }
 {

@@ -1,4 +1,5 @@
--- What comes of the file of a name: a claim that is kept within a budget, or the first reason why there is none.
+-- The result of reading the file of a name: a claim that was checked within a budget, or the first reason why there is
+-- none.
 use Rattle.std.specs.Prelude.{◌≡◌, ◌⊎◌, ℕ, ◌<◌, ◌≤◌, List, [], Option, Some, None, Result, Ok, Err, IfSome, Vec, length, codes}
 use Rattle.std.specs.FinMap as map
 use Rattle.std.specs.declared.alloc.Global.{Global}
@@ -28,52 +29,52 @@ use Rattle.desk_files.specs.declared.file_claim.NoClaim.TheVariants.{Fault, Miss
 use Rattle.desk_report.specs.declared.status.Status.{Status}
 use Rattle.desk_report.specs.declared.status.Status.TheVariants as is
 
--- of what bytes are the file of: the reason why they are none, or what is reported of the claim
+-- the report of the contents of a file: why the bytes are not a file, or the report of their claim
 abbrev pub OfOutcome : (Claim → Report → Type 0) → Files → Result Charts Refusal → Report → Type 0
 OfOutcome reports files (Err refusal) report = report ≡ file_refused files (file_line refusal)
 OfOutcome reports files (Ok charts) report = reports (claim_with charts) report
 
--- of the bytes of a file: they are more than a file may have, or else what is reported of what they are the file of
+-- the report of the bytes of a file: they are too many, or the report of their contents
 abbrev pub OfBytes : (Claim → Report → Type 0) → Files → List ℕ → Report → Type 0
 OfBytes reports files bytes report =
     ((most_bytes < length bytes) × (report ≡ file_refused files (codes "file too long\n")))
     ⊎ ((length bytes ≤ most_bytes)
     × ((outcome : Result Charts Refusal) × File bytes outcome × OfOutcome reports files outcome report))
 
--- of a file: there is none, or else what is reported of its bytes
+-- the report of a file: there is none, or the report of its bytes
 abbrev pub OfFound : (Claim → Report → Type 0) → Files → Option (List ℕ) → Report → Type 0
 OfFound reports files None report = report ≡ file_refused files (codes "file missing\n")
 OfFound reports files (Some bytes) report = OfBytes reports files bytes report
 
--- of the file of a name
+-- the report of the file of a name
 abbrev pub OfFile : (Claim → Report → Type 0) → (name : List ℕ) → Files → Report → Type 0
 OfFile reports name files report = OfFound reports files (map.get files name) report
 
--- of a claim that is checked: the first rule that it does not keep, or what `reports` says
+-- the report of a claim that is checked: the first rule that fails, or what `reports` says
 abbrev pub OfRules : (Claim → Report → Type 0) → (budget : ℕ) → Files → Claim → Report → Type 0
 OfRules reports budget files c report =
     ((failed : RuleAt) × plan.Ends (check_plan c) budget (Some failed)
     × (report ≡ file_refused files (not_kept_line failed)))
     ⊎ (plan.Ends (check_plan c) budget None × reports c report)
 
--- this, or the first step of the plan that checks the claim that exceeds the budget
+-- this, or the first step that exceeds the budget in the plan that checks the claim
 abbrev pub OfClaim : (Claim → Report → Type 0) → (budget : ℕ) → Files → Claim → Report → Type 0
 OfClaim reports budget files c =
     FirstOver budget_line (λ step. IsSolveError (check_plan c) c.moves budget (solve_error.Over step))
     (OfRules reports budget files c) files
 
--- of the file of a name whose claim is checked
+-- the report of the file of a name whose claim is checked
 abbrev pub OfChecked : (Claim → Report → Type 0) → (budget : ℕ) → (name : List ℕ) → Files → Report → Type 0
 OfChecked reports budget name files = OfFile (OfClaim reports budget files) name files
 
--- the file of this name is no longer than a file may be, and this comes of its bytes
+-- the file of this name is not too long, and its bytes have this outcome
 pub record IsReadAs (name : List ℕ) (files : Files) (outcome : Result Charts Refusal) : Type 0 where
   pub bytes : List ℕ
   pub found : map.get files name ≡ Some bytes
   pub short : length bytes ≤ most_bytes
   pub file : File bytes outcome
 
--- the solution has the sets of the claim of the file, which keeps all rules, and no step that checks it exceeds the
+-- the solution has the sets of the file's claim, all rules are true of it, and no step that checks it exceeds the
 -- budget
 pub record HasFileClaim (budget : ℕ) (name : List ℕ) (files : Files) (s : Solution) : Type 0 where
   pub charts : Charts
@@ -83,7 +84,7 @@ pub record HasFileClaim (budget : ℕ) (name : List ℕ) (files : Files) (s : So
   pub origin : s.origin ≡ origin.Claim
   pub same : IsSameClaim (claim_with charts) (claim_of s)
 
--- why the file of the name gives no claim that is not checked, by the files
+-- why the file of the name gives no unchecked claim, given the files
 abbrev pub LacksFile : (name : List ℕ) → Files → NoClaim → Type 0
 LacksFile name files Fault = Unit {0}
 LacksFile name files Memory = Unit {0}
@@ -100,7 +101,7 @@ abbrev pub ReadsFile : (name : List ℕ) → Files → Result ClaimHere NoClaim 
 ReadsFile name files (Ok c) = IsReadAs name files (Ok (charts_of (file_claim c))) × HasFileOf (file_claim c)
 ReadsFile name files (Err why) = LacksFile name files why
 
--- why it gives none that is checked
+-- why the file of the name gives no checked claim
 abbrev pub LacksClaim : (budget : ℕ) → (name : List ℕ) → Files → NoClaim → Type 0
 LacksClaim budget name files (NotKept failed) =
     (charts : Charts) × IsReadAs name files (Ok charts)
@@ -119,7 +120,7 @@ IsFetched name files (Err TooLong) = (bytes : List ℕ) × (map.get files name �
 IsFetched name files (Err Memory) = Unit {0}
 IsFetched name files (Err _) = ⊥
 
--- the claim that the bytes are the file of, or why they are none
+-- the claim of the bytes, or why there is none
 abbrev pub TellsRead : List ℕ → Result ClaimHere NoClaim → Type 0
 TellsRead bytes (Ok c) = File bytes (Ok (charts_of (file_claim c))) × HasFileOf (file_claim c)
 TellsRead bytes (Err (Cut at)) = File bytes (Err (layout.Cut at))
@@ -128,7 +129,7 @@ TellsRead bytes (Err (Extra at)) = File bytes (Err (layout.Extra at))
 TellsRead bytes (Err Memory) = Unit {0}
 TellsRead bytes (Err _) = ⊥
 
--- a solution that has the sets of the claim, which keeps all rules, or why there is none
+-- a solution with the sets of the claim, if all rules are true of it, or why there is none
 abbrev pub TellsChecked : Claim → (budget : ℕ) → Result Solution NoClaim → Type 0
 TellsChecked c budget (Ok s) = IsChecked c s × plan.Ends (check_plan c) budget None
 TellsChecked c budget (Err (NotKept failed)) = plan.Ends (check_plan c) budget (Some failed)
@@ -136,16 +137,16 @@ TellsChecked c budget (Err (Over step)) = IsSolveError (check_plan c) c.moves bu
 TellsChecked c budget (Err Memory) = Unit {0}
 TellsChecked c budget (Err _) = ⊥
 
--- what the file of the name gives
+-- the checked claim of the file of the name, or why there is none
 abbrev pub Fetches : (budget : ℕ) → (name : List ℕ) → Files → Result Solution NoClaim → Type 0
 Fetches budget name files (Ok s) = HasFileClaim budget name files s
 Fetches budget name files (Err why) = LacksClaim budget name files why
 
--- for some files, which are those that a shelf tells, where it tells them
+-- for some files, which are the shelf's if it exposes them
 abbrev pub OnFiles : Option Files → (Files → Type 0) → Type 0
 OnFiles told Of = (files : Files) × IfSome told (λ known. known ≡ files) × Of files
 
--- the line that says why there is no claim
+-- the fault line that says why there is no claim
 abbrev pub no_claim_line : NoClaim → List ℕ
 no_claim_line Fault = codes "shelf fault\n"
 no_claim_line Missing = codes "file missing\n"
@@ -157,7 +158,7 @@ no_claim_line (NotKept failed) = not_kept_line failed
 no_claim_line (Over step) = budget_line step
 no_claim_line Memory = codes "memory\n"
 
--- the status of a run that ends so
+-- the status of a run without a claim, for this reason
 abbrev pub no_claim_status : NoClaim → Status
 no_claim_status Fault = is.ShelfFault
 no_claim_status Missing = is.File
@@ -169,7 +170,7 @@ no_claim_status (NotKept failed) = is.File
 no_claim_status (Over step) = is.Budget
 no_claim_status Memory = is.Memory
 
--- where the shelf may fail while it fetches a file: nothing was taken, and no file is being kept
+-- when the shelf may fail while it fetches a file: nothing has been read, and no file is being stored
 pub record MissesFetch (taken : List ℕ) (keeping : Option (List ℕ)) : Type 0 where
   pub none : taken ≡ []
   pub fetching : keeping ≡ None

@@ -11,7 +11,7 @@ use Rattle.desk_base.specs.Files.{Files}
 use Rattle.desk_report.specs.Outcome.{Report, refusal_as}
 use Rattle.desk_report.specs.declared.status.Status.TheVariants as is
 
--- the word for why a field of a file is wrong
+-- the word for the reason why a field of a file is refused
 abbrev pub byte_word : ByteWhy → List ℕ
 byte_word byte.Magic = codes "magic"
 byte_word byte.Version = codes "version"
@@ -31,7 +31,7 @@ byte_word byte.Nodes = codes "nodes"
 byte_word byte.Track = codes "track"
 byte_word byte.Ref = codes "ref"
 
--- the fault line of bytes that are no file of a claim
+-- the fault line of bytes that are not a file
 abbrev pub file_line : Refusal → List ℕ
 file_line (Cut at) = codes "file cut at " ++ decimal at ++ codes "\n"
 file_line (Byte at why) = codes "file byte " ++ decimal at ++ codes " " ++ byte_word why ++ codes "\n"
@@ -46,17 +46,17 @@ rule_word rule.First = codes "first"
 rule_word rule.Left = codes "left"
 rule_word rule.Stale = codes "stale"
 
--- the fault line of a rule that the claim of a file does not keep
+-- the fault line of a rule that is false of a file's claim
 abbrev pub not_kept_line : RuleAt → List ℕ
 not_kept_line failed =
     codes "file not kept at ply " ++ decimal failed.ply ++ codes " men " ++ decimal failed.mask ++ codes " rule "
     ++ rule_word failed.rule
     ++ codes "\n"
 
--- the fault line of a file that would have so many bytes, which are too many
+-- the fault line of a file that would have this number of bytes, which is too many
 abbrev pub too_large_line : ℕ → List ℕ
 too_large_line size = codes "file too large " ++ decimal size ++ codes "\n"
 
--- a run that refuses a file with this line, and leaves these files
+-- a run that refuses a file with this line and leaves these files
 abbrev pub file_refused : Files → List ℕ → Report
 file_refused files line = refusal_as files is.File line false

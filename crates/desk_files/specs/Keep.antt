@@ -1,4 +1,4 @@
--- What is reported of `keep`.
+-- The report of `keep`.
 use Rattle.std.specs.Prelude.{◌≡◌, ◌⊎◌, ℕ, ◌≤◌, List, length, IfSome}
 use Rattle.desk_base.specs.Files.{Files}
 use Rattle.desk_base.specs.Lent.{Lent, both_new, both_old, old_of}
@@ -17,7 +17,7 @@ use Rattle.desk_text.specs.declared.problem.Problem.{Problem}
 use Rattle.desk_text.specs.declared.problem.Task.{Task}
 use Rattle.desk_report.specs.declared.status.Status.{Status}
 
--- the bytes are the file of version 2 of what is kept, and no more than a file may have
+-- the bytes are the file of version 2 of the kept sets, and not too many
 pub record IsFileToKeep (winner : Side) (p : Position) (n : ℕ) (bytes : List ℕ) : Type 0 where
   pub file : IsKeptFile Shared winner p n bytes
   pub small : length bytes ≤ most_bytes
@@ -26,7 +26,7 @@ abbrev pub kept_file : Side → Position → ℕ → FileToKeep
 kept_file winner p n =
     record { is_file = IsFileToKeep winner p n; is_too_large = IsKeptTooLarge Shared winner p n; line = mate_line n }
 
--- this where the winner mates within n moves of his own, and else that he does not, with no file kept
+-- this if the winner mates within n moves of his own; otherwise that he does not, and no file is stored
 abbrev pub KeptReports : (n : ℕ) → Problem → (name : List ℕ) → Files → Report → Type 0
 KeptReports n problem name files report =
     ((Value problem.winner n problem.position → ⊥) × (report ≡ done_with files (no_mate_line n)))
@@ -37,7 +37,7 @@ KeptReports n problem name files report =
 abbrev pub KeepReports : (n budget : ℕ) → Problem → (name : List ℕ) → Files → Report → Type 0
 KeepReports n budget problem name files = WithinBudget n budget problem (KeptReports n problem name files) files
 
--- There is a file to keep: the plan is within the budget, the winner mates within n moves of his own, and the file is
+-- There is a file to store: the plan is within the budget, the winner mates within n moves of his own, and the file is
 -- not too large.
 pub record HasFileToKeep (n budget : ℕ) (problem : Problem) : Type 0 where
   pub fits : FitsBudget problem budget n
@@ -45,8 +45,7 @@ pub record HasFileToKeep (n budget : ℕ) (problem : Problem) : Type 0 where
   pub bytes : List ℕ
   pub file : IsFileToKeep problem.winner problem.position n bytes
 
--- How `keep` ends on a sink and a shelf that it is lent, whatever files the shelf has, which are those that it tells,
--- where it tells them.
+-- How `keep` ends with a sink and a shelf, for any files, which are the shelf's if it exposes them.
 abbrev pub KeepEndsOn : {K H : Type 0} → SinkModel K → ShelfModel H → Task → (name : List ℕ) → Status
     → (ports : Lent K × Lent H) → Type 0
 KeepEndsOn k h task name status ports =

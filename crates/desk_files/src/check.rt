@@ -1,4 +1,4 @@
-//! Whether the claim of a file keeps all rules.
+//! Checks the claim of a file.
 
 ghost use Rattle.desk_files.specs.Check.{CheckEndsOn};
 
@@ -9,7 +9,7 @@ use desk_text::FileTask;
 use desk_verdict::verdict_line;
 use std::alloc::Global;
 
-/// Checks the claim of the file of a name, and writes within how many moves its winner mates.
+/// Checks the claim of a file, and writes within how many moves its winner mates.
 pub fn check<K: Sink, H: Shelf>(
     alloc: Global,
     file: &FileTask,

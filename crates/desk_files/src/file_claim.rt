@@ -1,4 +1,4 @@
-//! The claim of a file that was kept, checked, and why there is none.
+//! The checked claim of a file, or why there is none.
 
 ghost use Rattle.std.specs.Prelude.{◌≡◌, ◌≤◌, [], IsErrOf, length};
 ghost use Rattle.desk_base.specs.Faults.{HasRisen};
@@ -21,7 +21,7 @@ use std::alloc::Global;
 use strategy_file::{ByteWhy, Claim, FileError, read_file};
 use winning_sets::{Solved, StepName};
 
-/// Why the file of a name gives no claim.
+/// Why a file gives no claim.
 #[derive(Clone, Copy, PartialEq, Eq)]
 pub enum NoClaim {
     /// The shelf has failed.
@@ -90,7 +90,7 @@ fn text_line(text: &[u8]) -> LineBuffer
     line
 }
 
-/// Writes why there is no claim, as far as the sink takes it.
+/// Writes why there is no claim, as far as the sink accepts it, and returns the status.
 pub fn refuse_file<K: Sink>(sink: &mut K, why: NoClaim) -> Status
     ensures status { result ≡ no_claim_status why }
     ensures written { OnSink K.Sink (Writes [] (no_claim_line why)) sink.old sink.new }
@@ -101,7 +101,7 @@ pub fn refuse_file<K: Sink>(sink: &mut K, why: NoClaim) -> Status
     why.status()
 }
 
-/// The claim of the file of this name, with its sets, once it is known to keep all rules.
+/// Fetches the file of this name and returns its claim, with its sets, if all rules are true of it.
 pub fn fetch_claim<H: Shelf>(
     alloc: Global,
     name: &str,
@@ -116,7 +116,7 @@ pub fn fetch_claim<H: Shelf>(
     check_claim(alloc, claim, budget)
 }
 
-/// The claim of the file of this name, as it was read.
+/// Fetches the file of this name and returns its claim without checking it.
 pub(crate) fn fetch_file<H: Shelf>(
     alloc: Global,
     name: &str,

@@ -22,28 +22,28 @@ fn large_line(text: &[u8], number: u128) -> LineBuffer
     line
 }
 
-/// The line that says where a file ends too early.
+/// Returns the line that reports where a file ends too early.
 pub fn cut_line(at: u64) -> LineBuffer
     ensures { result ≡ specs.file_line (layout.Cut at) }
 {
     large_line(b"file cut at ", u128::from(at))
 }
 
-/// The line that says where more bytes stand than a file has.
+/// Returns the line that reports where bytes follow the end of a file.
 pub fn extra_line(at: u64) -> LineBuffer
     ensures { result ≡ specs.file_line (layout.Extra at) }
 {
     large_line(b"file extra at ", u128::from(at))
 }
 
-/// The line that says how many bytes a file would have, which are too many.
+/// Returns the line that reports how many bytes a file would have, which is too many.
 pub fn too_large_line(size: u128) -> LineBuffer
     ensures { result ≡ specs.too_large_line size }
 {
     large_line(b"file too large ", size)
 }
 
-/// The line that says where a field of a file is wrong, and why.
+/// Returns the line that reports which field of a file is refused, and why.
 pub fn byte_line(at: u64, why: ByteWhy) -> LineBuffer
     ensures { result ≡ specs.file_line (layout.Byte at why) }
 {
@@ -82,7 +82,7 @@ fn byte_word(why: ByteWhy) -> &'static [u8]
     }
 }
 
-/// The line that names the rule that the claim of a file does not keep.
+/// Returns the line that names the rule that is false of a file's claim.
 pub fn not_kept_line(failed: RuleAt) -> LineBuffer
     ensures { result ≡ specs.not_kept_line failed }
 {

@@ -16,8 +16,8 @@ use std::alloc::Global;
 use strategy_writer::write_file;
 use winning_sets::Solved;
 
-/// Keeps a file of the sets by which the winner mates within so many moves of his own, under the name, and writes that he does; or that he does
-/// not, and then no file is kept.
+/// Stores a file of the sets by which the winner mates within the task's number of moves, under the name, and writes
+/// that he does; or writes that he does not, and stores nothing.
 pub fn keep<K: Sink, H: Shelf>(
     alloc: Global,
     task: &Task,

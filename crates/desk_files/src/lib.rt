@@ -1,6 +1,7 @@
-//! The commands of files: the file of the sets by which the winner of a problem mates, whether the claim of a file that was kept keeps all rules, and
-//! the file of the newest version of such a claim. Each has a file under `specs` that says what is reported of it; `specs/FileClaim` says what comes
-//! of the file of a name, `specs/Keeping` of a file that is to be kept.
+//! The commands `keep`, `check` and `migrate`, which write and read strategy files.
+//!
+//! Each has a file under `specs` that defines what is reported of it. `specs/FileClaim` defines the result of reading a
+//! file, and `specs/Keeping` that of storing one.
 #![tactic(auto)]
 
 pub mod check;

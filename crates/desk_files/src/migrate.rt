@@ -1,4 +1,4 @@
-//! The file of the newest version of the claim of a file.
+//! Writes the claim of a file in the newest version.
 
 ghost use Rattle.std.specs.Prelude.{IsErrOf};
 ghost use Rattle.desk_base.specs.Faults.{HasRisen};
@@ -15,8 +15,8 @@ use std::alloc::Global;
 use strategy_file::Claim;
 use strategy_writer::write_claim;
 
-/// Reads the file of a name, of either version, and keeps its claim under another name, or under the same, in a file of the newest version. The claim
-/// is not checked.
+/// Reads a file of either version, and stores its claim in the newest version under another name, or under the same.
+/// The claim is not checked.
 pub fn migrate<K: Sink, H: Shelf>(
     alloc: Global,
     from: &str,

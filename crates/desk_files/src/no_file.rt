@@ -1,4 +1,4 @@
-//! Why no file is kept.
+//! Why no file is stored.
 
 ghost use Rattle.std.specs.Prelude.{◌≡◌, ◌≤◌, []};
 ghost use Rattle.desk_files.specs.Keeping.{no_file_line, no_file_status, unkept, unwritten};
@@ -10,7 +10,7 @@ use desk_base::{KeepError, Sink};
 use desk_report::{Status, refuse};
 use strategy_writer::WriteFileError;
 
-/// Why no file is kept.
+/// Why no file is stored.
 #[derive(Clone, Copy, PartialEq, Eq)]
 pub enum NoFile {
     /// It would have this many bytes, which are too many.
@@ -43,7 +43,7 @@ impl From<KeepError> for NoFile {
     }
 }
 
-/// Writes why no file is kept, as far as the sink takes it.
+/// Writes why no file is stored, as far as the sink accepts it, and returns the status.
 pub(crate) fn refuse_keeping<K: Sink>(sink: &mut K, why: NoFile) -> Status
     ensures status { result ≡ no_file_status why }
     ensures written { OnSink K.Sink (Writes [] (no_file_line why)) sink.old sink.new }

@@ -1,4 +1,4 @@
-//! Whether a formula that is typed as a line holds over all integers.
+//! Decides a formula, given as a line, over all integers.
 
 ghost use Rattle.std.specs.Prelude.{◌≡◌, ◌+◌, ◌≤◌, ◌++◌, [], length};
 ghost use Rattle.std.specs.Fmt.{signed_decimal};
@@ -21,7 +21,7 @@ use limits::{Budget, MOST_LINE_BYTES};
 use lin_formula::Formula;
 use std::alloc::Global;
 
-/// Writes whether the formula that the first line is holds over all integers.
+/// Reads a formula from the first line, and writes whether it is true over all integers.
 pub fn arith<S: Source, K: Sink>(
     alloc: Global,
     budget: Budget,

@@ -1,5 +1,7 @@
-//! The command that answers a formula typed as a line: whether it holds over all integers, and, where it says that there is a number, which one
-//! nearest to 0. `specs/Arith` says what is reported of it.
+//! The command `arith`: decides a formula, given as a line, over all integers.
+//!
+//! If the formula says that there is a number, the answer names the one nearest to 0. `specs/Arith` defines what is
+//! reported.
 #![tactic(auto)]
 
 pub mod arith;

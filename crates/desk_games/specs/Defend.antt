@@ -1,4 +1,4 @@
--- What is reported of `defend`, and how it ends.
+-- The report of `defend`, and how it ends.
 use Rattle.std.specs.Prelude.{◌≡◌, ◌⊎◌, ℕ, List}
 use Rattle.desk_base.specs.Files.{Files}
 use Rattle.desk_base.specs.Lent.{Lent, new_of, old_of}
@@ -21,7 +21,7 @@ use Rattle.desk_report.specs.declared.status.Status.{Status}
 use Rattle.desk_games.specs.Play.{as_played}
 use Rattle.desk_games.specs.Resume.{LacksBefore}
 
--- the game of a problem that the loser plays, in which nothing was moved yet
+-- the game of a problem that the loser plays, before the first move
 abbrev pub first_defence : ℕ → Problem → DefenceMatch
 first_defence n problem =
     record {
@@ -33,7 +33,7 @@ first_defence n problem =
       ply = 0;
     }
 
--- where the winner mates within n moves of his own, that he does, and else the game with these lines behind the text
+-- if the winner mates within n moves of his own, that he does; otherwise the game with the lines after the text
 abbrev pub DefendedReports : ℕ → Problem → Lines → Files → Report → Type 0
 DefendedReports n problem lines files report =
     (Value problem.winner n problem.position × (report ≡ done_with files (mate_line n)))
@@ -51,7 +51,7 @@ DefendEnds n budget problem files status held pending old new =
     EndsByLines (λ lines. DefendReports n budget problem lines files) LacksBefore (λ bytes. NeverMisses) status held
     pending old new
 
--- how it ends on a reader, a source and a sink that it is lent, whatever files there are
+-- how it ends with a reader, a source and a sink, for any files
 abbrev pub DefendEndsOn : {S K : Type 0} → SourceModel S → SinkModel K → Task → Status
     → (ports : Lent Reading × Lent S × Lent K) → Type 0
 DefendEndsOn s k task status ports =

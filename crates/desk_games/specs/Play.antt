@@ -1,4 +1,4 @@
--- What is reported of `play`, and how it ends.
+-- The report of `play`, and how it ends.
 use Rattle.std.specs.Prelude.{◌≡◌, ◌⊎◌, ℕ, List, [], Option, Result, Ok, Err, codes}
 use Rattle.desk_base.specs.Files.{Files}
 use Rattle.desk_base.specs.Lent.{Lent, new_of, old_of}
@@ -24,7 +24,7 @@ use Rattle.desk_text.specs.declared.problem.Task.{Task}
 use Rattle.desk_report.specs.declared.status.Status.{Status}
 use Rattle.desk_report.specs.declared.status.Status.TheVariants as is
 
--- the game of a problem in which nothing was moved yet
+-- the game of a problem before the first move
 abbrev pub first_match : ℕ → Problem → Match
 first_match n problem =
     record {
@@ -37,7 +37,7 @@ first_match n problem =
       ply = 0;
     }
 
--- the status of a run whose game ends so
+-- the status of a run whose game ends in this way
 abbrev pub status_of : Ending → Status
 status_of Mated = is.Done
 status_of Held = is.Done
@@ -49,7 +49,7 @@ status_of Many = is.TooMany
 status_of (CutAt number) = is.Text
 status_of (LongAt number) = is.Text
 
--- a run that reports a game, and leaves these files
+-- a run that reports a game and leaves these files
 abbrev pub as_played : {G : Type 0} → Files → LineReport G → Report
 as_played files played =
     record {
@@ -60,8 +60,7 @@ as_played files played =
       files = files;
     }
 
--- where the winner mates within n moves of his own, the game with these lines behind the text, and else that he does
--- not
+-- if the winner mates within n moves of his own, the game with the lines after the text; otherwise that he does not
 abbrev pub PlayedReports : ℕ → Problem → Lines → Files → Report → Type 0
 PlayedReports n problem lines files report =
     ((Value problem.winner n problem.position → ⊥) × (report ≡ done_with files (no_mate_line n)))
@@ -73,7 +72,7 @@ PlayedReports n problem lines files report =
 abbrev pub PlayReports : ℕ → ℕ → Problem → Lines → Files → Report → Type 0
 PlayReports n budget problem lines files = WithinBudget n budget problem (PlayedReports n problem lines files) files
 
--- where memory may be wanting: there is something to play, and nothing was taken
+-- when memory may run out: there is something to compute, and no reply has been read
 pub record LacksAtFirst (n : ℕ) (problem : Problem) (bytes : List ℕ) : Type 0 where
   pub some : ¬ HasNothingToPlay n problem
   pub none : bytes ≡ []
@@ -84,7 +83,7 @@ PlayEnds n budget problem files status held pending old new =
     EndsByLines (λ lines. PlayReports n budget problem lines files) (LacksAtFirst n problem) (λ bytes. NeverMisses)
     status held pending old new
 
--- how it ends on a reader, a source and a sink that it is lent, whatever files there are
+-- how it ends with a reader, a source and a sink, for any files
 abbrev pub PlayEndsOn : {S K : Type 0} → SourceModel S → SinkModel K → Task → Status
     → (ports : Lent Reading × Lent S × Lent K) → Type 0
 PlayEndsOn s k task status ports =
@@ -92,7 +91,7 @@ PlayEndsOn s k task status ports =
     → PlayEnds task.moves task.budget task.problem files status (old_of ports.0).pending (new_of ports.0).pending
     (streams_seen s k files (old_of ports.1, old_of ports.2)) (streams_seen s k files (new_of ports.1, new_of ports.2))
 
--- what is written after a game was played, and the status then
+-- the text written after a game, and the status then
 abbrev pub Finishes : Result Ending GameError → Status → (old new : Option (List ℕ)) → (failed : Type 0) → Type 0
 Finishes (Ok ending) status old new failed = (status ≡ status_of ending) × Writes [] (ending_line ending) old new failed
 Finishes (Err Read) status old new failed = (status ≡ is.ReadFault) × Writes [] (codes "read fault\n") old new failed

@@ -1,4 +1,4 @@
--- What is reported of `resume`.
+-- The report of `resume`.
 use Rattle.std.specs.Prelude.{◌≡◌, ℕ, List, []}
 use Rattle.desk_base.specs.Files.{Files}
 use Rattle.desk_base.specs.Lent.{Lent, all_new, all_old, both_new, both_old, old_of}
@@ -20,7 +20,7 @@ use Rattle.desk_text.specs.declared.problem.FileTask.{FileTask}
 use Rattle.desk_games.specs.Play.{as_played}
 use Rattle.desk_report.specs.declared.status.Status.{Status}
 
--- the game of a claim in which nothing was moved yet
+-- the game of a claim before the first move
 abbrev pub claimed_match : Claim → Match
 claimed_match c =
     record {
@@ -33,7 +33,7 @@ claimed_match c =
       ply = 0;
     }
 
--- the game with these lines that is played by a claim
+-- the game that is played by a claim with these lines
 abbrev pub GameReports : Lines → Files → Claim → Report → Type 0
 GameReports lines files c report =
     (played : LineReport Match) × IsReport winner_rules 0 lines (claimed_match c) played × (report ≡ as_played files played)
@@ -42,16 +42,16 @@ GameReports lines files c report =
 abbrev pub ResumeReports : (budget : ℕ) → Lines → (name : List ℕ) → Files → Report → Type 0
 ResumeReports budget lines name files = OfChecked (GameReports lines files) budget name files
 
--- where memory may be wanting: nothing was taken
+-- when memory may run out: nothing has been read
 abbrev pub LacksBefore : (bytes : List ℕ) → Type 0
 LacksBefore bytes = bytes ≡ []
 
--- how `resume` ends, of whose input nothing was taken before; what is held in the end is `pending`
+-- how `resume` ends; nothing of its input was taken before, and at the end it holds `pending`
 abbrev pub ResumeEnds : (budget : ℕ) → (name : List ℕ) → Files → Status → (pending : List ℕ) → Seen → Seen → Type 0
 ResumeEnds budget name files status pending old new =
     EndsByLines (λ lines. ResumeReports budget lines name files) LacksBefore MissesFetch status [] pending old new
 
--- how it ends on a source, a sink and a shelf that it is lent
+-- how it ends with a source, a sink and a shelf
 abbrev pub ResumeEndsOn : {S K H : Type 0} → SourceModel S → SinkModel K → ShelfModel H → FileTask → Status
     → (ports : Lent S × Lent K × Lent H) → Type 0
 ResumeEndsOn s k h file status ports =
@@ -60,7 +60,7 @@ ResumeEndsOn s k h file status ports =
     × ResumeEnds file.budget file.name.now files status pending (ports_seen s k h (all_old ports))
     (ports_seen s k h (all_new ports)))
 
--- how the game of a claim ends on a source and a sink that it is lent, whatever files there are
+-- how the game of a claim ends with a source and a sink, for any files
 abbrev pub GameEndsOn : {S K : Type 0} → SourceModel S → SinkModel K → Solution → Status → (ports : Lent S × Lent K)
     → Type 0
 GameEndsOn s k solved status ports =

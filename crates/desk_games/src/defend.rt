@@ -1,4 +1,4 @@
-//! A game that the loser plays against moves that come behind the text.
+//! A game that the loser plays against moves that follow the text.
 
 ghost use Rattle.std.specs.Prelude.{◌≤◌, length};
 ghost use Rattle.desk_base.specs.Reading.{GoesOn};
@@ -17,8 +17,8 @@ use play_loop::play_game;
 use std::alloc::Global;
 use winning_sets::solve;
 
-/// Writes the game that the loser plays, whose other side's moves are read behind the text, or that the winner mates within so many moves.
-/// All memory is taken before the first line.
+/// Writes the game that the loser plays against the moves that follow the text, or that the winner mates within the
+/// task's number of moves. All memory is allocated before the first line.
 pub fn defend<S: Source, K: Sink>(
     alloc: Global,
     task: &Task,

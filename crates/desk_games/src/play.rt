@@ -1,4 +1,4 @@
-//! A game that the winner plays against replies that come behind the text.
+//! A game that the winner plays against replies that follow the text.
 
 ghost use Rattle.std.specs.Prelude.{◌≡◌, ◌≤◌, [], length};
 ghost use Rattle.desk_base.specs.Reading.{GoesOn};
@@ -18,8 +18,8 @@ use std::alloc::Global;
 use winner_player::Winner;
 use winner_session::Session;
 
-/// Writes the game that the winner plays, whose replies are read behind the text, or that he does not mate within so many moves.
-/// All memory is taken before the first line.
+/// Writes the game that the winner plays against the replies that follow the text, or that he does not mate within the
+/// task's number of moves. All memory is allocated before the first line.
 pub fn play<S: Source, K: Sink>(
     alloc: Global,
     task: &Task,
@@ -54,7 +54,7 @@ pub fn play<S: Source, K: Sink>(
     }
 }
 
-/// Writes what is still to be written of a game that was played.
+/// Writes the last line of a game, if one is due, and returns the status.
 pub fn finish<K: Sink>(played: Result<Ending, GameError>, sink: &mut K) -> Status
     ensures ends { OnSink K.Sink (Finishes played result) sink.old sink.new }
     ensures never_falls { K.faults sink.old ≤ K.faults sink.new }

@@ -1,4 +1,4 @@
-//! A game that the winner of a kept file plays against replies.
+//! A game that the winner of a strategy file plays against replies.
 
 ghost use Rattle.std.specs.Prelude.{◌≡◌};
 ghost use Rattle.game_rules.specs.Game.{Value};
@@ -17,7 +17,7 @@ use winner_player::Winner;
 use winner_session::Session;
 use winning_sets::Solved;
 
-/// Checks the claim of the file of a name, and writes the game that its winner plays by its sets, whose replies are read.
+/// Checks the claim of a file, and writes the game that its winner plays by its sets against the replies in the input.
 pub fn resume<S: Source, K: Sink, H: Shelf>(
     alloc: Global,
     file: &FileTask,

@@ -1,4 +1,4 @@
--- The status that a process ends with.
+-- The exit code of the process.
 use Rattle.std.specs.Prelude.{ℕ}
 use Rattle.desk_report.specs.declared.status.Status.{Status}
 use Rattle.desk_report.specs.declared.status.Status.TheVariants.{Done, Usage, Text, Unsound, ReadFault, WriteFault, ShelfFault, Budget, Wide, Memory, File, Ended, TooMany}

@@ -14,7 +14,7 @@ use desk_base::{Sink, put_all};
 use desk_text::LineWhy;
 use itoa::Buffer;
 
-/// The line that says which line of a text is refused, and why.
+/// Returns the line that reports which line of a text is refused, and why.
 pub fn refusal_line(number: u32, why: LineWhy) -> LineBuffer
     ensures { result ≡ texts.refusal_line number why }
 {
@@ -27,7 +27,7 @@ pub fn refusal_line(number: u32, why: LineWhy) -> LineBuffer
     line
 }
 
-/// The line that says why a position is not sound.
+/// Returns the line that reports why a position is not sound.
 pub fn unsound_line(why: Unsound) -> LineBuffer
     ensures { result ≡ specs.unsound_line why }
 {
@@ -71,7 +71,7 @@ fn same_square_line(first: u8, second: u8) -> LineBuffer
     line
 }
 
-/// Adds a number of up to 128 bits, in at most 40 bytes.
+/// Appends a number of up to 128 bits in decimal, at most 40 bytes.
 pub fn push_large(line: &mut LineBuffer, number: u128)
     requires { length line.old + 40 ≤ 128 }
     ensures text { line.new ≡ line.old ++ decimal number }
@@ -80,7 +80,7 @@ pub fn push_large(line: &mut LineBuffer, number: u128)
     line.push(Buffer::new().format(number).as_bytes());
 }
 
-/// Writes a fault line, as far as the sink takes it.
+/// Writes a fault line, as far as the sink accepts it.
 pub fn refuse<K: Sink>(sink: &mut K, line: &[u8])
     ensures written { OnSink K.Sink (Writes [] line.now) sink.old sink.new }
     ensures never_falls { K.faults sink.old ≤ K.faults sink.new }

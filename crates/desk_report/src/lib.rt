@@ -1,5 +1,7 @@
-//! What a run reports, its status, its text and its one fault line (`specs/FaultLines`), and how its source, its sink and its store of files may make it
-//! end otherwise (`specs/Outcome`).
+//! Defines the report of a run, and how faults of its ports change it.
+//!
+//! A report is a status, a text and one fault line (`specs/FaultLines`). `specs/Outcome` defines how a run may end
+//! differently if its source, sink or file store fails, or if memory runs out.
 #![tactic(auto)]
 
 mod fault_line;

@@ -1,4 +1,4 @@
-//! How a run ends.
+//! The status of a run.
 
 ghost use Rattle.std.specs.Prelude.{◌≡◌};
 ghost use Rattle.desk_report.specs.Codes.{code_of};
@@ -35,7 +35,7 @@ pub enum Status {
 }
 
 impl Status {
-    /// The status that a process ends with.
+    /// Returns the exit code of the process.
     pub fn code(self) -> u8
         ensures { result ≡ code_of self }
     {

@@ -1,4 +1,4 @@
--- What is reported of `decide`.
+-- The report of `decide`.
 use Rattle.std.specs.Prelude.{◌≡◌, ◌↔◌, ◌⊎◌, ℕ, List, []}
 use Rattle.desk_base.specs.Files.{Files}
 use Rattle.game_rules.specs.Game.{Value}
@@ -15,7 +15,7 @@ DecideReports n budget problem files =
     WithinBudget n budget problem
     (λ report. (line : List ℕ) × IsVerdict n problem line × (report ≡ done_with files line)) files
 
--- the run is done, and writes one of the two lines and no fault line
+-- the run ends as done with one of the two lines and no fault line
 pub record IsAnswered (n : ℕ) (report : Report) : Type 0 where
   pub status : report.status ≡ is.Done
   pub text : (report.text ≡ mate_line n) ⊎ (report.text ≡ no_mate_line n)
@@ -29,9 +29,8 @@ pub record IsOverBudget (n budget : ℕ) (problem : Problem) (report : Report) :
   pub first : ExceedsAt problem budget n step
   pub fault : report.fault ≡ budget_line step
 
--- What a run of `decide` reports of a sound position: it is done, with the one line exactly where the winner mates
--- within n moves of his own, and the other exactly where he does not; or it names the first step that exceeds the
--- budget.
+-- The report of `decide` for a sound position: it is done, with the first line if and only if the winner mates within n
+-- moves of his own, and with the second if and only if he does not; or it names the first step that exceeds the budget.
 pub record IsExact (n budget : ℕ) (problem : Problem) (report : Report) : Type 0 where
   pub cause : IsAnswered n report ⊎ IsOverBudget n budget problem report
   pub mate : report.status ≡ is.Done → (report.text ≡ mate_line n) ↔ Value problem.winner n problem.position

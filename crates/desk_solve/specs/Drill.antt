@@ -1,4 +1,4 @@
--- The positions of `drill`, and what is reported of them.
+-- The positions of `drill`, and its report.
 use Rattle.std.specs.Prelude.{◌≡◌, ◌↔◌, ℕ, zero, suc, ◌+◌, ◌*◌, ◌/◌, ◌%◌, ◌^◌, ◌<◌, ◌==◌, if◌then◌else◌, ℤ, pos, negsuc, ◌-ℤ◌, Bool, List, [], ◌∷◌, ◌++◌, length, Some, IsTrue, codes, count_by, slice_get}
 use Rattle.std.specs.Fmt.{decimal}
 use Rattle.desk_args.specs.declared.order.TheConstants.{DEFAULT_STATES}
@@ -19,12 +19,12 @@ use Rattle.desk_text.specs.declared.problem.Problem.{Problem}
 abbrev pub next_state : ℕ → ℕ
 next_state s = (s * 6364136223846793005 + 1442695040888963407) % 2 ^ 64
 
--- the state after so many steps from the seed
+-- the state `steps` steps after the seed
 abbrev pub state_after : (seed steps : ℕ) → ℕ
 state_after seed zero = seed
 state_after seed (suc steps) = next_state (state_after seed steps)
 
--- in each of the eight cases but the first one man of White stands elsewhere than in the first
+-- in each of the eight cases but the first, one white man stands on another square than in the first case
 abbrev pub white_king : (case : ℕ) → Place
 white_king case = if case == 1 then At (pos 100) (pos 98) else At (pos 0) (negsuc 1)
 
@@ -45,7 +45,7 @@ second_rook case =
 abbrev pub black_king : Place
 black_king = At (pos 0) (pos 0)
 
--- White is to move, with a king and two rooks against a king
+-- White, to move, has a king and two rooks against a king
 abbrev pub rooks_position : (king first second : Place) → Position
 rooks_position king first second = record {
   men =
@@ -60,31 +60,31 @@ rooks_position king first second = record {
 abbrev pub case_position : (case : ℕ) → Position
 case_position case = rooks_position (white_king case) (first_rook case) (second_rook case)
 
--- how far some bits of a state move the board
+-- the offset of the board, from some bits of a state
 abbrev pub offset : ℕ → ℤ
 offset bits = pos (bits % 4096) -ℤ pos 2048
 
--- the position of a state is that of its case, with the board moved
+-- the position of a state: that of its case, with the board moved
 abbrev pub position_of : (state : ℕ) → Position
 position_of state = mapped (shift (offset (state / 2 ^ 16)) (offset (state / 2 ^ 32))) (case_position (state % 8))
 
--- White is to mate; there is no text
+-- White is the winner; there is no text
 abbrev pub problem_of : (state : ℕ) → Problem
 problem_of state = record { position = position_of state; winner = White; lines = 0 }
 
--- the problem of this number, counted from 0, that follows from the seed
+-- problem number n, counted from 0, that follows from the seed
 abbrev pub drilled : (seed number : ℕ) → Problem
 drilled seed number = problem_of (state_after seed (suc number))
 
--- the problem is one of so many
+-- the problem is one of the first `count`
 abbrev pub IsDrilled : (seed count : ℕ) → Problem → Type 0
 IsDrilled seed count problem = (number : ℕ) × (number < count) × (problem ≡ drilled seed number)
 
--- the plans for one move from the problems before this number are within the budget
+-- the plans for one move of the problems before this number are within the budget
 abbrev pub DrillFits : (seed number : ℕ) → Type 0
 DrillFits seed number = (k : ℕ) → k < number → FitsBudget (drilled seed k) DEFAULT_STATES 1
 
--- the step is the first that exceeds the budget, in the first position of which a step does
+-- the step is the first one that exceeds the budget, in the first problem with such a step
 abbrev pub DrillStops : (seed count : ℕ) → StepName → Type 0
 DrillStops seed count step =
     (number : ℕ) × (number < count) × DrillFits seed number × ExceedsAt (drilled seed number) DEFAULT_STATES 1 step
@@ -95,7 +95,7 @@ pub record AreVerdicts (seed count : ℕ) (verdicts : List Bool) : Type 0 where
   pub right : (number : ℕ) (won : Bool) → slice_get verdicts number ≡ Some won
       → IsTrue won ↔ Value White 1 (drilled seed number).position
 
--- White mates in one move from so many of the positions, and the plans for all of them are within the budget
+-- White mates in one move in this number of the positions, and the plans for all of them are within the budget
 pub record DrillFinds (seed count mates : ℕ) : Type 0 where
   pub fits : DrillFits seed count
   pub verdicts : List Bool
@@ -105,7 +105,7 @@ pub record DrillFinds (seed count mates : ℕ) : Type 0 where
 abbrev pub drill_line : (mates count : ℕ) → List ℕ
 drill_line mates count = decimal mates ++ codes " of " ++ decimal count ++ codes " mate in 1\n"
 
--- from how many of the positions White mates in one move, or the first step that exceeds the budget
+-- in how many of the positions White mates in one move, or the first step that exceeds the budget
 abbrev pub DrillReports : (seed count : ℕ) → Files → Report → Type 0
 DrillReports seed count files =
     FirstOver budget_line (DrillStops seed count)

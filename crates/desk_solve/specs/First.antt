@@ -1,4 +1,4 @@
--- What is reported of `first`.
+-- The report of `first`.
 use Rattle.std.specs.Prelude.{◌≡◌, ◌⊎◌, ℕ, zero, suc, ◌≤◌, List, [], ◌++◌, length, Option, Some, None, codes}
 use Rattle.std.specs.Fmt.{decimal, signed_decimal}
 use Rattle.auto_search.specs.declared.few.Few.{Few}
@@ -18,11 +18,11 @@ use Rattle.desk_verdict.specs.Verdict.{WithinBudget}
 use Rattle.desk_text.specs.declared.problem.Problem.{Problem}
 use Rattle.desk_text.specs.declared.problem.Task.{Task}
 
--- the winner has no first move: no move of his own is left, or the loser is to move
+-- the winner has no first move: he has no moves left, or it is the loser's turn
 abbrev pub HasNoFirstMove : ℕ → Problem → Type 0
 HasNoFirstMove n problem = (n ≡ 0) ⊎ (problem.position.turn ≡ other problem.winner)
 
--- the winner of a task is to move, and has a move of his own left
+-- it is the winner's turn, and he has a move left
 abbrev pub MayMoveFirst : Task → Type 0
 MayMoveFirst task = ¬ HasNoFirstMove task.moves task.problem
 
@@ -42,18 +42,18 @@ line_of line =
     codes "man " ++ decimal line.man ++ codes " step " ++ signed_decimal line.dx ++ codes " " ++ signed_decimal line.dy
     ++ codes " least " ++ distance_word line.least ++ codes " " ++ few_word line.few ++ codes "\n"
 
--- a ray's text: its line where the man has a first move along it, and else nothing
+-- the text of a ray: its line if the man has a first move along it, and nothing otherwise
 abbrev pub RayText : Side → ℕ → Position → (man ray : ℕ) → List ℕ → Type 0
 RayText winner n p man ray text =
     (((distance : ℕ) → Firsts winner n p man ray distance → ⊥) × (text ≡ []))
     ⊎ ((line : FirstLine) × IsFirstLine all_squares winner n p man ray line × (text ≡ line_of line))
 
--- texts one after another, of the first so many
+-- the concatenation of the first n texts
 unfoldable pub Listed : (ℕ → List ℕ → Type 0) → ℕ → List ℕ → Type 0
 Listed Of zero text = text ≡ []
 Listed Of (suc k) text = (front : List ℕ) × (last : List ℕ) × Listed Of k front × Of k last × (text ≡ front ++ last)
 
--- a man's text, by ray, of as many as a kind has at most
+-- the text of a man: those of his rays, up to the greatest number of rays of a kind
 abbrev pub ManText : Side → ℕ → Position → (man : ℕ) → List ℕ → Type 0
 ManText winner n p man = Listed (RayText winner n p man) MOST_RAYS
 
@@ -65,28 +65,28 @@ MenText winner n p = Listed (λ before. ManText winner n p (suc before)) (length
 abbrev pub AreLines : Side → ℕ → Position → List ℕ → Type 0
 AreLines winner n p told = (text : List ℕ) × MenText winner n p text × (told ≡ text ++ codes "end\n")
 
--- these, or the first step that exceeds the budget
+-- these lines, or the first step that exceeds the budget
 abbrev pub LinesReport : ℕ → ℕ → Problem → Files → Report → Type 0
 LinesReport n budget problem files =
     WithinBudget n budget problem
     (λ report. (told : List ℕ) × AreLines problem.winner n problem.position told × (report ≡ done_with files told)) files
 
--- the last line alone where the winner has no first move, and else what is reported of his first moves
+-- the last line alone if the winner has no first move, and the report of his first moves otherwise
 abbrev pub FirstReports : ℕ → ℕ → Problem → Files → Report → Type 0
 FirstReports n budget problem files report =
     (HasNoFirstMove n problem × (report ≡ done_with files (codes "end\n")))
     ⊎ ((¬ HasNoFirstMove n problem) × LinesReport n budget problem files report)
 
--- this, of the winner, the number of moves and the position of a solved position
+-- the relation, of the winner, the number of moves and the position of a solved position
 abbrev pub OfSolved : {A : Type 1} → (Side → ℕ → Position → A) → Solution → A
 OfSolved this s = this s.winner s.moves s.position
 
--- a text of this kind was added at the end
+-- a text with the property was appended
 abbrev pub Adds : (List ℕ → Type 0) → (old new : List ℕ) → Type 0
 Adds Of old new = (added : List ℕ) × Of added × (new ≡ old ++ added)
 
--- the sets of a solved position come of a plan, its winner is to move and has a move left, and a search for so many
--- states serves all its sets
+-- the sets of a solved position come from a plan, it is its winner's turn and he has a move left, and a search with
+-- this number of states has room for all its sets
 pub record IsServed (states : ℕ) (s : Solution) : Type 0 where
   pub plan : s.origin ≡ Plan
   pub turn : s.position.turn ≡ s.winner

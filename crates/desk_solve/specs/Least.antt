@@ -1,4 +1,4 @@
--- What is reported of `least`.
+-- The report of `least`.
 use Rattle.std.specs.Prelude.{◌≡◌, ℕ, ◌<◌, ◌≤◌, List, ◌++◌, Option, Some, None, codes, unwrap_or}
 use Rattle.std.specs.Fmt.{decimal}
 use Rattle.desk_base.specs.Files.{Files}
@@ -9,13 +9,13 @@ use Rattle.desk_verdict.specs.StepLines.{budget_line}
 use Rattle.desk_verdict.specs.Verdict.{ExceedsAt, FitsBudget}
 use Rattle.desk_text.specs.declared.problem.Problem.{Problem}
 
--- the line that says within how few moves the winner mates, or that he does not within the limit
+-- the line with the least number of moves within which the winner mates, or that there is none up to the limit
 abbrev pub least_line : ℕ → Option ℕ → List ℕ
 least_line limit (Some n) = codes "least " ++ decimal n ++ codes "\n"
 least_line limit None = codes "none up to " ++ decimal limit ++ codes "\n"
 
--- The numbers of moves are gone through from 0 on. The winner mates within none of those before one of them, the plans
--- for them are within the budget, and the step is the first of the plan for that one that exceeds it.
+-- The numbers of moves are tried from 0 on. The winner does not mate within any of those before one of them, the plans
+-- of those are within the budget, and the step is the first one that exceeds it in the plan of that number.
 abbrev pub LeastStops : ℕ → ℕ → Problem → StepName → Type 0
 LeastStops limit budget problem step =
     (n : ℕ) × (n ≤ limit)
@@ -29,7 +29,7 @@ LeastFinds limit budget problem found =
     game.Least problem.winner problem.position limit found
     × ((n : ℕ) → n ≤ unwrap_or found limit → FitsBudget problem budget n)
 
--- within how few moves the winner mates, or the first step that exceeds the budget
+-- the least number of moves within which the winner mates, or the first step that exceeds the budget
 abbrev pub LeastReports : ℕ → ℕ → Problem → Files → Report → Type 0
 LeastReports limit budget problem files =
     FirstOver budget_line (LeastStops limit budget problem)

@@ -10,7 +10,7 @@ use desk_text::Task;
 use desk_verdict::{ProblemSolver, print_error, verdict_line};
 use std::alloc::Global;
 
-/// Writes whether the winner mates within so many moves of his own.
+/// Writes whether the winner mates within the task's number of moves.
 pub fn decide<K: Sink>(alloc: Global, task: &Task, sink: &mut K) -> Status
     requires { IsTask task.now }
     ensures ends { EndsOnSink K.Sink result (OfTask DecideReports task.now) (HasSomeToPlay task.now) sink.old sink.new }

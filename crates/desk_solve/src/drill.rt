@@ -1,4 +1,4 @@
-//! From how many positions of a seed White mates in one move.
+//! The number of positions of a seed in which White mates in one move.
 
 ghost use Rattle.std.specs.Prelude.{◌≡◌, ◌↔◌, ◌<◌, ◌≤◌, Err, IfOk, IsTrue, OnOk, length};
 ghost use Rattle.game_rules.specs.Game.{Sound, Value};
@@ -18,7 +18,7 @@ use limits::Budget;
 use std::alloc::Global;
 use winning_sets::SolveError;
 
-/// Writes from how many of so many positions, which follow from the seed, White mates in one move.
+/// Writes in how many of `count` positions, which follow from the seed, White mates in one move.
 pub fn drill<K: Sink>(alloc: Global, seed: u64, count: u8, sink: &mut K) -> Status
     ensures ends { EndsOnSink K.Sink result (DrillReports seed count) (0 < count) sink.old sink.new }
 {

@@ -26,7 +26,7 @@ pub struct Generator {
 }
 
 impl Generator {
-    /// Goes to the next state.
+    /// Advances to the next state and returns it.
     pub fn next(&mut self) -> u64
         ensures next { result ≡ next_state self.old.state }
         ensures state { self.new.state ≡ result }
@@ -55,7 +55,7 @@ impl Displacement {
     }
 }
 
-/// The problem of a state of the generator.
+/// Returns the problem of a state of the generator.
 pub fn problem_of(state: u64) -> Problem
     ensures { result ≡ specs.problem_of state }
 {

@@ -19,8 +19,8 @@ use std::alloc::{AllocError, Global};
 use winner_session::{FirstLine, first_moves};
 use winning_sets::{SolveError, Solved};
 
-/// Writes for each man and ray the winner's first moves along it by which he mates within so many moves of his own, and a last line. All of it is
-/// known before the first byte is written.
+/// Writes, for each man and ray, the winner's first moves along it after which he mates in time, and a last line. The
+/// whole text is computed before the first byte is written.
 pub fn first<K: Sink>(alloc: Global, task: &Task, sink: &mut K) -> Status
     requires { IsTask task.now }
     ensures ends { EndsOnSink K.Sink result (OfTask FirstReports task.now) (MayMoveFirst task.now) sink.old sink.new }
@@ -39,7 +39,7 @@ pub fn first<K: Sink>(alloc: Global, task: &Task, sink: &mut K) -> Status
     }
 }
 
-/// Whether the winner has no first move: no move of his own is left, or the loser is to move.
+/// Returns whether the winner has no first move: he has no moves left, or it is the loser's turn.
 pub fn has_no_first_move(task: &Task) -> bool
     ensures { IsTrue result ↔ HasNoFirstMove task.now.moves task.now.problem }
 {

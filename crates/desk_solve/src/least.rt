@@ -1,4 +1,4 @@
-//! Within how few moves the winner mates.
+//! The least number of moves within which the winner mates.
 
 ghost use Rattle.std.specs.Prelude.{◌≡◌, Err, IfOk};
 ghost use Rattle.desk_solve.specs.Least.{LeastFinds, LeastReports, LeastStops};
@@ -14,7 +14,7 @@ use desk_verdict::{ProblemSolver, number_line, print_error};
 use std::alloc::Global;
 use winning_sets::SolveError;
 
-/// Writes within how few moves of his own the winner mates, if he does within so many.
+/// Writes the least number of moves within which the winner mates, up to the task's limit, or that there is none.
 pub fn least<K: Sink>(alloc: Global, task: &Task, sink: &mut K) -> Status
     requires { IsTask task.now }
     ensures ends { EndsOnSink K.Sink result (OfTask LeastReports task.now) (HasSomeToPlay task.now) sink.old sink.new }

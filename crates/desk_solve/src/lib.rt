@@ -1,5 +1,6 @@
-//! The commands that a solver answers: whether the winner of a problem mates, within how few moves, by which first moves, and from how many positions of
-//! a seed. Each has a file under `specs` that says what is reported of it.
+//! The commands `decide`, `least`, `first` and `drill`.
+//!
+//! Each has a file under `specs` that defines what is reported of it.
 #![tactic(auto)]
 
 pub mod decide;

@@ -41,6 +41,6 @@ budget_line step =
 abbrev pub over_budget : Files → StepName → Report
 over_budget files step = refusal_as files is.Budget (budget_line step) false
 
--- the run names the step that exceeds the budget, where that is the error
+-- if the error is a step that exceeds the budget, the run names it
 abbrev pub NamesStep : SolveError → Files → Report → Type 0
 NamesStep error files report = (step : StepName) × (error ≡ Over step) × (report ≡ over_budget files step)

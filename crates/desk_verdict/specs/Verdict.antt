@@ -22,44 +22,44 @@ mate_line n = codes "mate in " ++ decimal n ++ codes "\n"
 abbrev pub no_mate_line : ℕ → List ℕ
 no_mate_line n = codes "no mate in " ++ decimal n ++ codes "\n"
 
--- the line says whether the winner mates within n moves of his own, whatever is replied
+-- the line says whether the winner mates within n moves of his own, whatever the replies
 abbrev pub IsVerdict : ℕ → Problem → List ℕ → Type 0
 IsVerdict n problem line =
     ((line ≡ mate_line n) × Value problem.winner n problem.position)
     ⊎ ((line ≡ no_mate_line n) × (Value problem.winner n problem.position → ⊥))
 
--- no step of the plan by which the winner is to mate within n moves exceeds the budget
+-- no step of the plan of a mate within n moves exceeds the budget
 abbrev pub FitsBudget : Problem → ℕ → ℕ → Type 0
 FitsBudget problem budget n = IsWithin (plan_of problem.winner problem.position n) budget
 
--- the step is the first of that plan that exceeds the budget
+-- the step is the first one of that plan that exceeds the budget
 abbrev pub ExceedsAt : Problem → ℕ → ℕ → StepName → Type 0
 ExceedsAt problem budget n step =
     IsSolveError (plan_of problem.winner problem.position n) n budget (solve_error.Over step)
 
--- The first step of that plan that exceeds the budget is named, or no step does, and this is reported.
+-- The first step of that plan that exceeds the budget is named, or no step does and this is reported.
 abbrev pub WithinBudget : (n budget : ℕ) → Problem → (reports : Report → Type 0) → Files → Report → Type 0
 WithinBudget n budget problem reports =
     FirstOver budget_line (ExceedsAt problem budget n) (λ report. FitsBudget problem budget n × reports report)
 
--- where a step exceeds the budget, this holds of it
+-- if a step exceeds the budget, this is true of it
 abbrev pub IfOver : {A : Type 0} → Result A SolveError → (StepName → Type 0) → Type 0
 IfOver result Holds = IfErr result (λ error. (step : StepName) → error ≡ solve_error.Over step → Holds step)
 
--- the winner is to move, and has no move of his own left to make
+-- it is the winner's turn, and he has no moves left to make
 pub record HasNothingToPlay (moves : ℕ) (problem : Problem) : Type 0 where
   pub none : moves ≡ 0
   pub turn : problem.position.turn ≡ problem.winner
 
--- there is something to play in a task, for which memory may be wanting
+-- the task has something to compute, for which memory may run out
 abbrev pub HasSomeToPlay : Task → Type 0
 HasSomeToPlay task = ¬ HasNothingToPlay task.moves task.problem
 
--- this, of the number of moves, the budget and the problem of a task
+-- the relation, of the moves, the budget and the problem of a task
 abbrev pub OfTask : {A : Type 1} → (ℕ → ℕ → Problem → A) → Task → A
 OfTask this task = this task.moves task.budget task.problem
 
--- the position is sound, and the number of moves is within its limit
+-- the position is sound and the number of moves is within its limit
 pub record IsTask (task : Task) : Type 0 where
   pub sound : Sound task.problem.position
   pub moves : task.moves ≤ MOST_MOVES

@@ -1,5 +1,7 @@
-//! Whether the winner of a problem mates within a number of moves, the line that says so, and the line that names a step of a plan which exceeds the
-//! budget: what the commands share that have a plan. `specs/Verdict` says what comes of a problem, `specs/StepLines` how a step is named.
+//! Decides whether the winner of a problem mates within n moves, for all commands that have a plan.
+//!
+//! It also has the line of the verdict and the line that names a step that exceeds the budget. `specs/Verdict` defines
+//! what is reported of a problem, and `specs/StepLines` how a step is named.
 #![tactic(auto)]
 
 mod problem_solver;

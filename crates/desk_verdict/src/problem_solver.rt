@@ -1,4 +1,4 @@
-//! Solving a problem for one number of moves after another.
+//! Solves a problem for one number of moves after another.
 
 ghost use Rattle.std.specs.Prelude.{◌≡◌, ◌↔◌, ◌≤◌, Err, IsTrue, IfOk, IfSome, OnOk, is_some};
 ghost use Rattle.game_rules.specs.Game.{Sound, Value};
@@ -10,7 +10,8 @@ use limits::{Budget, MOST_MOVES};
 use std::alloc::Global;
 use winning_sets::{SolveError, Solved, Solver};
 
-/// A problem that is solved for one number of moves after another. The budget is that of each of them; what is reached is computed once for all.
+/// A solver of one problem for one number of moves after another. Each of them has the budget; reached sets are
+/// computed once.
 #[derive(Drop)]
 pub struct ProblemSolver {
     pub problem: Problem,
@@ -22,6 +23,7 @@ pub struct ProblemSolver {
 }
 
 impl ProblemSolver {
+    /// Creates a solver of the problem. Each step has the budget.
     pub fn new(alloc: Global, problem: &Problem, budget: Budget) -> ProblemSolver
         requires sound { Sound problem.now.position }
         ensures problem { result.problem ≡ problem.now }
@@ -34,7 +36,9 @@ impl ProblemSolver {
         }
     }
 
-    /// The solved position, where the winner mates within so many moves from there. Where he is to move and has none, nothing has to be computed.
+    /// Returns the solved position if the winner mates within this number of moves. If it is his turn and he has no
+    /// moves left, nothing is computed. The error is the first step that exceeds the budget, or that an allocation
+    /// failed.
     pub fn mates_within(&mut self, moves: u8) -> Result<Option<Solved>, SolveError>
         requires moves { moves ≤ MOST_MOVES }
         ensures won { IfOk result (λ found. IsTrue (is_some found) ↔ Value self.old.problem.winner moves self.old.problem.position) }

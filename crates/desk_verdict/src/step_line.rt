@@ -1,4 +1,4 @@
-//! The line of a step that is past the budget.
+//! The line for a step that exceeds the budget.
 
 ghost use Rattle.std.specs.Prelude.{◌≡◌, ◌≤◌, length};
 ghost use Rattle.desk_report.specs.Ports.{EndsOnSink};
@@ -10,7 +10,7 @@ use desk_base::Sink;
 use desk_report::{Status, refuse};
 use winning_sets::{Part, SolveError, StepName};
 
-/// Writes why a plan was not gone through to its end.
+/// Writes why a plan was not executed to its end, and returns the status.
 pub fn print_error<K: Sink>(sink: &mut K, error: SolveError) -> Status
     ensures ends { EndsOnSink K.Sink result (NamesStep error) (error ≡ SolveError.Memory) sink.old sink.new }
 {
@@ -27,7 +27,7 @@ pub fn print_error<K: Sink>(sink: &mut K, error: SolveError) -> Status
     }
 }
 
-/// The line that names a step that is past the budget.
+/// Returns the line that names a step that exceeds the budget.
 pub fn budget_line(step: StepName) -> LineBuffer
     ensures { result ≡ specs.budget_line step }
 {

@@ -6,7 +6,7 @@ ghost use Rattle.desk_verdict.specs.Verdict.{mate_line, no_mate_line};
 
 use chess_text::line_buffer::LineBuffer;
 
-/// The line that says whether the winner mates within so many moves.
+/// Returns the line that says whether the winner mates within `moves` moves.
 pub fn verdict_line(won: bool, moves: u8) -> LineBuffer
     ensures won { IsTrue won → result ≡ mate_line moves }
     ensures not_won { (IsTrue won → ⊥) → result ≡ no_mate_line moves }
@@ -18,7 +18,7 @@ pub fn verdict_line(won: bool, moves: u8) -> LineBuffer
     }
 }
 
-/// The text, and the number.
+/// Returns the text followed by the number.
 pub fn number_line(text: &[u8], number: u8) -> LineBuffer
     requires { length text.now ≤ 100 }
     ensures { result ≡ text.now ++ decimal number ++ codes "\n" }
