@@ -1,4 +1,4 @@
--- And of a formula and of short formulas, one after another, before it is made.
+-- Conjunctions of a formula and short formulas, before their automata are built.
 use Rattle.std.specs.Prelude.{◌≡◌, ℕ, ◌*◌, ◌≤◌, true, nat_lt, IsTrue, length}
 use Rattle.limits.specs.declared.numbers.TheConstants.{MOST_TRACKS}
 use Rattle.auto_core.specs.Automaton.{Automaton, IsAutomaton}
@@ -28,8 +28,8 @@ use Rattle.formula_auto.specs.declared.errors.CompileError.{CompileError}
 use Rattle.formula_auto.specs.declared.part_auto.PartAuto.{PartAuto}
 use Rattle.formula_auto.specs.declared.part_auto.Remembered.{Remembered}
 
--- the part has an automaton that decides the formula; words lead to each state, and where the formula has a step, there
--- are no more states than the budget
+-- the part has an automaton that decides the formula; each state is reached, and if the formula has a step, there are at most as
+-- many states as the budget
 pub record IsPartOf (f : Tree) (e : ℕ → SetOf) (m : MemoState) (l : MeetState) (part : PartAuto) : Type 0 where
   pub auto : Automaton
   pub has : IsPart m l part auto
@@ -37,8 +37,8 @@ pub record IsPartOf (f : Tree) (e : ℕ → SetOf) (m : MemoState) (l : MeetStat
   pub few : HasStep f → length auto.accept ≤ m.budget
   pub decides : Decides auto f (members e)
 
--- the formula says what that of the base and the rest say together, and the budget has room for all pairs of states of
--- their automata
+-- the formula says what the base and the combined formulas say together, and the budget has room for all pairs of states of their
+-- automata
 pub record IsPending (f : Tree) (e : ℕ → SetOf) (m : MemoState) (l : MeetState) (pending : Pending) : Type 0 where
   pub left : Tree
   pub base : IsPartOf left e m l pending.base
@@ -49,23 +49,24 @@ pub record IsPending (f : Tree) (e : ℕ → SetOf) (m : MemoState) (l : MeetSta
   pub rest_valid : IsAutomaton rest.auto
   pub room : length base.auto.accept * length rest.auto.accept ≤ m.budget
 
--- what the link has is of the formula
+-- the link is of the formula
 abbrev pub IsLink : Tree → (ℕ → SetOf) → MemoState → MeetState → Link → Type 0
 IsLink f e m l (Made made) = IsPartOf f e m l made.part
 IsLink f e m l (Waiting pending) = IsPending f e m l pending
 
--- And of the two has few variables
+-- the conjunction of the two has few variables
 abbrev pub FitsAfter : Tree → Tree → Type 0
 FitsAfter f g = length (free_vars (And f g)) ≤ MOST_TRACKS
 
--- the link is of a formula to which this one may be put
+-- the link is of a formula to which this one can be added
 pub record TakesNext (m : MemoState) (l : MeetState) (link : Link) (g : Tree) : Type 0 where
   pub left : Tree
   pub sets : ℕ → SetOf
   pub is : IsLink left sets m l link
   pub fits : FitsAfter left g
 
--- And of the two is no step past the budget, and the link is of it; some automaton decides it, though none may be made
+-- the conjunction of the two does not exceed the budget, and the link is of it; an automaton that decides it exists, but need not
+-- be built
 pub record IsPutTo (f g : Tree) (e : ℕ → SetOf) (m : MemoState) (l : MeetState) (link : Link) : Type 0 where
   pub is : IsLink (And f g) e m l link
   pub auto : Automaton
@@ -76,22 +77,22 @@ abbrev pub link_done : Link → ℕ
 link_done (Made made) = made.done
 link_done (Waiting pending) = pending.done
 
--- the part is of each formula that the pending And may be of
+-- the part is of each formula that the postponed conjunction may be of
 abbrev pub IsMadePart : MemoState → MeetState → Pending → PartAuto → Type 0
 IsMadePart m l pending part = (f : Tree) (e : ℕ → SetOf) → IsPending f e m l pending → IsPartOf f e m l part
 
--- what was made of a link, after as many steps
+-- the automaton of a link, after as many steps
 pub record IsMadeLink (m : MemoState) (l : MeetState) (link : Link) (made : Remembered) : Type 0 where
   pub done : made.done ≡ link_done link
   pub is : (f : Tree) (e : ℕ → SetOf) → IsLink f e m l link → IsPartOf f e m l made.part
 
--- after the step of this number the formula is put to each that the link before may be of
+-- after the step with this number the formula is added to each one that the link before may be of
 pub record IsNextLink (m : MemoState) (l : MeetState) (before : Link) (g : Tree) (step : ℕ) (link : Link) : Type 0
   where
     pub done : link_done link ≡ step
     pub puts : (f : Tree) (e : ℕ → SetOf) → FitsAfter f g → IsLink f e m l before → IsPutTo f g e m l link
 
--- the step of this number is past the budget, or memory ran out
+-- the step with this number exceeds the budget, or an allocation failed
 pub record IsStepStopped (f g : Tree) (e : ℕ → SetOf) (budget step : ℕ) (why : CompileError) : Type 0 where
   pub cause : Grown
   pub is : why ≡ step_error step cause
@@ -101,20 +102,20 @@ abbrev pub IsNextStopped : MemoState → MeetState → Link → Tree → ℕ →
 IsNextStopped m l before g step why =
     (f : Tree) (e : ℕ → SetOf) → IsLink f e m l before → IsStepStopped f g e m.budget step why
 
--- with this rest in place of its own, whatever the number of the step, the formula is put to what waits
+-- with these combined formulas in place of its own, the postponed conjunction includes the formula, whatever the number of the step
 abbrev pub IsLonger : MemoState → MeetState → Pending → Tree → ShortPart → Type 0
 IsLonger m l pending g rest =
     (f : Tree) (e : ℕ → SetOf) (step : ℕ) → FitsAfter f g → IsPending f e m l pending
     → IsPutTo f g e m l (Waiting (record { base = pending.base; rest = rest; done = step }))
 
--- the link waits with the short formula as its rest
+-- the link is postponed, with the short formula as its combined formulas
 pub record IsBegunWith (base : PartAuto) (g : Tree) (part : PartAuto) (step : ℕ) (link : Link) : Type 0 where
   pub formula : Formula
   pub same : tree_of formula ≡ g
   pub is :
       link ≡ Waiting (record { base = base; rest = record { formula = formula; part = part }; done = step })
 
--- a valid automaton with so many states
+-- a valid automaton with this many states
 pub record HasStates (a : Automaton) (states : ℕ) : Type 0 where
   pub valid : IsAutomaton a
   pub count : length a.accept ≡ states
@@ -125,11 +126,11 @@ pub record HasRoom (a b : Automaton) (budget : ℕ) : Type 0 where
   pub right : IsAutomaton b
   pub room : length a.accept * length b.accept ≤ budget
 
--- that of the automata of two parts
+-- the same for the automata of two parts
 abbrev pub HaveRoom : MemoState → MeetState → PartAuto → PartAuto → Type 0
 HaveRoom m l left right = (a b : Automaton) → IsPart m l left a → IsPart m l right b → HasRoom a b m.budget
 
--- no step of the formula exceeds the budget, the memo has passed it, and the link is of it
+-- no step of the formula exceeds the budget, the cache has processed it, and the link is of it
 pub record IsLinkedOn (f : Tree) (standing : PartPosition) (old new : MemoState) (meets new_meets : MeetState)
     (link : Link) : Type 0 where
   pub auto : Automaton

@@ -1,4 +1,4 @@
--- How the logic stores what a memo and a table of meets keep.
+-- Encodings of caches in the logic.
 use Rattle.std.specs.Prelude.{ℕ, List, refl}
 use Rattle.std.specs.Coded.{Coded, code_by, coded×, coded_ℕ, coded_list}
 use Rattle.auto_core.specs.Automaton.{Automaton}

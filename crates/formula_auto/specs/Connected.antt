@@ -1,4 +1,4 @@
--- Two formulas put together.
+-- Two formulas combined by a connective.
 use Rattle.lin_formula.specs.Tree as tree
 use Rattle.lin_formula.specs.Tree.{Tree}
 use Rattle.lin_formula.specs.TreeOf.{tree_of}
@@ -6,7 +6,7 @@ use Rattle.auto_bool.specs.declared.connective.Connective.{Connective}
 use Rattle.auto_bool.specs.declared.connective.Connective.TheVariants.{And, Or, AndNot}
 use Rattle.formula_auto.specs.declared.pair.FormulaPair.{FormulaPair}
 
--- And or Or of them, or And of the first and Not of the second
+-- the conjunction or disjunction of both, or the conjunction of the first and the negation of the second
 abbrev pub connect : Connective → Tree → Tree → Tree
 connect And f g = tree.And f g
 connect Or f g = tree.Or f g

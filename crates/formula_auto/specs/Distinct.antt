@@ -3,7 +3,7 @@ use Rattle.std.specs.Prelude.{List, [], ◌∷◌}
 use Rattle.track_word.specs.declared.tracks.Var.{Var}
 use Rattle.lin_formula.specs.Free.{IsOneOf}
 
--- no variable stands in two places
+-- no variable occurs twice
 abbrev pub Apart : List Var → Type 0
 Apart [] = Unit {0}
 Apart (y ∷ ys) = (IsOneOf y ys → ⊥) × Apart ys

@@ -10,7 +10,7 @@ use Rattle.formula_auto.specs.declared.entry.MemoEntry.{MemoEntry}
 abbrev pub entry_of : MemoEntry → Formula × Automaton
 entry_of entry = (entry.formula, entry.auto)
 
--- at this place stands an entry of the formula
+-- the entry at this index is of the formula
 pub record IsPlaceOf (entries : List MemoEntry) (f : Tree) (place : ℕ) : Type 0 where
   pub entry : MemoEntry
   pub there : slice_get entries place ≡ Some entry

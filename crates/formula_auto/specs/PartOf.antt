@@ -1,4 +1,4 @@
--- The automaton of a part of a formula, of its own, in a memo or in a table of meets.
+-- The automaton of a part of a formula: its own, or one of a cache.
 use Rattle.std.specs.Prelude.{◌≡◌, ◌≤◌, ℕ, Some, slice_get, List, length}
 use Rattle.auto_core.specs.Automaton.{Automaton}
 use Rattle.auto_core.specs.Reduced.{AllReached}
@@ -16,7 +16,7 @@ use Rattle.formula_auto.specs.declared.part_auto.PartAuto.{PartAuto}
 use Rattle.formula_auto.specs.declared.part_auto.PartAuto.TheVariants.{Fresh, Kept, Paired, Named, Shared}
 use Rattle.formula_auto.specs.declared.part_auto.Remembered.{Remembered}
 
--- the part's own automaton, or a shared one, that at its place in the memo or in the table of meets, or that of a name
+-- the part's own automaton, a shared one, the cached one at its index, or the set with its name
 abbrev pub IsPart : MemoState → MeetState → PartAuto → Automaton → Type 0
 IsPart m l (Fresh a) b = a ≡ b
 IsPart m l (Kept place) b = (f : Formula) × (slice_get m.entries place ≡ Some (f, b))
@@ -24,23 +24,22 @@ IsPart m l (Paired place) b = (f : Formula) × (slice_get l.pairs place ≡ Some
 IsPart m l (Named set) b = slice_get l.sets set.0 ≡ Some b
 IsPart m l (Shared auto) b = auto.value ≡ b
 
--- the same entry of the memo, the same pair of the table of meets or the same set of the table
+-- the same cache entry, or the same set of the table
 abbrev pub IsSamePlace : PartAuto → PartAuto → Type 0
 IsSamePlace (Kept place) (Kept other) = place ≡ other
 IsSamePlace (Paired place) (Paired other) = place ≡ other
 IsSamePlace (Named set) (Named other) = set.0 ≡ other.0
 IsSamePlace _ _ = ⊥
 
--- the part has an automaton that decides whether these variables are in the set of a number, to each state of which
--- words lead
+-- the part has an automaton that decides whether these variables are in the set with a number, each of whose states is reached
 pub record IsMembership (l : MeetState) (number : ℕ) (vars : List Var) (part : PartAuto) : Type 0 where
   pub auto : Automaton
   pub has : (m : MemoState) → IsPart m l part auto
   pub reached : AllReached auto
   pub decides : Decides auto (Among number vars) (members (tables l.sets))
 
--- the part has the automaton that compiling it makes; words lead to each state, and where the part has a step, there
--- are no more states than the budget
+-- the part has the automaton that compiling it returns; each state is reached, and if the part has a step, there are at most as
+-- many states as the budget
 pub record IsRememberedPart (f : Tree) (e : ℕ → SetOf) (standing : PartPosition) (old new : MemoState)
     (meets : MeetState) (made : Remembered) : Type 0 where
   pub auto : Automaton
@@ -49,11 +48,11 @@ pub record IsRememberedPart (f : Tree) (e : ℕ → SetOf) (standing : PartPosit
   pub few : HasStep f → length auto.accept ≤ old.budget
   pub remembered : IsRemembered f e standing old new auto made.done
 
--- the part has the automaton that compiling it on a table of meets makes
+-- the part has the automaton that compiling it over a `MeetTable` returns
 abbrev pub IsRememberedOn : Tree → PartPosition → MemoState → MemoState → MeetState → MeetState → Remembered → Type 0
 IsRememberedOn f standing old new meets new_meets made =
     IsRememberedPart f (tables meets.sets) standing old new new_meets made
 
--- why a part has no automaton on a table of meets, and the memo then
+-- why a part has no automaton over a `MeetTable`, and the cache then
 abbrev pub IsInterruptedOn : Tree → PartPosition → MemoState → MemoState → MeetState → CompileError → Type 0
 IsInterruptedOn f standing old new meets why = IsInterrupted f (tables meets.sets) standing old new why

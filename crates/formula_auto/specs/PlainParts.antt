@@ -1,4 +1,4 @@
--- The greatest plain subformulas of a formula.
+-- The greatest plain subformulas of a formula: these name no set, and have a step.
 use Rattle.std.specs.Prelude.{ℕ, ◌-◌, Bool, ◌&&◌, if◌then◌else◌, nat_eq, nat_lt, nat_le, List, [], ◌∷◌, ◌++◌, length}
 use Rattle.lin_formula.specs.Tree.{Tree, Lin, Value, Among, Not, And, Or, Ex, symbols, steps}
 
@@ -6,11 +6,11 @@ use Rattle.lin_formula.specs.Tree.{Tree, Lin, Value, Among, Not, And, Or, Ex, sy
 abbrev pub is_plain : Tree → Bool
 is_plain f = nat_eq (length (symbols f)) 0 && nat_lt 0 (length (steps f))
 
--- where the formula is plain, itself, if it ends within so many steps; where it is not, what its parts have
+-- the formula itself if it is plain and ends within this many steps; the subformulas of its parts if it is not plain
 abbrev pub plain_or : Tree → ℕ → List Tree → List Tree
 plain_or f n parts = if is_plain f then (if nat_le (length (steps f)) n then f ∷ [] else []) else parts
 
--- the greatest plain subformulas that end within the first so many steps of a formula, in post-order
+-- the greatest plain subformulas that end within the first steps of a formula, in post-order
 abbrev pub plain_within : Tree → ℕ → List Tree
 plain_within (Lin terms rel bound) n = []
 plain_within (Value x k) n = []

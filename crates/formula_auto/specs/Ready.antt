@@ -1,4 +1,4 @@
--- What a formula has to be, so that each part of it can be compiled.
+-- What a formula needs so that each part of it can be compiled.
 use Rattle.std.specs.Prelude.{◌≤◌, List, length}
 use Rattle.limits.specs.declared.numbers.TheConstants.{MOST_TRACKS}
 use Rattle.track_word.specs.Tracks.{with_vars}
@@ -7,7 +7,7 @@ use Rattle.auto_core.specs.Automaton.{Automaton}
 use Rattle.lin_formula.specs.Tree.{Tree, Lin, Value, Among, Not, And, Or, Ex, free_vars}
 use Rattle.formula_auto.specs.Compiled.{IsSetFor}
 
--- well made, with sets for what it names, and few free variables at each And and Or
+-- well made, with a set for each name, and with few free variables at each conjunction and disjunction
 abbrev pub IsReady : Tree → List Automaton → Type 0
 IsReady (Lin terms rel bound) sets = IsAtom terms bound
 IsReady (Value x n) sets = Unit {0}

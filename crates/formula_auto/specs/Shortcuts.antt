@@ -1,4 +1,4 @@
--- Steps of which it is seen at once what they make.
+-- Steps whose results are known without a product.
 use Rattle.std.specs.Prelude.{◌≤◌, ◌⊎◌, ℕ, length}
 use Rattle.auto_core.specs.Automaton.{Automaton}
 use Rattle.auto_bool.specs.declared.connective.Connective.{Connective}
@@ -14,25 +14,24 @@ use Rattle.formula_auto.specs.declared.part_auto.PartAuto.{PartAuto}
 use Rattle.formula_auto.specs.declared.shortcut.Shortcut.{Shortcut}
 use Rattle.formula_auto.specs.declared.shortcut.Shortcut.TheVariants as shortcut
 
--- what it stands for is what the connective makes of two automata, within the budget: one of them, or any that accepts
--- no word
+-- the shortcut's result is that of the connective on two automata, within the budget: one of them, or any that accepts no word
 abbrev pub Serves : Connective → Automaton → Automaton → ℕ → Shortcut → Type 0
 Serves connective a b budget (shortcut.Operand operand) = IsStepWithin connective a b budget (operand_of operand a b)
 Serves connective a b budget shortcut.Nothing = (n : Automaton) → IsNoneOf a n → IsStepWithin connective a b budget n
 
--- that of an automaton and itself
+-- the same for an automaton and itself
 abbrev pub with_itself : Connective → Shortcut
 with_itself And = shortcut.Operand Left
 with_itself Or = shortcut.Operand Left
 with_itself AndNot = shortcut.Nothing
 
--- it is what the connective makes of the automata of two parts, within the memo's budget
+-- it is the result of the connective on the automata of two parts, within the cache's budget
 abbrev pub IsShortcutOf : Connective → MemoState → MeetState → PartAuto → PartAuto → Shortcut → Type 0
 IsShortcutOf connective m l left right shortcut =
     (a b : Automaton) → IsPart m l left a → IsPart m l right b → Serves connective a b m.budget shortcut
 
--- two parts are at one place, where the memo's budget has room for the states; or their product is one of them, as it is
--- of an automaton that accepts all words or none, by a single state
+-- two parts have the same automaton and the cache's budget has room for its states; or their product equals one of them, because an
+-- automaton with one state accepts all words or none
 pub record IsSeen (connective : Connective) (m : MemoState) (l : MeetState) (left right : PartAuto) : Type 0 where
   pub first : Automaton
   pub second : Automaton

@@ -1,4 +1,4 @@
-//! And of a formula and of short formulas, one after another, before it is made.
+//! Conjunctions of a formula and short formulas, before their automata are built.
 ghost use Rattle.std.specs.Prelude.{◌≡◌, IfSome};
 ghost use Rattle.lin_formula.specs.TreeOf.{tree_of};
 ghost use Rattle.formula_auto.specs.Chains.{IsExtension, and_of, link_done};
@@ -14,7 +14,7 @@ pub struct ShortPart {
     pub part: PartAuto,
 }
 
-/// And of a part and of short formulas that are put together already, which is not made yet, and the number of its last step.
+/// A conjunction that is not built yet: a part, the short formulas already combined, and the number of the last step.
 #[derive(Drop)]
 pub struct Pending {
     pub base: PartAuto,
@@ -22,17 +22,17 @@ pub struct Pending {
     pub done: u32,
 }
 
-/// A chain of And so far.
+/// A chain of conjunctions so far.
 #[derive(Drop)]
 pub enum Link {
-    /// Its automaton is made.
+    /// Its automaton is built.
     Made(Remembered),
-    /// It is known to be within the budget, and is not made yet.
+    /// It is known to be within the budget, and is not built yet.
     Waiting(Pending),
 }
 
 impl Link {
-    /// How many steps were taken up to it.
+    /// Returns the number of steps taken up to the chain.
     pub fn done(&self) -> u32
         ensures { result ≡ link_done self.now }
     {
@@ -43,7 +43,7 @@ impl Link {
     }
 }
 
-/// The next formula of a chain, its automaton, and the number of the step that puts it there.
+/// The next formula of a chain, its automaton, and the number of the step that adds it.
 #[derive(Drop)]
 pub struct Next<'a> {
     pub formula: &'a Formula,
@@ -51,14 +51,14 @@ pub struct Next<'a> {
     pub step: u32,
 }
 
-/// And of a formula that names a set and of a short one.
+/// A conjunction of a formula that names a set and a short one.
 #[derive(Clone, Copy)]
 pub struct Extension<'a> {
     pub left: &'a Formula,
     pub right: &'a Formula,
 }
 
-/// A formula as such an And, if it is one.
+/// Returns a formula as such a conjunction, if it is one.
 pub fn as_extension<'a>(f: &'a Formula) -> Option<Extension<'a>>
     ensures is { IfSome result IsExtension }
     ensures same { IfSome result (λ extension. and_of extension ≡ tree_of f.now) }

@@ -1,5 +1,5 @@
-//! How a chain of And is lengthened and made. As long as the budget has room for all tuples of states of what it is made of, none of
-//! its steps can exceed the budget, and the short formulas at its end are put together first.
+//! How a chain of conjunctions is extended and built. As long as the budget has room for all tuples of states of its operands, none
+//! of its steps can exceed the budget; the short formulas at its end are then combined first.
 ghost use Rattle.std.specs.Prelude.{◌≡◌, ℕ, ◌*◌, ◌<◌, ◌≤◌, ◌^◌, IfOk, IfErr, IfSome, IsTrue};
 ghost use Rattle.auto_core.specs.Automaton.{Automaton};
 ghost use Rattle.lin_formula.specs.Tree as tree;
@@ -25,14 +25,14 @@ use auto_walk::Grown;
 use lin_formula::{Formula, and, copy};
 use std::alloc::{AllocError, Global};
 
-/// Short formulas are put together only where the numbers of states of their automata multiply to no more.
+/// Short formulas are combined only if the product of their automata's state counts is at most this.
 const MOST_TOGETHER: u64 = 72;
 
-/// And only where the formula that they are put to has at least so many times as many.
+/// They are combined only if the other operand has at least this many times as many states.
 const LEAST_TIMES: u64 = 4;
 
 impl Memo {
-    /// The automaton of a chain.
+    /// Returns the automaton of a chain.
     pub(crate) fn closed(
         &self,
         alloc: Global,
@@ -52,7 +52,7 @@ impl Memo {
         }
     }
 
-    /// The automaton of the base and of the rest.
+    /// Returns the automaton of the base and the combined short formulas.
     fn put_to_base(
         &self,
         alloc: Global,
@@ -70,7 +70,7 @@ impl Memo {
         }
     }
 
-    /// A chain with one more formula. And of the two is seen to be within the budget and waits, or is made.
+    /// Extends a chain by one formula. The conjunction is known to be within the budget and is postponed, or it is built.
     pub(crate) fn lengthened(
         &mut self,
         alloc: Global,
@@ -92,7 +92,7 @@ impl Memo {
         }
     }
 
-    /// A chain that is not made yet with one more formula: this is put together with the rest, or the chain is made before.
+    /// Extends a postponed chain by one formula: the formula is combined with the short ones, or the chain is built first.
     fn prolonged(
         &mut self,
         alloc: Global,
@@ -121,7 +121,7 @@ impl Memo {
         }
     }
 
-    /// A formula put to one whose automaton is made.
+    /// Extends a formula with an automaton by one formula.
     fn put_next(
         &self,
         alloc: Global,
@@ -144,7 +144,7 @@ impl Memo {
         self.put_at_once(alloc, meets, left, next)
     }
 
-    /// The step is taken now.
+    /// Performs the step at once.
     fn put_at_once(
         &self,
         alloc: Global,
@@ -173,7 +173,8 @@ impl Memo {
         }
     }
 
-    /// The rest of a chain with one more formula, if the budget has room for the base with it and that pays.
+    /// Returns the short formulas of a chain with one more, if the budget has room for the product with the base and if that is
+    /// faster.
     fn longer(
         &mut self,
         alloc: Global,
@@ -201,7 +202,7 @@ impl Memo {
         Ok(Some(rest))
     }
 
-    /// And of two short formulas: shared by the table of these, or made and put there.
+    /// Returns the conjunction of two short formulas, from the short-formula cache, or built and stored there.
     fn together(
         &mut self,
         alloc: Global,
@@ -228,7 +229,7 @@ impl Memo {
         Ok(ShortPart { formula, part })
     }
 
-    /// And of two parts, where the budget has room for all pairs of states.
+    /// Returns the conjunction of two parts whose pairs of states fit into the budget.
     fn all_pairs(
         &self,
         alloc: Global,
@@ -250,7 +251,7 @@ impl Memo {
         }
     }
 
-    /// How many states the automaton of a part has.
+    /// Returns the number of states of a part's automaton.
     fn states_of(&self, meets: &MeetTable, part: &PartAuto) -> u64
         requires { (a : Automaton) × IsPart self.now meets.now part.now a }
         ensures is { (a : Automaton) → IsPart self.now meets.now part.now a → HasStates a result }
@@ -259,8 +260,8 @@ impl Memo {
         u64::from(self.automaton(meets, part).states())
     }
 
-    /// Whether it pays to put off And with an automaton of so many states: they are few, beside the base's too, and the budget has
-    /// room for all pairs.
+    /// Returns whether it is faster to postpone a conjunction with an automaton of this many states: they are few, also compared
+    /// with the base, and the budget has room for all pairs.
     fn pays(&self, base: u64, own: u64) -> bool
         requires { base < 2 ^ 31 }
         ensures room { IsTrue result → base * own ≤ self.now.budget }
@@ -271,7 +272,7 @@ impl Memo {
     }
 }
 
-/// The chain that begins with a formula whose automaton is made and a short one.
+/// Returns the chain that starts with a formula with an automaton and a short one.
 fn begun_with(alloc: Global, base: PartAuto, next: Next) -> Result<Link, AllocError>
     ensures { IfOk result (λ link. IsBegunWith base (tree_of next.entry.formula.now) next.entry.part next.entry.step link) }
 {
@@ -283,7 +284,7 @@ fn begun_with(alloc: Global, base: PartAuto, next: Next) -> Result<Link, AllocEr
     Ok(Link::Waiting(Pending { base, rest, done }))
 }
 
-/// And of copies of two formulas.
+/// Returns the conjunction of copies of two formulas.
 fn and_copied(alloc: Global, left: &Formula, right: &Formula) -> Result<Formula, AllocError>
     ensures { IfOk result (λ made. tree_of made ≡ tree.And (tree_of left.now) (tree_of right.now)) }
 {

@@ -1,5 +1,5 @@
-//! The way down a formula and up again, a step at a time. What was made of a plain formula once is taken from the memo, and what was
-//! made of And of two sets from the table of meets.
+//! The recursion of compiling. The automaton of a set-free subformula is taken from the cache, and that of a conjunction of two
+//! sets from the table of such conjunctions.
 ghost use Rattle.std.specs.Prelude.{◌≡◌, ◌+◌, ◌<◌, ◌≤◌, ◌^◌, length, IfOk, IfErr, OnOk, Err, true, false};
 ghost use Rattle.auto_core.specs.Automaton.{Automaton};
 ghost use Rattle.auto_core.specs.Integers.{DecidesIntegers};
@@ -43,9 +43,9 @@ use limits::Budget;
 use lin_formula::Formula;
 use std::alloc::{AllocError, Global};
 
-/// The automaton of a formula: reduced, with the free variables as tracks.
-/// Each And, Or and Ex is a step, numbered from 1 in post-order, and stops where it has to tell apart more words than the budget.
-/// Goes down the formula, a call a level.
+/// Returns the automaton of a formula: minimal, with the free variables as tracks (Büchi 1960).
+/// Each `And`, `Or` and `Ex` is a step, numbered from 1 in post-order. Recurses one call per level. Errors: `Over` with the number
+/// of the first step that needs more states than the budget, `Memory` if an allocation fails.
 pub fn compile(
     alloc: Global,
     f: &Formula,
@@ -65,7 +65,7 @@ pub fn compile(
     memo.whole(alloc, f, &mut meets, Recall::Nothing)
 }
 
-/// Whether the formula itself is to be looked up.
+/// Returns whether the formula itself is looked up.
 fn is_looked_up(f: &Formula, recall: Recall) -> bool
     ensures { result ≡ is_recalled recall (tree_of f.now) }
 {
@@ -75,7 +75,8 @@ fn is_looked_up(f: &Formula, recall: Recall) -> bool
     }
 }
 
-/// And of two formulas. Where the second is Not of a formula, and is not looked up itself, both are one step.
+/// Returns a conjunction as a pair of operands. If the second operand is a negation that is not looked up itself, both connectives
+/// are one step.
 fn conjunction<'a>(left: &'a Formula, right: &'a Formula, recall: Recall) -> FormulaPair<'a>
     ensures connected { connected result ≡ tree.And (tree_of left.now) (tree_of right.now) }
     ensures one_step { MayBeOneStep recall result.connective (tree_of result.right.now) }
@@ -92,8 +93,8 @@ fn conjunction<'a>(left: &'a Formula, right: &'a Formula, recall: Recall) -> For
 }
 
 impl Memo {
-    /// As `compile` with the memo's budget. The greatest plain subformulas that are in the table are taken from it, and the others
-    /// are entered. Goes down the formula, a call a level.
+    /// Compiles as the function `compile` does, with the cache's budget. The greatest set-free subformulas with steps are looked
+    /// up, and stored if they are new. Recurses one call per level.
     pub fn compile(
         &mut self,
         alloc: Global,
@@ -115,8 +116,8 @@ impl Memo {
         self.whole(alloc, f, &mut meets, Recall::Plain)
     }
 
-    /// As `Memo::compile` over the table of the table of meets, for those who go on with the automaton: what the last step made is not reduced.
-    /// And of two sets is made once for all formulas that are compiled on the table of meets.
+    /// Compiles as `Memo::compile` does, over the sets of `meets`, but does not minimize the result of the last step. The
+    /// conjunction of two sets is built once for all formulas that are compiled with one `meets`.
     pub fn compile_unreduced(
         &mut self,
         alloc: Global,
@@ -141,7 +142,7 @@ impl Memo {
         self.whole_on(alloc, f, meets, Recall::Plain)
     }
 
-    /// As `compile_unreduced`, apart from the entries, for sets that never come again: of these none is looked up, and none is added.
+    /// Compiles as `compile_unreduced` does, but neither looks up nor stores subformulas: for sets that occur only once.
     pub fn compile_uncached(
         &mut self,
         alloc: Global,
@@ -164,7 +165,7 @@ impl Memo {
         self.whole_on(alloc, f, meets, Recall::Nothing)
     }
 
-    /// The automaton of a whole formula, reduced, to keep.
+    /// Returns the minimal automaton of a whole formula.
     fn whole(
         &mut self,
         alloc: Global,
@@ -183,7 +184,7 @@ impl Memo {
         Ok(self.taken(alloc, meets, made.part)?)
     }
 
-    /// The automaton of a whole formula, to keep.
+    /// Returns the automaton of a whole formula.
     fn whole_on(
         &mut self,
         alloc: Global,
@@ -203,7 +204,7 @@ impl Memo {
         Ok(self.finished(alloc, f, meets, made.part)?)
     }
 
-    /// The automaton of a part that is a whole formula. One that no step made is reduced.
+    /// Returns the automaton of a part that is a whole formula. It is minimized if no step built it.
     fn finished(
         &self,
         alloc: Global,
@@ -222,7 +223,7 @@ impl Memo {
         self.taken(alloc, meets, part)
     }
 
-    /// An automaton of a part of a formula. Only that of a memo's entry is reduced.
+    /// Returns an automaton of a part of a formula. Only that of a cache entry is known to be minimal.
     #[cycle(compiled)]
     fn compiled(
         &mut self,
@@ -253,7 +254,7 @@ impl Memo {
         self.from_parts(alloc, f, meets, standing)
     }
 
-    /// The automaton of a plain formula: lent by the table, or made and entered.
+    /// Returns the automaton of a set-free formula: from the cache, or built and stored.
     #[cycle(compiled)]
     fn recalled(
         &mut self,
@@ -282,7 +283,7 @@ impl Memo {
         }
     }
 
-    /// The automaton of a plain formula that is not in the table, and then is. Of its parts none is looked up.
+    /// Builds and stores the automaton of a set-free formula. None of its parts is looked up.
     #[cycle(compiled)]
     fn entered(
         &mut self,
@@ -313,7 +314,8 @@ impl Memo {
         })
     }
 
-    /// The automaton of a short formula that the memo is not asked for: shared by the table of these, or made and put there.
+    /// Returns the automaton of a short formula that the cache is not used for: from the short-formula cache, or built and stored
+    /// there.
     #[cycle(compiled)]
     fn shared(
         &mut self,
@@ -345,7 +347,8 @@ impl Memo {
         })
     }
 
-    /// The automaton of And of two sets: lent by the table of meets, or made and remembered there. No memo has it, since it names sets.
+    /// Returns the automaton of a conjunction of two sets: from `meets`, or built and stored there. Since it names sets, no cache
+    /// has it.
     #[cycle(compiled)]
     fn paired(
         &mut self,
@@ -377,7 +380,7 @@ impl Memo {
         })
     }
 
-    /// The automaton of a formula from those of its parts.
+    /// Returns the automaton of a formula, built from those of its parts.
     #[cycle(compiled)]
     fn from_parts(
         &mut self,
@@ -440,7 +443,7 @@ impl Memo {
         }
     }
 
-    /// The automaton of two formulas put together. Where it is that of one of them, that one's is handed on.
+    /// Returns the automaton of two combined formulas, which may be that of one of them.
     #[cycle(compiled)]
     fn both(
         &mut self,
@@ -475,7 +478,7 @@ impl Memo {
         }
     }
 
-    /// The automaton of a chain of And.
+    /// Returns the automaton of a chain of conjunctions.
     #[cycle(compiled)]
     fn chained(
         &mut self,
@@ -497,7 +500,7 @@ impl Memo {
         Ok(made)
     }
 
-    /// A chain of And. The last formulas of it may be still to be put to those before them.
+    /// Returns a chain of conjunctions, whose last operands may not be combined yet.
     #[cycle(compiled)]
     fn linked(
         &mut self,
@@ -529,7 +532,7 @@ impl Memo {
         Ok(link)
     }
 
-    /// What the last formula of a chain is put to.
+    /// Returns the first operand of a chain.
     #[cycle(compiled)]
     fn begun(
         &mut self,
@@ -552,7 +555,7 @@ impl Memo {
         Ok(Link::Made(made))
     }
 
-    /// What the connective makes of two parts, within the budget. Where it is one of the two, nothing is made.
+    /// Applies the connective to two parts, within the budget. If the result equals one of the two, nothing is built.
     pub(crate) fn combine(
         &self,
         alloc: Global,

@@ -1,4 +1,4 @@
-//! Formulas with their automata, in the order in which they came.
+//! Formulas with their automata, in the order of insertion.
 ghost use Rattle.std.specs.Prelude.{◌≢◌, All, IfSome, IfNone};
 ghost use Rattle.lin_formula.specs.TreeOf.{tree_of};
 ghost use Rattle.formula_auto.specs.EntryOf.{IsPlaceOf};
@@ -13,7 +13,7 @@ pub struct MemoEntry {
     pub auto: Auto,
 }
 
-/// The place of the first entry of a formula. Goes over the entries from their start.
+/// Returns the index of the first entry of a formula. Searches linearly.
 pub fn place_of(entries: &[MemoEntry], f: &Formula) -> Option<usize>
     ensures none { IfNone result (All (λ entry. tree_of entry.formula ≢ tree_of f.now) entries.now) }
     ensures some { IfSome result (IsPlaceOf entries.now (tree_of f.now)) }

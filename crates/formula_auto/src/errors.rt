@@ -1,4 +1,4 @@
-//! Why a formula has no automaton.
+//! Errors of compiling.
 ghost use Rattle.std.specs.Prelude.{◌≡◌};
 ghost use Rattle.formula_auto.specs.declared.errors.CompileError.TheVariants.{Memory};
 ghost use Rattle.formula_auto.specs.StepError.{step_error};
@@ -9,14 +9,14 @@ use std::alloc::AllocError;
 /// Why a formula has no automaton.
 #[derive(Clone, Copy, PartialEq, Eq)]
 pub enum CompileError {
-    /// The step of this number, counted from 1 in post-order, is the first whose spread exceeds the budget.
+    /// The step with this number, counted from 1 in post-order, is the first that needs more states than the budget.
     Over { step: u32 },
-    /// Memory ran out.
+    /// An allocation failed.
     Memory,
 }
 
 impl CompileError {
-    /// The error of the step of this number.
+    /// Returns the error of the step with this number.
     pub(crate) fn at(step: u32, why: Grown) -> CompileError
         ensures { result ≡ step_error step why }
     {

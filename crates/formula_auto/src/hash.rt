@@ -1,16 +1,16 @@
-//! Formulas as numbers to find them by.
+//! Hashes of formulas.
 use lin_formula::Formula;
 use std::hash::{FoldHasher, Hash, Hasher};
 use track_word::Rel;
 
-/// A number that depends on the formula alone. Two formulas may have one.
+/// Returns a hash of the formula. Different formulas may have the same hash.
 pub fn hash_of(f: &Formula) -> u64 {
     let mut hasher = FoldHasher::default();
     write_to(&mut hasher, f);
     hasher.finish()
 }
 
-/// Writes the parts in order and then what puts them together. Goes down the formula, a call a level.
+/// Writes the parts in order and then the connective. Recurses one call per level.
 fn write_to(hasher: &mut FoldHasher, f: &Formula) {
     match f {
         Formula::Lin { terms, rel, bound } => {

@@ -1,4 +1,4 @@
-//! What two parts of a formula make, put together.
+//! The result of combining two parts of a formula.
 ghost use Rattle.std.specs.Prelude.{◌≡◌};
 ghost use Rattle.formula_auto.specs.Joints.{joint_part};
 
@@ -6,17 +6,17 @@ use crate::part_auto::PartAuto;
 use auto_bool::Operand;
 use auto_core::Auto;
 
-/// What a connective makes of two parts.
+/// The result of a connective on two parts.
 #[derive(Drop)]
 pub enum Joint {
-    /// One of the two.
+    /// One of the two parts.
     Operand(Operand),
-    /// An automaton that was made for them.
+    /// A new automaton.
     Made(Auto),
 }
 
 impl Joint {
-    /// What was made of the two as a part. The one of them that it is not is let go, or both are.
+    /// Turns the result into a `PartAuto`, and drops the operands that it does not use.
     pub fn of(self, left: PartAuto, right: PartAuto) -> PartAuto
         ensures { result ≡ joint_part self left right }
     {

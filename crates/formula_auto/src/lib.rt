@@ -1,6 +1,8 @@
-//! Formulas compiled to automata, step by step and within a budget (Büchi 1960). `specs/Decides` says when an automaton decides a formula,
-//! `specs/Step` how many words a step has to tell apart by what its parts mean, whatever the automata are. `specs/PlainParts` has the
-//! subformulas that a memo keeps, `specs/MemoState` how it changes, `specs/MeetState` what is kept over one table of sets.
+//! Compiles formulas to automata, step by step and within a budget (Büchi 1960).
+//! Three caches save work: one of set-free subformulas (`Memo`), a lossy one of short subformulas, and one of conjunctions of two
+//! named sets within one union (`MeetTable`). `specs/Decides` defines when an automaton decides a formula, and `specs/Step` how
+//! many states a step needs, by the meanings of its parts. `specs/PlainParts` has the subformulas that are cached,
+//! `specs/MemoState` how the cache changes, and `specs/MeetState` what is stored for one table of sets.
 #![tactic(auto)]
 
 mod chain;

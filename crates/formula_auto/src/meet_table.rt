@@ -1,4 +1,4 @@
-//! The formulas of one union, all over one table of sets. Many of them begin with And of the same two sets.
+//! The cache for the formulas of one union, all over one table of sets. Many of them start with the same conjunction of two sets.
 ghost use Rattle.std.specs.Prelude.{◌≡◌, IfOk, IfSome, [], Some, slice_get, length};
 ghost use Rattle.auto_core.specs.Automaton.{Automaton};
 ghost use Rattle.lin_formula.specs.declared.formula.Formula.{Formula};
@@ -18,7 +18,7 @@ use std::alloc::{AllocError, Global};
 use std::marker::Model;
 use track_word::Var;
 
-/// A table of sets, lent, and the automata that were made of And of two of its sets, for one budget.
+/// A borrowed table of sets, and the automata of conjunctions of two of its sets, for one budget.
 #[derive(Drop)]
 pub struct MeetTable<'a> {
     sets: &'a SetTable,
@@ -43,7 +43,7 @@ impl<'a> Model for MeetTable<'a> {
 }
 
 impl<'a> MeetTable<'a> {
-    /// Over the table, with nothing made.
+    /// Creates an empty cache over the table.
     pub(crate) fn new(alloc: Global, sets: &'a SetTable, budget: Budget) -> MeetTable<'a>
         ensures sets { result.sets ≡ sets.now }
         ensures budget { result.budget ≡ budget }
@@ -56,14 +56,14 @@ impl<'a> MeetTable<'a> {
         }
     }
 
-    /// The table.
+    /// Returns the table of sets.
     pub fn sets(&self) -> &'a SetTable
         ensures { result.now ≡ self.now.sets }
     {
         self.sets
     }
 
-    /// The place of what was made of a formula.
+    /// Returns the index of a formula's entry, if there is one.
     pub(crate) fn find(&self, f: &Formula) -> Option<usize>
         ensures { IfSome result (IsPairAt self.now (tree_of f.now)) }
     {
@@ -71,7 +71,7 @@ impl<'a> MeetTable<'a> {
         place
     }
 
-    /// The automaton at a place, lent.
+    /// Returns the automaton at an index.
     pub(crate) fn automaton(&self, place: usize) -> &Auto
         requires { (pair : Formula × Automaton) × (slice_get self.now.pairs place ≡ Some pair) }
         ensures { (f : Formula) × (slice_get self.now.pairs place ≡ Some (f, result.now)) }
@@ -79,7 +79,7 @@ impl<'a> MeetTable<'a> {
         &self.pairs[place].auto
     }
 
-    /// The set of a name, lent.
+    /// Returns the set with a name.
     pub(crate) fn named(&self, set: SetId) -> &Auto
         requires { (a : Automaton) × (slice_get self.now.sets set.0 ≡ Some a) }
         ensures { slice_get self.now.sets set.0 ≡ Some result.now }
@@ -90,7 +90,7 @@ impl<'a> MeetTable<'a> {
         }
     }
 
-    /// The automaton of membership: the set itself where its tracks are these variables, or else a copy under their names.
+    /// Returns the automaton of a membership: the set itself if its tracks are these variables, and a renamed copy otherwise.
     pub(crate) fn membership(
         &self,
         alloc: Global,
@@ -108,7 +108,7 @@ impl<'a> MeetTable<'a> {
         Ok(PartAuto::Fresh(renamed))
     }
 
-    /// Puts what was made of a formula at the end, and gives its place.
+    /// Appends a formula and its automaton, and returns its index.
     pub(crate) fn remember(
         &mut self,
         alloc: Global,

@@ -1,4 +1,4 @@
-//! Automata of plain formulas, kept from one compilation to the next.
+//! The cache of automata of set-free formulas, kept from one compilation to the next.
 ghost use Rattle.std.specs.Prelude.{◌≡◌, [], ◌∷◌, length, MatchOption, IfOk, IfSome, IsSome, OnOk, OnErr};
 ghost use Rattle.auto_core.specs.Automaton.{Automaton};
 ghost use Rattle.auto_core.specs.Reduced.{IsReduced};
@@ -25,8 +25,8 @@ use std::alloc::{AllocError, Global};
 use std::marker::Model;
 use std::rc::Rc;
 
-/// A table of plain formulas, which name no set and have a step, and of their automata, for one budget.
-/// It is searched from its start, formula by formula.
+/// A cache of set-free formulas with at least one step, and their automata, for one budget. Searched linearly, in the order of
+/// insertion.
 #[derive(Drop)]
 pub struct Memo {
     shorts: ShortTable,
@@ -51,7 +51,7 @@ impl Model for Memo {
 }
 
 impl Memo {
-    /// A memo without entries. Each formula that it compiles has this budget for a step.
+    /// Returns an empty cache. Each step of a formula that it compiles has this budget.
     pub fn new(alloc: Global, budget: Budget) -> Memo
         ensures budget { result.budget ≡ budget }
         ensures entries { result.entries ≡ [] }
@@ -64,7 +64,7 @@ impl Memo {
         }
     }
 
-    /// The number of entries.
+    /// Returns the number of entries.
     pub fn kept(&self) -> u32
         ensures count { result ≡ length self.now.entries }
         ensures valid { IsMemo self.now }
@@ -72,14 +72,14 @@ impl Memo {
         self.entries.len() as u32
     }
 
-    /// How often an automaton was taken from the table. It stays at the greatest value of its type.
+    /// Returns the number of cache hits, limited to the greatest `u64`.
     pub fn found(&self) -> u64
         ensures { result ≡ self.now.found }
     {
         self.found
     }
 
-    /// The budget of a step.
+    /// Returns the budget of a step.
     pub fn budget(&self) -> Budget
         ensures is { result ≡ self.now.budget }
         ensures valid { IsMemo self.now }
@@ -87,7 +87,7 @@ impl Memo {
         self.shorts.budget()
     }
 
-    /// A table of sets, lent, for what is compiled over it one formula after another.
+    /// Returns an empty cache of conjunctions over a table of sets, for formulas that are compiled over it.
     pub fn meets<'a>(&self, alloc: Global, sets: &'a SetTable) -> MeetTable<'a>
         ensures sets { result.sets ≡ sets.now }
         ensures budget { result.budget ≡ self.now.budget }
@@ -95,7 +95,7 @@ impl Memo {
         MeetTable::new(alloc, sets, self.budget())
     }
 
-    /// The place of the entry of a formula.
+    /// Returns the index of a formula's entry, if there is one.
     pub(crate) fn find(&self, f: &Formula) -> Option<usize>
         ensures { MatchOption result (¬ IsKnown self.now (tree_of f.now)) (IsEntryAt self.now (tree_of f.now)) }
     {
@@ -103,7 +103,7 @@ impl Memo {
         place
     }
 
-    /// The automaton of a part, lent.
+    /// Returns the automaton of a part.
     pub(crate) fn automaton<'a>(&'a self, meets: &'a MeetTable, part: &'a PartAuto) -> &'a Auto
         requires { (a : Automaton) × IsPart self.now meets.now part.now a }
         ensures { IsPart self.now meets.now part.now result.now }
@@ -117,7 +117,7 @@ impl Memo {
         }
     }
 
-    /// The automata of two parts, lent.
+    /// Returns the automata of two parts.
     pub(crate) fn automata<'a>(
         &'a self,
         meets: &'a MeetTable,
@@ -132,8 +132,8 @@ impl Memo {
         (self.automaton(meets, left), self.automaton(meets, right))
     }
 
-    /// What the connective makes of two parts, if that is seen at once and the budget has room: both are at one place, or
-    /// one of them accepts all words or none.
+    /// Returns the result of a connective on two parts if it is known without a product and the budget has room: both have the same
+    /// automaton, or one of them accepts all words or none.
     pub(crate) fn shortcut(
         &self,
         meets: &MeetTable,
@@ -154,7 +154,7 @@ impl Memo {
         Some(Shortcut::Operand(operand_by(a, b, connective, most)?))
     }
 
-    /// The automaton of a part as it is, to keep.
+    /// Returns the automaton of a part, as an owned value.
     pub(crate) fn given(&self, meets: &MeetTable, part: PartAuto) -> Result<Auto, AllocError>
         requires { (a : Automaton) × IsPart self.now meets.now part a }
         ensures { IfOk result (IsPart self.now meets.now part) }
@@ -168,7 +168,7 @@ impl Memo {
         }
     }
 
-    /// The automaton of a part, reduced, to keep. That of an entry is reduced already.
+    /// Returns the minimal automaton of a part, as an owned value. That of an entry is minimal already.
     pub(crate) fn taken(
         &self,
         alloc: Global,
@@ -189,14 +189,14 @@ impl Memo {
         }
     }
 
-    /// Counts an automaton that was taken.
+    /// Counts a cache hit.
     pub(crate) fn count(&mut self)
         ensures { self.new ≡ record self.old { found = counted self.old.found } }
     {
         self.found = self.found.saturating_add(1);
     }
 
-    /// Puts a formula and its automaton at the end, unless there are 2^32 - 1 entries.
+    /// Appends a formula and its automaton, unless there are 2^32 - 1 entries.
     pub(crate) fn enter(
         &mut self,
         alloc: Global,
@@ -221,14 +221,14 @@ impl Memo {
         Ok(PartAuto::Kept(kept as usize))
     }
 
-    /// The automaton of a short formula, if the table of these has it.
+    /// Returns the automaton of a short formula, if the short-formula cache has it.
     pub(crate) fn find_short(&self, f: &Formula) -> Option<Rc<Auto>>
         ensures { IfSome result (λ auto. IsShort self.now.budget (tree_of f.now) auto.value) }
     {
         self.shorts.find(f)
     }
 
-    /// Puts the automaton of a short formula into the table of these, and shares it. No entry of the memo's own is added.
+    /// Stores the automaton of a short formula in the short-formula cache, and returns a shared pointer to it.
     pub(crate) fn keep_short(
         &mut self,
         alloc: Global,
@@ -246,7 +246,8 @@ impl Memo {
         Ok(PartAuto::Shared(shared))
     }
 
-    /// The automaton of a short formula, to keep. That of Ex is reduced, since projections leave the most states too many.
+    /// Returns the automaton of a short formula to be stored. That of `Ex` is minimized, since projections leave the most
+    /// equivalent states.
     fn settled(
         &self,
         alloc: Global,

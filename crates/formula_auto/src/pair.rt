@@ -1,10 +1,10 @@
-//! Two formulas and what puts them together.
+//! Two formulas and a connective.
 ghost use Rattle.std.specs.Prelude.{◌≡◌};
 
 use auto_bool::Connective;
 use lin_formula::Formula;
 
-/// Two formulas to be put together.
+/// Two formulas to be combined by a connective.
 #[derive(Clone, Copy)]
 pub struct FormulaPair<'a> {
     pub connective: Connective,
@@ -13,6 +13,7 @@ pub struct FormulaPair<'a> {
 }
 
 impl<'a> FormulaPair<'a> {
+    /// Creates the pair of two formulas and a connective.
     pub fn new(connective: Connective, left: &'a Formula, right: &'a Formula) -> FormulaPair<'a>
         ensures connective { result.connective ≡ connective }
         ensures left { result.left.now ≡ left.now }

@@ -1,4 +1,4 @@
-//! What compiling a part of a formula gives.
+//! The result of compiling a part of a formula.
 ghost use Rattle.std.specs.Prelude.{◌≡◌, ◌↔◌, IsTrue};
 ghost use Rattle.formula_auto.specs.PartOf.{IsSamePlace};
 
@@ -9,19 +9,19 @@ use std::rc::Rc;
 /// The automaton of a part of a formula.
 #[derive(Drop)]
 pub enum PartAuto {
-    /// It was made for this part.
+    /// It was built for this part.
     Fresh(Auto),
-    /// The memo's entry at this place has it.
+    /// It is the cache entry at this index.
     Kept(usize),
-    /// It is of And of two sets, and the table of meets has it at this place.
+    /// It is of a conjunction of two sets: the entry of `MeetTable` at this index.
     Paired(usize),
-    /// It is a set of the table of meets's table.
+    /// It is a set of the table.
     Named(SetId),
-    /// It is of a short formula, and shared with the table of these.
+    /// It is of a short formula, and shared with the short-formula cache.
     Shared(Rc<Auto>),
 }
 
-/// Whether two parts have one automaton, at one place.
+/// Returns whether two parts have the same automaton, at one index.
 pub fn same_place(left: &PartAuto, right: &PartAuto) -> bool
     ensures { IsTrue result ↔ IsSamePlace left.now right.now }
 {
@@ -33,7 +33,7 @@ pub fn same_place(left: &PartAuto, right: &PartAuto) -> bool
     }
 }
 
-/// A part's automaton, and how many steps were taken up to it.
+/// A part's automaton, and the number of steps taken up to it.
 #[derive(Drop)]
 pub struct Remembered {
     pub part: PartAuto,
@@ -41,7 +41,7 @@ pub struct Remembered {
 }
 
 impl Remembered {
-    /// What was made for the part.
+    /// Returns the automaton that was built for the part.
     pub fn fresh(auto: Auto, done: u32) -> Remembered
         ensures { result ≡ record { part = PartAuto.Fresh auto; done = done } }
     {

@@ -1,5 +1,5 @@
-//! Which formulas are plain: these name no set and have a step, so that what was made of one serves again. And which are And of two
-//! sets: what was made of one serves again over the same table. And which are short: without a set, and with few steps if any.
+//! Kinds of formulas that are cached. Plain formulas name no set and have a step. Pairs are conjunctions of two sets. Short
+//! formulas name no set and have few steps or none.
 ghost use Rattle.std.specs.Prelude.{◌≡◌, ◌-◌, ◌<◌, ◌^◌, nat_lt, nat_le, length};
 ghost use Rattle.lin_formula.specs.Tree.{steps, symbols};
 ghost use Rattle.lin_formula.specs.TreeOf.{tree_of};
@@ -9,17 +9,17 @@ ghost use Rattle.formula_auto.specs.Short as short;
 
 use lin_formula::Formula;
 
-/// How many steps a short formula has at most.
+/// The maximum number of steps of a short formula.
 pub const MOST_SHORT_STEPS: u32 = 8;
 
-/// Whether a formula names no set and has a step. Goes down the formula, a call a level.
+/// Returns whether a formula names no set and has a step. Recurses one call per level.
 pub fn is_plain(f: &Formula) -> bool
     ensures { result ≡ plain_parts.is_plain (tree_of f.now) }
 {
     !names_set(f) && has_step(f)
 }
 
-/// The number of steps of a formula.
+/// Returns the number of steps of a formula.
 pub fn steps_of(f: &Formula) -> u32
     requires { length (steps (tree_of f.now)) < 2 ^ 32 }
     ensures { result ≡ length (steps (tree_of f.now)) }
@@ -35,7 +35,7 @@ pub fn steps_of(f: &Formula) -> u32
     }
 }
 
-/// Whether a formula names a set.
+/// Returns whether a formula names a set.
 pub fn names_set(f: &Formula) -> bool
     ensures { result ≡ nat_lt 0 (length (symbols (tree_of f.now))) }
 {
@@ -50,7 +50,7 @@ pub fn names_set(f: &Formula) -> bool
     }
 }
 
-/// Whether a formula has a step.
+/// Returns whether a formula has a step.
 pub fn has_step(f: &Formula) -> bool
     ensures { result ≡ nat_lt 0 (length (steps (tree_of f.now))) }
 {
@@ -65,7 +65,7 @@ pub fn has_step(f: &Formula) -> bool
     }
 }
 
-/// Whether a formula is And of two sets.
+/// Returns whether a formula is a conjunction of two sets.
 pub fn is_pair(f: &Formula) -> bool
     ensures { result ≡ meet_state.is_pair (tree_of f.now) }
 {
@@ -81,7 +81,7 @@ fn is_among(f: &Formula) -> bool
     matches!(f, Formula::Among { .. })
 }
 
-/// Whether a formula names no set and has few steps, or none. Goes over few of its parts.
+/// Returns whether a formula names no set and has at most `MOST_SHORT_STEPS` steps. Visits few of its parts.
 pub fn is_short(f: &Formula) -> bool
     ensures { result ≡ short.is_short (tree_of f.now) }
 {
@@ -94,7 +94,7 @@ fn has_few_steps(f: &Formula) -> bool
     room_after(f, MOST_SHORT_STEPS + 1) > 0
 }
 
-/// What is left of the room once each step has taken one, or 0.
+/// Subtracts the number of steps from `room`; returns 0 if they are more.
 fn room_after(f: &Formula, room: u32) -> u32
     ensures { result ≡ room - length (steps (tree_of f.now)) }
 {

@@ -1,4 +1,4 @@
-//! A table of short formulas and of their automata, found by a hash, which may forget.
+//! The cache of short formulas and their automata, found by hashes. It is lossy.
 ghost use Rattle.std.specs.Prelude.{◌≡◌, IfSome, OnOk};
 ghost use Rattle.limits.specs.Budget.{IsBudget};
 ghost use Rattle.lin_formula.specs.TreeOf.{tree_of};
@@ -13,24 +13,24 @@ use std::collections::HashMap;
 use std::marker::Model;
 use std::rc::Rc;
 
-/// How many formulas are in the table at most. One more, and it is begun anew.
+/// The maximum number of entries. If one more is added, the cache is cleared first.
 const MOST_ENTRIES: usize = 65_536;
 
-/// A formula and its automaton, which is shared with those who asked for it.
+/// A formula and its shared automaton.
 #[derive(Drop)]
 pub struct ShortEntry {
     pub formula: Formula,
     pub auto: Rc<Auto>,
 }
 
-/// Short formulas with their automata, for one budget, by their hashes: of two formulas with one hash the later one is kept.
+/// Short formulas with their automata, for one budget, keyed by hash. Of two formulas with one hash the later one is stored.
 pub struct ShortTable {
     budget: Budget,
     entries: HashMap<u64, ShortEntry>,
 }
 
 impl Drop for ShortTable {
-    /// Lets the table go. Written out, so that a body that lets it go has a call here.
+    /// Drops the cache. Written by hand, so that a function that drops a cache has a call here.
     fn drop(self) {
         let ShortTable {
             budget: _,
@@ -51,7 +51,7 @@ impl Model for ShortTable {
 }
 
 impl ShortTable {
-    /// A table without entries.
+    /// Returns an empty cache.
     pub fn new(alloc: Global, budget: Budget) -> ShortTable
         ensures { result ≡ budget }
     {
@@ -61,14 +61,14 @@ impl ShortTable {
         }
     }
 
-    /// The budget of a step.
+    /// Returns the budget of a step.
     pub fn budget(&self) -> Budget
         ensures { result ≡ self.now }
     {
         self.budget
     }
 
-    /// The automaton of a formula, if it is there.
+    /// Returns the automaton of a formula, if it is stored.
     pub fn find(&self, f: &Formula) -> Option<Rc<Auto>>
         ensures { IfSome result (λ auto. IsShort self.now (tree_of f.now) auto.value) }
     {
@@ -79,7 +79,7 @@ impl ShortTable {
         entry.auto.clone().ok()
     }
 
-    /// Puts a formula and its automaton in.
+    /// Stores a formula and its automaton. Errors: an allocation failed.
     pub fn put(&mut self, alloc: Global, f: &Formula, auto: Rc<Auto>) -> Result<(), AllocError>
         requires { IsShort self.old (tree_of f.now) auto.value }
         ensures { self.new ≡ self.old }

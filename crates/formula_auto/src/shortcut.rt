@@ -1,20 +1,20 @@
-//! Steps of which it is seen at once what they make.
+//! Steps whose results are known without a product.
 ghost use Rattle.std.specs.Prelude.{◌≡◌};
 ghost use Rattle.formula_auto.specs.Shortcuts.{with_itself};
 
 use auto_bool::{Connective, Operand};
 
-/// What the connective makes of two parts, where that is seen at once.
+/// The result of a connective on two parts that is known without a product.
 #[derive(Clone, Copy, PartialEq, Eq)]
 pub enum Shortcut {
-    /// One of the two.
+    /// One of the two parts.
     Operand(Operand),
-    /// Nothing is left, of a part without itself.
+    /// The empty set: a part without itself.
     Nothing,
 }
 
 impl Shortcut {
-    /// What the connective makes of a part and itself, where the budget has room for its states.
+    /// Returns the result of the connective on a part and itself. The budget has room for its states.
     pub fn with_itself(connective: Connective) -> Shortcut
         ensures { result ≡ with_itself connective }
     {

@@ -1,15 +1,15 @@
-//! What compiling a part of a formula goes by.
+//! The context of compiling a part of a formula.
 
-/// What of a part is looked up in the memo, and entered there.
+/// Which subformulas of a part are looked up in the cache, and stored there.
 #[derive(Clone, Copy)]
 pub enum Recall {
     /// Its greatest plain subformulas.
     Plain,
-    /// Nothing: no memo is kept, or the part is of a plain formula that is being made.
+    /// None: there is no cache, or the part belongs to a plain formula that is being built.
     Nothing,
 }
 
-/// Where in its formula a part stands: the number of steps before it, and what of it is looked up.
+/// The position of a part in its formula: the number of steps before it, and which of its subformulas are looked up.
 #[derive(Clone, Copy)]
 pub struct PartPosition {
     pub before: u32,

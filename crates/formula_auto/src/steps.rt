@@ -1,6 +1,6 @@
-//! One node of a formula each: an automaton of it, from automata of its parts, which need not be reduced. Atoms are
-//! reduced. What a step makes is merged in one pass, unless it is one of the parts. Only a step that is not within the
-//! budget on the automata as they are is taken on the reduced ones.
+//! Single nodes of a formula: the automaton of a node, from those of its parts, which need not be minimal. Atoms are minimized. The
+//! result of a step is merged in one pass, unless it equals one of the parts. A step that exceeds the budget is repeated on minimal
+//! automata.
 ghost use Rattle.std.specs.Prelude.{◌≡◌, ◌≤◌, ℕ, length, IfOk, OnOk, Err};
 ghost use Rattle.track_word.specs.Tracks.{with_vars};
 ghost use Rattle.track_word.specs.Atom.{IsAtom};
@@ -27,6 +27,7 @@ use limits::{Budget, MOST_TRACKS};
 use std::alloc::{AllocError, Global};
 use track_word::{Rel, Var, are_distinct};
 
+/// Returns the automaton of a linear comparison. Errors: an allocation failed.
 pub fn comparison(
     alloc: Global,
     terms: &[(i8, Var)],
@@ -41,6 +42,7 @@ pub fn comparison(
     reduced(alloc, &a)
 }
 
+/// Returns the automaton of a value of a variable. Errors: an allocation failed.
 pub fn value_of(alloc: Global, var: Var, value: i64) -> Result<Auto, AllocError>
     ensures decides { IfOk result (λ a. (e : ℕ → SetOf) → Decides a (tree.Value var value) (members e)) }
     ensures reduced { IfOk result IsReduced }
@@ -49,8 +51,8 @@ pub fn value_of(alloc: Global, var: Var, value: i64) -> Result<Auto, AllocError>
     reduced(alloc, &a)
 }
 
-/// The set is renamed. Only where two of its tracks are given one variable is it reduced, for words may no longer lead
-/// to each state then.
+/// Returns the automaton of a membership: the set, renamed. It is minimized only if two tracks take one variable, since then some
+/// states may not be reached. Errors: an allocation failed.
 pub fn membership(alloc: Global, set: &Auto, vars: &[Var]) -> Result<Auto, AllocError>
     requires size { length vars.now ≡ length set.now.tracks }
     requires integers { DecidesIntegers set.now }
@@ -66,7 +68,8 @@ pub fn membership(alloc: Global, set: &Auto, vars: &[Var]) -> Result<Auto, Alloc
     reduced(alloc, &a)
 }
 
-/// Two formulas put together: the product of the automata as they are, or else of the reduced ones.
+/// Combines two formulas: returns the product of the automata, or if it exceeds the budget, that of the minimal ones. Errors:
+/// `Over` if the step needs more states than the budget, `Memory` if an allocation fails.
 pub fn joined(
     alloc: Global,
     connective: Connective,
@@ -87,7 +90,7 @@ pub fn joined(
     }
 }
 
-/// Only of reduced automata does `Over` say something of the spread.
+/// Returns the merged product. Only for minimal automata does `Over` mean that the step needs more states than the budget.
 fn product_within(
     alloc: Global,
     connective: Connective,
@@ -122,7 +125,8 @@ fn reduced_product(
     product_within(alloc, connective, &left, &right, budget)
 }
 
-/// Ex.
+/// Returns the projection of a variable. Errors: `Over` if the step needs more states than the budget, `Memory` if an allocation
+/// fails.
 pub fn projection(alloc: Global, var: Var, a: &Auto, budget: Budget) -> Result<Auto, Grown>
     ensures decides { IfOk result (DecidesEx var a.now) }
     ensures accessible { IfOk result (IsAccessible budget) }
@@ -133,7 +137,7 @@ pub fn projection(alloc: Global, var: Var, a: &Auto, budget: Budget) -> Result<A
     Ok(merged(alloc, &c)?)
 }
 
-/// The projection of the automaton as it is, or else of the reduced one.
+/// Returns the projection of the automaton, or if it exceeds the budget, that of the minimal one.
 fn forgotten(alloc: Global, var: Var, a: &Auto, budget: Budget) -> Result<Auto, Grown>
     ensures decides { IfOk result (DecidesEx var a.now) }
     ensures accessible { IfOk result (IsAccessible budget) }
@@ -147,7 +151,7 @@ fn forgotten(alloc: Global, var: Var, a: &Auto, budget: Budget) -> Result<Auto, 
     }
 }
 
-/// Only of a reduced automaton does `Over` say something of the spread.
+/// Returns the projection. Only for a minimal automaton does `Over` mean that the step needs more states than the budget.
 fn forgotten_within(alloc: Global, var: Var, a: &Auto, budget: Budget) -> Result<Auto, Grown>
     ensures decides { IfOk result (DecidesEx var a.now) }
     ensures accessible { IfOk result (IsAccessible budget) }
@@ -168,7 +172,7 @@ fn reduced_forgotten(alloc: Global, var: Var, a: &Auto, budget: Budget) -> Resul
     forgotten_within(alloc, var, &inner, budget)
 }
 
-/// Not.
+/// Returns the complement. Errors: an allocation failed.
 pub fn complement(alloc: Global, a: &Auto) -> Result<Auto, AllocError>
     ensures decides { IfOk result (DecidesNot a.now) }
     ensures reached { AllReached a.now → IfOk result AllReached }
@@ -177,7 +181,7 @@ pub fn complement(alloc: Global, a: &Auto) -> Result<Auto, AllocError>
     not(alloc, a)
 }
 
-/// The same words, with no state too many.
+/// Returns the minimal automaton of the same words. Errors: an allocation failed.
 pub fn reduced(alloc: Global, a: &Auto) -> Result<Auto, AllocError>
     ensures reduced { IfOk result IsReduced }
     ensures same { IfOk result (AcceptSame a.now) }
@@ -186,7 +190,7 @@ pub fn reduced(alloc: Global, a: &Auto) -> Result<Auto, AllocError>
     reduce(alloc, a)
 }
 
-/// The same words, with the states merged that one pass finds to be alike.
+/// Returns the automaton of the same words with states merged in one pass.
 fn merged(alloc: Global, a: &Auto) -> Result<Auto, AllocError>
     ensures same { IfOk result (AcceptSame a.now) }
     ensures accessible { IfOk result (λ m. (budget : ℕ) → IsAccessible budget a.now → IsAccessible budget m) }

@@ -6,7 +6,7 @@ use lin_formula::SetId;
 use std::alloc::Global;
 use std::marker::Model;
 
-/// Automata of sets of tuples, by the names that formulas use. A set is named by the number of sets before it.
+/// Automata of sets of tuples. The name of a set is its index.
 #[derive(Drop)]
 pub struct SetTable {
     sets: Vec<Auto>,
@@ -22,7 +22,7 @@ impl Model for SetTable {
 }
 
 impl SetTable {
-    /// A table with no set.
+    /// Returns an empty table.
     pub fn new(alloc: Global) -> SetTable
         ensures { result ≡ [] }
     {
@@ -31,7 +31,7 @@ impl SetTable {
         }
     }
 
-    /// Puts a set in, and gives its name. Err is want of memory, and hands the set back.
+    /// Appends a set, and returns its name. If an allocation fails, returns the set as the error.
     pub fn put(&mut self, a: Auto) -> Result<SetId, Auto>
         requires { length self.old < 2 ^ 32 }
         ensures id { IfOk result (λ id. id.0 ≡ length self.old) }
@@ -47,14 +47,14 @@ impl SetTable {
         }
     }
 
-    /// The number of sets.
+    /// Returns the number of sets.
     pub fn len(&self) -> usize
         ensures { result ≡ length self.now }
     {
         self.sets.len()
     }
 
-    /// Takes out the set that was put in last. Its name is then given to the next set that is put in.
+    /// Removes the last set. The next set gets its name.
     pub fn pop(&mut self) -> Option<Auto>
         ensures some { IfSome result (λ a. self.old ≡ self.new ++ a ∷ []) }
         ensures none { IfNone result ((self.old ≡ []) × (self.new ≡ [])) }
@@ -62,14 +62,14 @@ impl SetTable {
         self.sets.pop()
     }
 
-    /// Lets go the sets from a place on, in the order in which they were put in. Their names are then given anew.
+    /// Removes the sets from an index on. The next sets get their names.
     pub fn truncate(&mut self, len: usize)
         ensures { self.new ≡ take len self.old }
     {
         self.sets.truncate(len);
     }
 
-    /// The set of a name.
+    /// Returns the set with a name, if there is one.
     pub fn get(&self, id: SetId) -> Option<&Auto>
         ensures { MatchOption result (length self.now ≤ id.0) (λ a. slice_get self.now id.0 ≡ Some a.now) }
     {

@@ -1,4 +1,4 @@
--- Which variables are free in a formula.
+-- The variables that are free in a formula.
 use Rattle.std.specs.Prelude.{◌≡◌, ◌≢◌, ◌↔◌, ◌⊎◌, ℕ, List, [], ◌∷◌}
 use Rattle.track_word.specs.declared.tracks.Var.{Var}
 use Rattle.track_word.specs.Tracks.{Values, IsAscending}
@@ -11,7 +11,7 @@ abbrev pub IsOneOf : Var → List Var → Type 0
 IsOneOf x [] = ⊥
 IsOneOf x (y ∷ ys) = (x ≡ y) ⊎ IsOneOf x ys
 
--- the variable stands in the formula outside of each "some integer" that binds it
+-- the variable occurs in the formula outside of each quantifier that binds it
 abbrev pub IsFree : Var → Tree → Type 0
 IsFree x (Lin terms rel bound) = IsOneOf x (term_vars terms)
 IsFree x (Value y n) = x ≡ y

@@ -1,15 +1,15 @@
--- What a formula says of integers, where each set symbol stands for a set of tuples.
+-- The truth of a formula for integers, given a set of tuples for each set symbol.
 use Rattle.std.specs.Prelude.{◌≡◌, ◌⊎◌, ℕ, ◌==◌, if◌then◌else◌, List, ℤ}
 use Rattle.track_word.specs.declared.tracks.Var.{Var}
 use Rattle.track_word.specs.Tracks.{Values, values_at}
 use Rattle.track_word.specs.Atom.{sum_of, Compares}
 use Rattle.lin_formula.specs.Tree.{Tree, Lin, Value, Among, Not, And, Or, Ex}
 
--- what the set symbols stand for
+-- the sets that the set symbols denote
 abbrev pub Sets : Type 1
 Sets = ℕ → List ℤ → Type 0
 
--- the values with another one for x
+-- the values with the value of x replaced
 abbrev pub with_value : Values → Var → ℤ → Values
 with_value v x n y = if y == x.0 then n else v y
 

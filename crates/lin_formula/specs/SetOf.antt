@@ -7,13 +7,13 @@ use Rattle.auto_core.specs.Integers.{IsAccepted}
 use Rattle.lin_formula.specs.Tree.{Tree, free_vars}
 use Rattle.lin_formula.specs.Holds.{Sets, Holds}
 
--- nothing, what an automaton accepts, or where a formula holds whose symbols stand for such sets
+-- the empty set, the set of an automaton, or the tuples for which a formula is true whose set symbols denote such sets
 pub data SetOf : Type 0 where
   Nothing : SetOf
   Table : Automaton → SetOf
   Where : Tree → (ℕ → SetOf) → SetOf
 
--- values of which the fact holds give the variables this tuple
+-- the variables have this tuple as their values, for some values with the property
 pub record HoldsAt (vars : List Var) (P : Values → Type 0) (tuple : List ℤ) : Type 0 where
   pub values : Values
   pub is_tuple : values_at vars values ≡ tuple
@@ -24,7 +24,7 @@ Member Nothing tuple = ⊥
 Member (Table a) tuple = IsAccepted a tuple
 Member (Where f e) tuple = HoldsAt (free_vars f) (Holds f (λ k. Member (e k))) tuple
 
--- what each symbol stands for
+-- the sets that the symbols denote
 abbrev pub members : (ℕ → SetOf) → Sets
 members e k = Member (e k)
 
@@ -36,7 +36,7 @@ abbrev pub as_set : Option Automaton → SetOf
 as_set None = Nothing
 as_set (Some a) = Table a
 
--- the sets of the automata of a table, in order
+-- the sets of a list of automata; a set's symbol is its index
 abbrev pub tables : List Automaton → ℕ → SetOf
 tables sets k = as_set (slice_get sets k)
 

@@ -1,4 +1,4 @@
--- Which terms a linear comparison may have.
+-- The terms of a linear comparison.
 use Rattle.std.specs.Prelude.{List, ℤ, All}
 use Rattle.track_word.specs.declared.tracks.Var.{Var}
 use Rattle.track_word.specs.Atom.{IsCount, IsCoefficient}

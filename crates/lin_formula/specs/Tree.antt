@@ -1,11 +1,11 @@
--- A formula as a tree, without where it lies in memory.
+-- Formulas as trees, without their addresses in memory.
 use Rattle.std.specs.Prelude.{ℕ, ◌<◌, List, [], ◌∷◌, ◌++◌, length, ℤ}
 use Rattle.track_word.specs.declared.tracks.Var.{Var}
 use Rattle.track_word.specs.declared.atoms.Rel.{Rel}
 use Rattle.track_word.specs.Tracks.{with_var, with_vars, without_var}
 use Rattle.track_word.specs.Atom.{IsAtom, atom_tracks}
 
--- a linear comparison, a variable's value, membership in the set with a number, and what is made of these
+-- a linear comparison, a value of a variable, membership in the set with a number, and combinations of these
 pub data Tree : Type 0 where
   Lin : List (ℤ × Var) → Rel → ℤ → Tree
   Value : Var → ℤ → Tree
@@ -15,7 +15,7 @@ pub data Tree : Type 0 where
   Or : Tree → Tree → Tree
   Ex : Var → Tree → Tree
 
--- the free variables, ascending
+-- the free variables in ascending order
 abbrev pub free_vars : Tree → List Var
 free_vars (Lin terms rel bound) = atom_tracks terms
 free_vars (Value x n) = x ∷ []
@@ -25,7 +25,7 @@ free_vars (And f g) = with_vars (free_vars f) (free_vars g)
 free_vars (Or f g) = with_vars (free_vars f) (free_vars g)
 free_vars (Ex x f) = without_var x (free_vars f)
 
--- the variables, free and bound, ascending
+-- the free and bound variables in ascending order
 abbrev pub vars_of : Tree → List Var
 vars_of (Lin terms rel bound) = atom_tracks terms
 vars_of (Value x n) = x ∷ []
@@ -35,7 +35,7 @@ vars_of (And f g) = with_vars (vars_of f) (vars_of g)
 vars_of (Or f g) = with_vars (vars_of f) (vars_of g)
 vars_of (Ex x f) = with_var x (vars_of f)
 
--- the subformulas that are steps, in post-order
+-- the subformulas that are steps (conjunction, disjunction, quantifier), in post-order
 abbrev pub steps : Tree → List Tree
 steps (Lin terms rel bound) = []
 steps (Value x n) = []
@@ -48,7 +48,7 @@ steps (Ex x f) = steps f ++ Ex x f ∷ []
 abbrev pub HasStep : Tree → Type 0
 HasStep f = 0 < length (steps f)
 
--- the sets that are named, each with the variables whose values are to be in it
+-- the named sets, each with the variables whose values are to be in it
 abbrev pub memberships : Tree → List (ℕ × List Var)
 memberships (Lin terms rel bound) = []
 memberships (Value x n) = []
@@ -58,7 +58,7 @@ memberships (And f g) = memberships f ++ memberships g
 memberships (Or f g) = memberships f ++ memberships g
 memberships (Ex x f) = memberships f
 
--- the numbers of the sets that are named
+-- the numbers of the named sets
 abbrev pub symbols : Tree → List ℕ
 symbols (Lin terms rel bound) = []
 symbols (Value x n) = []
@@ -68,8 +68,8 @@ symbols (And f g) = symbols f ++ symbols g
 symbols (Or f g) = symbols f ++ symbols g
 symbols (Ex x f) = symbols f
 
--- each linear comparison in it is of one to eight terms with different variables and small coefficients, with a small
--- bound
+-- each linear comparison has one to eight terms with different variables, coefficients from -64 to 64 but 0, and a bound from -1000
+-- to 1000
 abbrev pub IsWellMade : Tree → Type 0
 IsWellMade (Lin terms rel bound) = IsAtom terms bound
 IsWellMade (Value x n) = Unit {0}

@@ -1,4 +1,4 @@
-//! Formulas that have no parts.
+//! Atomic formulas.
 ghost use Rattle.std.specs.Prelude.{◌≡◌, ◌↔◌, ◌≢◌, IfOk, IfErr, IsTrue, All};
 ghost use Rattle.std.specs.Bool.{OnTrue, OnFalse};
 ghost use Rattle.track_word.specs.Atom.{IsAtom, IsDistinct, IsCoefficient};
@@ -12,21 +12,21 @@ use crate::lists::{Terms, Vars};
 use std::alloc::{AllocError, Global};
 use track_word::{Rel, Var};
 
-/// Why there is no linear comparison of such parts.
+/// Why there is no linear comparison with these parts.
 #[derive(Clone, Copy, PartialEq, Eq)]
 pub enum LinWhy {
-    /// There are no terms, more than eight, or two of one variable.
+    /// There are no terms, more than eight, or two with the same variable.
     Terms,
     /// A coefficient is 0, or outside -64 to 64.
     Coefficient,
     /// The bound is outside -1000 to 1000.
     Bound,
-    /// Memory ran out.
+    /// An allocation failed.
     Memory,
 }
 
-/// The sum of coefficient times variable is at most the bound, or equal to it.
-/// Refused for its terms first, then for a coefficient, then for its bound.
+/// Returns the comparison: the sum of coefficient times variable is at most the bound, or equal to it.
+/// Errors: the first of `Terms`, `Coefficient` and `Bound` that applies; `Memory` if an allocation fails.
 pub fn lin(alloc: Global, terms: &[(i8, Var)], rel: Rel, bound: i32) -> Result<Formula, LinWhy>
     ensures ok { IfOk result (λ f. tree_of f ≡ tree.Lin terms.now rel bound) }
     ensures accepted { IfOk result (λ f. IsAtom terms.now bound) }
@@ -55,14 +55,14 @@ pub fn lin(alloc: Global, terms: &[(i8, Var)], rel: Rel, bound: i32) -> Result<F
     }
 }
 
-/// Whether each coefficient is in range.
+/// Returns whether each coefficient is in range.
 fn are_coefficients(terms: &[(i8, Var)]) -> bool
     ensures { IsTrue result ↔ All IsCoefficient terms.now }
 {
     terms.iter().all(|t| t.0 != 0 && t.0 >= -64 && t.0 <= 64)
 }
 
-/// Whether a variable stands in two terms.
+/// Returns whether a variable occurs in two terms.
 fn has_repeat(terms: &[(i8, Var)]) -> bool
     ensures yes { OnTrue result (IsDistinct terms.now → ⊥) }
     ensures no { OnFalse result (IsDistinct terms.now) }
@@ -73,7 +73,7 @@ fn has_repeat(terms: &[(i8, Var)]) -> bool
     }
 }
 
-/// Whether the variable stands in one of the terms.
+/// Returns whether the variable occurs in one of the terms.
 fn stands_in(var: Var, terms: &[(i8, Var)]) -> bool
     ensures yes { OnTrue result (All (λ t. t.1 ≢ var) terms.now → ⊥) }
     ensures no { OnFalse result (All (λ t. t.1 ≢ var) terms.now) }
@@ -86,7 +86,7 @@ fn stands_in(var: Var, terms: &[(i8, Var)]) -> bool
     false
 }
 
-/// The variable has the value.
+/// Returns the formula that the variable has the value.
 pub fn value(var: Var, value: i64) -> Formula
     ensures is { tree_of result ≡ tree.Value var value }
     ensures well_made { IsWellMade (tree_of result) }
@@ -94,7 +94,7 @@ pub fn value(var: Var, value: i64) -> Formula
     Formula::Value { var, value }
 }
 
-/// The values of the variables, in order, are a member of the set.
+/// Returns the membership: the values of the variables, in order, are a member of the set. Errors: an allocation failed.
 pub fn among(alloc: Global, set: SetId, vars: &[Var]) -> Result<Formula, AllocError>
     ensures ok { IfOk result (λ f. tree_of f ≡ tree.Among set.0 vars.now) }
     ensures well_made { IfOk result (λ f. IsWellMade (tree_of f)) }

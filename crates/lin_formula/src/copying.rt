@@ -1,4 +1,4 @@
-//! The same formula again, and whether two are the same. Both go down the formulas, a call a level.
+//! Copies of formulas, and their equality. Both recurse into the formula, one call per level.
 ghost use Rattle.std.specs.Prelude.{◌≡◌, ◌↔◌, IfOk, IsTrue};
 ghost use Rattle.lin_formula.specs.TreeOf.{tree_of};
 
@@ -6,7 +6,7 @@ use crate::formula::Formula;
 use crate::lists::{Terms, Vars};
 use std::alloc::{AllocError, Global};
 
-/// The same formula again.
+/// Copies a formula. Errors: an allocation failed.
 pub fn copy(alloc: Global, f: &Formula) -> Result<Formula, AllocError>
     ensures { IfOk result (λ other. tree_of other ≡ tree_of f.now) }
 {
@@ -42,7 +42,7 @@ pub fn copy(alloc: Global, f: &Formula) -> Result<Formula, AllocError>
     }
 }
 
-/// Whether both are the same formula.
+/// Returns whether both are the same formula.
 pub fn same(a: &Formula, b: &Formula) -> bool
     ensures { IsTrue result ↔ (tree_of a.now ≡ tree_of b.now) }
 {

@@ -1,4 +1,4 @@
-//! Formulas, and how they are joined.
+//! Formulas and their constructors.
 ghost use Rattle.std.specs.Prelude.{◌≡◌, IfOk, IfErr};
 ghost use Rattle.lin_formula.specs.Tree as tree;
 ghost use Rattle.lin_formula.specs.Tree.{IsWellMade, IsWellMadeFrom};
@@ -8,30 +8,30 @@ use crate::lists::{Terms, Vars};
 use std::alloc::Global;
 use track_word::{Rel, Var};
 
-/// The name of a set of tuples of integers.
+/// The name of a set of integer tuples.
 #[derive(Clone, Copy, PartialEq, Eq, PartialOrd, Ord, Hash)]
 pub struct SetId(pub u32);
 
-/// A formula over the integers. Its depth is bounded by the stack alone: what goes down a formula calls itself once a level.
+/// A formula over the integers. Its depth is limited by the stack only: functions on formulas recurse one call per level.
 #[derive(Drop)]
 pub enum Formula {
     /// The sum of coefficient times variable is at most the bound, or equal to it.
     Lin { terms: Terms, rel: Rel, bound: i32 },
     /// The variable has the value.
     Value { var: Var, value: i64 },
-    /// The values of the variables, in order, are a member of the set. A variable may stand in them twice.
+    /// The values of the variables, in order, are a member of the set. A variable may occur twice.
     Among { set: SetId, vars: Vars },
-    /// The formula does not hold.
+    /// The formula is false.
     Not(Box<Formula>),
-    /// Both formulas hold.
+    /// Both formulas are true.
     And(Box<Formula>, Box<Formula>),
-    /// One of the formulas holds, or both do.
+    /// At least one of the formulas is true.
     Or(Box<Formula>, Box<Formula>),
-    /// The body holds with some integer, of any size, as the variable's value.
+    /// The body is true for some integer, of any size, as the variable's value.
     Ex { var: Var, body: Box<Formula> },
 }
 
-/// The formula that holds where f does not. Err is want of memory, and hands f back.
+/// Returns the negation of a formula. If an allocation fails, returns `f` as the error.
 pub fn not(alloc: Global, f: Formula) -> Result<Formula, Formula>
     ensures ok { IfOk result (λ made. tree_of made ≡ tree.Not (tree_of f)) }
     ensures well_made { IfOk result (λ made. IsWellMade (tree_of f) → IsWellMade (tree_of made)) }
@@ -43,7 +43,7 @@ pub fn not(alloc: Global, f: Formula) -> Result<Formula, Formula>
     }
 }
 
-/// The formula that holds where both do. Err is want of memory, and hands both back.
+/// Returns the conjunction of two formulas. If an allocation fails, returns both as the error.
 pub fn and(alloc: Global, a: Formula, b: Formula) -> Result<Formula, (Formula, Formula)>
     ensures ok { IfOk result (λ made. tree_of made ≡ tree.And (tree_of a) (tree_of b)) }
     ensures well_made { IfOk result (λ made. IsWellMadeFrom (tree_of a) (tree_of b) (tree_of made)) }
@@ -53,7 +53,7 @@ pub fn and(alloc: Global, a: Formula, b: Formula) -> Result<Formula, (Formula, F
     Ok(Formula::And(a, b))
 }
 
-/// The formula that holds where one of the two does, or both do. Err is want of memory, and hands both back.
+/// Returns the disjunction of two formulas. If an allocation fails, returns both as the error.
 pub fn or(alloc: Global, a: Formula, b: Formula) -> Result<Formula, (Formula, Formula)>
     ensures ok { IfOk result (λ made. tree_of made ≡ tree.Or (tree_of a) (tree_of b)) }
     ensures well_made { IfOk result (λ made. IsWellMadeFrom (tree_of a) (tree_of b) (tree_of made)) }
@@ -63,7 +63,8 @@ pub fn or(alloc: Global, a: Formula, b: Formula) -> Result<Formula, (Formula, Fo
     Ok(Formula::Or(a, b))
 }
 
-/// The formula that holds where the body does with some integer as the variable's value. Err is want of memory, and hands the body back.
+/// Returns the formula that `body` is true for some integer as the variable's value. If an allocation fails, returns `body` as the
+/// error.
 pub fn ex(alloc: Global, var: Var, body: Formula) -> Result<Formula, Formula>
     ensures ok { IfOk result (λ made. tree_of made ≡ tree.Ex var (tree_of body)) }
     ensures well_made { IfOk result (λ made. IsWellMade (tree_of body) → IsWellMade (tree_of made)) }
@@ -75,7 +76,7 @@ pub fn ex(alloc: Global, var: Var, body: Formula) -> Result<Formula, Formula>
     }
 }
 
-/// Both formulas in boxes. Err is want of memory, and hands both back.
+/// Returns both formulas in boxes. If an allocation fails, returns both as the error.
 fn boxed(
     alloc: Global,
     a: Formula,

@@ -9,7 +9,7 @@ use crate::formula::Formula;
 use std::alloc::{AllocError, Global};
 use track_word::Var;
 
-/// The free variables, ascending and without repeats. Goes down the formula, a call a level.
+/// Returns the free variables in ascending order, without repeats. Recurses one call per level. Errors: an allocation failed.
 pub fn free_vars(alloc: Global, f: &Formula) -> Result<Vec<Var>, AllocError>
     ensures { IfOk result (λ vars. vars.items ≡ tree.free_vars (tree_of f.now)) }
 {
@@ -43,7 +43,7 @@ pub fn free_vars(alloc: Global, f: &Formula) -> Result<Vec<Var>, AllocError>
     }
 }
 
-/// Puts the variables of terms among ascending ones, each unless it is there.
+/// Inserts the variables of terms into an ascending list, each unless the list contains it.
 fn put_terms(terms: &[(i8, Var)], into: &mut Vec<Var>) -> Result<(), AllocError>
     ensures { OnOk result (into.new.items ≡ with_vars (term_vars terms.now) into.old.items) }
 {
@@ -53,7 +53,7 @@ fn put_terms(terms: &[(i8, Var)], into: &mut Vec<Var>) -> Result<(), AllocError>
     Ok(())
 }
 
-/// Puts variables among ascending ones, each unless it is there.
+/// Inserts variables into an ascending list, each unless the list contains it.
 fn put_all(vars: &[Var], into: &mut Vec<Var>) -> Result<(), AllocError>
     ensures { OnOk result (into.new.items ≡ with_vars vars.now into.old.items) }
 {
@@ -63,7 +63,7 @@ fn put_all(vars: &[Var], into: &mut Vec<Var>) -> Result<(), AllocError>
     Ok(())
 }
 
-/// Puts a variable among ascending ones, unless it is there.
+/// Inserts a variable into an ascending list, unless the list contains it.
 fn put(var: Var, into: &mut Vec<Var>) -> Result<(), AllocError>
     ensures { OnOk result (into.new.items ≡ with_var var into.old.items) }
 {
@@ -80,7 +80,7 @@ fn put(var: Var, into: &mut Vec<Var>) -> Result<(), AllocError>
     Ok(())
 }
 
-/// Takes a variable out.
+/// Removes a variable.
 fn leave_out(var: Var, vars: &mut Vec<Var>)
     ensures { vars.new.items ≡ without_var var vars.old.items }
 {

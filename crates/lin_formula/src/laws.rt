@@ -1,17 +1,17 @@
-//! Laws of formulas, each the contract of a function that does nothing.
+//! Laws of formulas, each the contract of a function without a body.
 ghost use Rattle.lin_formula.specs.Free.{FreeVarsAreFree, FreeVarsAscend, MeaningRestsOnFreeVars};
 
-/// The list of free variables has just those that are free in the formula.
+/// States that the list of free variables contains a variable if and only if it is free in the formula.
 pub fn free_vars_are_those_that_are_free()
     ensures { FreeVarsAreFree }
 {}
 
-/// The list of free variables ascends, and has none twice.
+/// States that the list of free variables is ascending, without repeats.
 pub fn free_vars_ascend()
     ensures { FreeVarsAscend }
 {}
 
-/// What a formula says depends on the values of its free variables alone.
+/// States that the truth of a formula depends on the values of its free variables only.
 pub fn meaning_rests_on_free_vars()
     ensures { MeaningRestsOnFreeVars }
 {}

@@ -1,6 +1,7 @@
-//! Formulas over the integers: linear comparisons, values and memberships in named sets, joined by not, and, or and "some integer"
-//! (Presburger 1929). Contracts see a formula as a tree without addresses (`specs/TreeOf`); `specs/Tree` says which variables are free in it,
-//! what its steps are and when it is well made, and `specs/Holds` what it says of integers. `specs/SetOf` has sets of tuples as data.
+//! Defines formulas over the integers (Presburger 1929).
+//! Atoms are linear comparisons, values and memberships in named sets; formulas combine them by negation, conjunction, disjunction
+//! and existential quantification. Contracts see a formula as a tree (`specs/TreeOf`). `specs/Tree` defines its free variables, its
+//! steps and when it is well made, `specs/Holds` its truth, and `specs/SetOf` sets of tuples as data.
 #![tactic(auto)]
 
 mod atoms;

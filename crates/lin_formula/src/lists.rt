@@ -1,10 +1,10 @@
-//! The lists that stand in formulas.
+//! The lists in formulas.
 ghost use Rattle.std.specs.Prelude.{◌≡◌, ◌↔◌, IsTrue};
 
 use std::marker::Model;
 use track_word::Var;
 
-/// The terms of a linear comparison, each a coefficient and a variable.
+/// The terms of a linear comparison: pairs of a coefficient and a variable.
 #[derive(Drop)]
 pub struct Terms {
     items: Vec<(i8, Var)>,
@@ -25,7 +25,7 @@ impl Model for Terms {
 impl Terms {
     ghost use Rattle.lin_formula.specs.Terms.{IsTerms};
 
-    /// The terms of a list: one to eight, of different variables, with coefficients from -64 to 64 that are not 0.
+    /// Creates the terms from a list of one to eight terms with different variables and coefficients from -64 to 64 but 0.
     pub fn new(items: Vec<(i8, Var)>) -> Terms
         requires { IsTerms items.items }
         ensures { result ≡ items.items }
@@ -33,7 +33,7 @@ impl Terms {
         Terms { items }
     }
 
-    /// The terms in order.
+    /// Returns the terms in order.
     pub fn as_slice(&self) -> &[(i8, Var)]
         ensures items { result.now ≡ self.now }
         ensures made { IsTerms result.now }
@@ -41,7 +41,7 @@ impl Terms {
         self.items.as_slice()
     }
 
-    /// Whether both are the same terms in the same order.
+    /// Returns whether both have the same terms in the same order.
     pub fn same(&self, other: &Terms) -> bool
         ensures { IsTrue result ↔ (self.now ≡ other.now) }
     {
@@ -49,7 +49,7 @@ impl Terms {
     }
 }
 
-/// Some variables, in order.
+/// A list of variables.
 #[derive(Drop)]
 pub struct Vars {
     items: Vec<Var>,
@@ -65,21 +65,21 @@ impl Model for Vars {
 }
 
 impl Vars {
-    /// The variables of a list.
+    /// Creates the list of these variables.
     pub fn new(items: Vec<Var>) -> Vars
         ensures { result ≡ items.items }
     {
         Vars { items }
     }
 
-    /// The variables in order.
+    /// Returns the variables in order.
     pub fn as_slice(&self) -> &[Var]
         ensures { result.now ≡ self.now }
     {
         self.items.as_slice()
     }
 
-    /// Whether both are the same variables in the same order.
+    /// Returns whether both have the same variables in the same order.
     pub fn same(&self, other: &Vars) -> bool
         ensures { IsTrue result ↔ (self.now ≡ other.now) }
     {

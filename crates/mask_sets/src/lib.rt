@@ -1,5 +1,6 @@
-//! Sets of positions, one for each mask of live men. A position of so many live men is in the set of its own mask where the automaton accepts
-//! their coordinates. `specs/Sets` says which positions are in such sets, `specs/Places` where a man's coordinates are.
+//! Represents a set of positions as one automaton for each mask of live men.
+//! A position is in the set if the automaton of its own mask accepts the coordinates of its live men. `specs/Sets` defines
+//! membership, and `specs/Places` the index of a man's coordinates.
 #![tactic(auto)]
 
 mod table;

@@ -1,4 +1,4 @@
-//! Sets of positions, one for each mask.
+//! Sets of positions, one automaton for each mask.
 ghost use Rattle.std.specs.Prelude.{◌≡◌, ◌≢◌, ◌↔◌, ◌<◌, ℕ, IfNone, IfSome, IsTrue, length, option_copied, slice_get, slice_index};
 ghost use Rattle.mask_sets.specs.Sets.{IsAskable, IsIn, set_at};
 
@@ -7,7 +7,7 @@ use auto_core::Auto;
 use chess_game::Position;
 use std::marker::Model;
 
-/// The place of a mask among masks.
+/// Returns the index of a mask in a list of masks, if it is there.
 pub fn place_of_mask(masks: &[u8], mask: u8) -> Option<usize>
     ensures within { IfSome result (λ k. k < length masks.now) }
     ensures found { IfSome result (λ k. slice_index masks.now k ≡ mask) }
@@ -22,14 +22,14 @@ pub fn place_of_mask(masks: &[u8], mask: u8) -> Option<usize>
     None
 }
 
-/// The set at a place.
+/// Returns the set at an index, if there is one.
 fn set_in(sets: &[Auto], k: usize) -> Option<&Auto>
     ensures { option_copied result ≡ slice_get sets.now k }
 {
     if k < sets.len() { Some(&sets[k]) } else { None }
 }
 
-/// Sets of positions, one for each of some masks, in their order. A mask past the last set has none.
+/// Sets of positions: one automaton for each mask of a list, in that order. Masks after the last automaton have none.
 #[derive(Drop)]
 pub struct MaskSets<'a> {
     masks: &'a [u8],
@@ -45,13 +45,14 @@ impl<'a> Model for MaskSets<'a> {
 }
 
 impl<'a> MaskSets<'a> {
+    /// Creates the sets from masks and their automata.
     pub fn new(masks: &'a [u8], sets: &'a [Auto]) -> MaskSets<'a>
         ensures { result ≡ record { masks = masks.now; sets = sets.now } }
     {
         MaskSets { masks, sets }
     }
 
-    /// The set of a mask.
+    /// Returns the automaton of a mask, if there is one.
     pub fn get(&self, mask: u8) -> Option<&'a Auto>
         ensures { option_copied result ≡ set_at self.now mask }
     {
@@ -61,7 +62,7 @@ impl<'a> MaskSets<'a> {
         }
     }
 
-    /// Whether the coordinates of the position are in the set of its own mask.
+    /// Returns whether the coordinates of the position are in the set of its own mask.
     pub fn contains(&self, p: &Position) -> bool
         requires { IsAskable self.now p.now }
         ensures { IsTrue result ↔ IsIn self.now p.now }

@@ -1,4 +1,4 @@
-//! The coordinates of a position, and where a man's are among them.
+//! The coordinates of a position, and the index of a man's coordinates.
 ghost use Rattle.std.specs.Prelude.{◌≡◌, ◌≤◌, ◌+◌, ◌++◌, length};
 ghost use Rattle.game_rules.specs.Game.{place_square};
 ghost use Rattle.mask_sets.specs.Tuple.{coordinates_of, tuple_of};
@@ -10,7 +10,7 @@ use chess_game::{Place, Position};
 /// Two numbers for each of at most eight men.
 pub type Coordinates = ArrayVec<i64, 16>;
 
-/// Adds the place of a man.
+/// Appends the coordinates of a man's place.
 fn push_place(tuple: &mut Coordinates, place: Place)
     requires { length tuple.old.items ≤ 14 }
     ensures items { tuple.new.items ≡ tuple.old.items ++ coordinates_of (place_square place) }
@@ -25,7 +25,7 @@ fn push_place(tuple: &mut Coordinates, place: Place)
     }
 }
 
-/// The coordinates of the live men, man by man, x before y.
+/// Returns the coordinates of the live men, in the order of their numbers, x before y.
 pub fn coordinates(p: &Position) -> Coordinates
     ensures { result.items ≡ tuple_of p.now }
 {
@@ -36,7 +36,7 @@ pub fn coordinates(p: &Position) -> Coordinates
     tuple
 }
 
-/// How many coordinates a place has.
+/// Returns the number of coordinates of a place: 2 for a live man, 0 for a captured one.
 fn width_of(place: Place) -> u8
     ensures width { result ≡ length (coordinates_of (place_square place)) }
     ensures few { result ≤ 2 }
@@ -47,7 +47,8 @@ fn width_of(place: Place) -> u8
     }
 }
 
-/// How many coordinates of the position come before those of the man of this number. If he is live, his x is at that place, and his y is next.
+/// Returns the number of coordinates that precede those of a man. If he is live, this is the index of his x, which is followed by
+/// his y.
 pub fn place_of_man(p: &Position, man: u8) -> u8
     requires first { 1 ≤ man }
     requires last { man ≤ length p.now.men }

@@ -1,5 +1,5 @@
--- The set of an automaton has one least period, one least number from which on it repeats, and one description. Within a budget it has that, or
--- there is one reason why it is not described; want of memory stands beside either.
+-- The set of an automaton has one least period, one least start of its repetition, and one description. For a budget it has that,
+-- or one error; an allocation failure is possible in each case.
 use Rattle.std.specs.Prelude.{◌≡◌, ◌≢◌, ◌⊎◌, ◌↔◌, ℕ, ◌%◌, ◌<◌, ◌≤◌, List, [], ◌∷◌}
 use Rattle.std.specs.Int.{bit_at}
 use Rattle.auto_core.specs.Automaton.{Automaton}
@@ -18,19 +18,19 @@ OneLeastPeriod = (a : Automaton) (q r : ℕ) → IsLeastPeriod (Has a) q → IsL
 abbrev pub OneLeastStart : Type 0
 OneLeastStart = (a : Automaton) (q m n : ℕ) → IsLeastStart (Has a) q m → IsLeastStart (Has a) q n → m ≡ n
 
--- the number lies in one of the runs
+-- the number is in one of the runs
 abbrev pub IsInRuns : List Run → ℕ → Type 0
 IsInRuns [] t = ⊥
 IsInRuns (run ∷ runs) t = ((run.low ≤ t) × (t ≤ run.high)) ⊎ IsInRuns runs t
 
--- it does, or from where on the set repeats its rest is listed
+-- the number is in one of the runs, or from the start on its residue is listed
 abbrev pub IsTold : Periodic → ℕ → Type 0
 IsTold p t = ((t < p.from) × IsInRuns p.runs.items t) ⊎ ((p.from ≤ t) × (bit_at p.rests (t % p.period) ≡ 1))
 
 abbrev pub TellsMembers : Type 0
 TellsMembers = (a : Automaton) (p : Periodic) (t : ℕ) → IsPeriodic (Has a) p → 1 ≤ t → Has a t ↔ IsTold p t
 
--- two descriptions say the same
+-- two descriptions are equal
 pub record SaysTheSame (p q : Periodic) : Type 0 where
   pub runs : p.runs.items ≡ q.runs.items
   pub from : p.from ≡ q.from

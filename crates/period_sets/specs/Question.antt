@@ -1,4 +1,4 @@
--- The formulas by which periods of the set of an automaton are tried, and their steps.
+-- The formulas that test periods of the set of an automaton, and their steps.
 use Rattle.std.specs.Prelude.{ℕ, zero, suc, ◌≤◌, ◌<◌, List, [], ◌∷◌, ◌++◌, pos, negsuc, Some, None}
 use Rattle.track_word.specs.declared.tracks.Var.{Var}
 use Rattle.track_word.specs.declared.atoms.Rel.TheVariants.{Le, Eq}
@@ -10,7 +10,7 @@ use Rattle.formula_auto.specs.Step.{FirstOver}
 use Rattle.period_sets.specs.declared.periodic.TheConstants.{MOST_PERIOD}
 use Rattle.period_sets.specs.Period.{IsPeriod}
 
--- the variable of the numbers of the set, and a further one
+-- the variable of the members, and an auxiliary one
 abbrev pub t_var : Var
 t_var = record { 0 = 18 }
 
@@ -21,22 +21,22 @@ u_var = record { 0 = 19 }
 abbrev pub is_in : Var → Tree
 is_in x = Among 0 (x ∷ [])
 
--- the number greater by q is
+-- t + q is in the set
 abbrev pub is_in_later : ℕ → Tree
 is_in_later q = Ex u_var (And (Lin ((pos 1, u_var) ∷ (negsuc 0, t_var) ∷ []) Eq (pos q)) (is_in u_var))
 
--- the number is positive, and one of it and the number greater by q is in the set and the other is not
+-- t is positive, and exactly one of t and t + q is in the set
 unfoldable pub differs : ℕ → Tree
 differs q =
     And (Lin ((negsuc 0, t_var) ∷ []) Le (negsuc 0))
     (Or (And (is_in t_var) (Not (is_in_later q))) (And (Not (is_in t_var)) (is_in_later q)))
 
--- the steps of the formulas for 1, 2 and so on up to a number
+-- the steps of the formulas for 1, 2, .. up to a number
 abbrev pub questions : ℕ → List Tree
 questions zero = []
 questions (suc n) = questions n ++ steps (differs (suc n))
 
--- what the formulas name
+-- the set that the formulas name
 abbrev pub named : Automaton → Sets
 named a = members (tables (a ∷ []))
 
@@ -44,7 +44,8 @@ named a = members (tables (a ∷ []))
 abbrev pub StaysWithin : Automaton → ℕ → ℕ → Type 0
 StaysWithin a budget last = FirstOver (questions last) (named a) budget 1 None
 
--- of the steps of the formulas up to a number, before which no number is a period, this is the first that exceeds the budget
+-- no number before the last tried one is a period, and of the steps of the formulas up to it this is the first that exceeds the
+-- budget
 pub record IsFirstPast (S : ℕ → Type 0) (a : Automaton) (budget step : ℕ) : Type 0 where
   pub last : ℕ
   pub few : last ≤ MOST_PERIOD

@@ -17,8 +17,9 @@ use auto_numbers::NumberSet;
 use limits::Budget;
 use std::alloc::Global;
 
-/// The positive members of the set of a reduced automaton. For each number from 1 to the first period a formula is compiled, by steps within the
-/// budget, that says where the set does not repeat; the last such number tells from where on it does.
+/// Returns the positive members of the set of a minimal one-track automaton as a periodic set.
+/// For each candidate period from 1 on, compiles a formula, by steps within the budget, for the numbers at which the set does not
+/// repeat; the last such number determines where the repetition starts. Errors: see `PeriodError`.
 pub fn describe_set(alloc: Global, a: &Auto, budget: Budget) -> Result<Periodic, PeriodError>
     requires reduced { IsReduced a.now }
     requires tracks { a.now.tracks ≡ t_var ∷ [] }

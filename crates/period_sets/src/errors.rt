@@ -1,21 +1,22 @@
-//! Why a set is not described.
+//! Errors of descriptions.
 ghost use Rattle.std.specs.Prelude.{◌≡◌};
 ghost use Rattle.period_sets.specs.declared.errors.PeriodError.TheVariants.{Memory};
 
 use std::alloc::AllocError;
 
-/// Why a set is not described.
+/// Why a set has no description.
 #[derive(Clone, Copy)]
 pub enum PeriodError {
-    /// The step of this number, counted from 1 through the formulas of the periods that were tried, is the first whose spread exceeds the budget.
+    /// The step with this number, counted from 1 through the formulas of the tried periods, is the first that needs more states
+    /// than the budget.
     Over { step: u32 },
     /// No number up to `MOST_PERIOD` is a period.
     NoPeriod,
-    /// The set repeats only from beyond 2^100.
+    /// The set repeats only from a number beyond 2^100 on.
     Far,
-    /// There are more than `MOST_RUNS` runs before the set repeats.
+    /// There are more than `MOST_RUNS` runs below the start of the repetition.
     Many,
-    /// Memory ran out.
+    /// An allocation failed.
     Memory,
 }
 

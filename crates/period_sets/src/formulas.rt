@@ -1,4 +1,4 @@
-//! The formula by which a period is tried. Err is want of memory alone.
+//! The formula that tests a period. Functions fail only if an allocation fails.
 ghost use Rattle.std.specs.Prelude.{◌≡◌, ◌≤◌, IfOk, [], ◌∷◌, pos, negsuc};
 ghost use Rattle.track_word.specs.declared.atoms.Rel.TheVariants.{Le, Eq};
 ghost use Rattle.lin_formula.specs.Tree as tree;
@@ -10,16 +10,16 @@ use lin_formula::{Formula, LinWhy, SetId, among, and, ex, lin, not, or};
 use std::alloc::{AllocError, Global};
 use track_word::{Rel, Var};
 
-/// The variable of the numbers of the set.
+/// The variable of the members.
 const T: Var = Var(18);
 
-/// A further variable.
+/// An auxiliary variable.
 const U: Var = Var(19);
 
-/// How many steps the formula has.
+/// The number of steps of the formula.
 pub const STEPS: u32 = 8;
 
-/// The number is positive, and one of it and the number greater by q is in the set and the other is not.
+/// Returns the formula that t is positive and exactly one of t and t + q is in the set.
 #[tactic(auto, unfolding(crate::specs::Question::differs))]
 pub fn differs(alloc: Global, q: u8) -> Result<Formula, AllocError>
     requires { q ≤ MOST_PERIOD }
@@ -39,7 +39,7 @@ pub fn differs(alloc: Global, q: u8) -> Result<Formula, AllocError>
     both(alloc, is_positive(alloc)?, changes)
 }
 
-/// The number is in the set.
+/// Returns the formula that the number is in the set.
 fn is_in(alloc: Global, var: Var) -> Result<Formula, AllocError>
     ensures { IfOk result (λ f. tree_of f ≡ question.is_in var) }
 {
@@ -47,7 +47,7 @@ fn is_in(alloc: Global, var: Var) -> Result<Formula, AllocError>
     Ok(made)
 }
 
-/// The number greater by q is in the set.
+/// Returns the formula that t + q is in the set.
 fn is_in_later(alloc: Global, q: u8) -> Result<Formula, AllocError>
     requires { q ≤ MOST_PERIOD }
     ensures { IfOk result (λ f. tree_of f ≡ question.is_in_later q) }
@@ -57,7 +57,7 @@ fn is_in_later(alloc: Global, q: u8) -> Result<Formula, AllocError>
     some(alloc, U, both(alloc, later, member)?)
 }
 
-/// The further number is greater by q.
+/// Returns the formula that the auxiliary number is t + q.
 fn is_later(alloc: Global, q: u8) -> Result<Formula, AllocError>
     requires { q ≤ MOST_PERIOD }
     ensures { IfOk result (λ f. tree_of f ≡ tree.Lin ((pos 1, question.u_var) ∷ (negsuc 0, question.t_var) ∷ []) Eq (pos q)) }
@@ -69,7 +69,7 @@ fn is_later(alloc: Global, q: u8) -> Result<Formula, AllocError>
     }
 }
 
-/// The number is positive.
+/// Returns the formula that t is positive.
 fn is_positive(alloc: Global) -> Result<Formula, AllocError>
     ensures { IfOk result (λ f. tree_of f ≡ tree.Lin ((negsuc 0, question.t_var) ∷ []) Le (negsuc 0)) }
 {
@@ -80,7 +80,7 @@ fn is_positive(alloc: Global) -> Result<Formula, AllocError>
     }
 }
 
-/// The formula does not hold.
+/// Returns the negation.
 fn denied(alloc: Global, f: Formula) -> Result<Formula, AllocError>
     ensures { IfOk result (λ made. tree_of made ≡ tree.Not (tree_of f)) }
 {
@@ -90,7 +90,7 @@ fn denied(alloc: Global, f: Formula) -> Result<Formula, AllocError>
     }
 }
 
-/// Both formulas hold.
+/// Returns the conjunction.
 fn both(alloc: Global, f: Formula, g: Formula) -> Result<Formula, AllocError>
     ensures { IfOk result (λ made. tree_of made ≡ tree.And (tree_of f) (tree_of g)) }
 {
@@ -100,7 +100,7 @@ fn both(alloc: Global, f: Formula, g: Formula) -> Result<Formula, AllocError>
     }
 }
 
-/// One of the formulas holds, or both do.
+/// Returns the disjunction.
 fn either(alloc: Global, f: Formula, g: Formula) -> Result<Formula, AllocError>
     ensures { IfOk result (λ made. tree_of made ≡ tree.Or (tree_of f) (tree_of g)) }
 {
@@ -110,7 +110,7 @@ fn either(alloc: Global, f: Formula, g: Formula) -> Result<Formula, AllocError>
     }
 }
 
-/// The formula holds with some integer as the variable's value.
+/// Returns the existential quantification of a variable.
 fn some(alloc: Global, var: Var, f: Formula) -> Result<Formula, AllocError>
     ensures { IfOk result (λ made. tree_of made ≡ tree.Ex var (tree_of f)) }
 {

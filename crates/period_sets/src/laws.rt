@@ -1,32 +1,32 @@
-//! Laws of sets that repeat, each the contract of a function that does nothing.
+//! Laws of periodic sets, each the contract of a function without a body.
 ghost use Rattle.period_sets.specs.Laws.{NoErrorBeside, OneDescription, OneError, OneLeastPeriod, OneLeastStart, TellsMembers};
 
-/// A set has one least period.
+/// States that the least period of a set is unique.
 pub fn one_least_period()
     ensures { OneLeastPeriod }
 {}
 
-/// There is one least number from which on a set repeats.
+/// States that the least start of the repetition is unique.
 pub fn one_least_start()
     ensures { OneLeastStart }
 {}
 
-/// A set has one description.
+/// States that the description of a set is unique.
 pub fn one_description()
     ensures { OneDescription }
 {}
 
-/// A description tells which positive numbers are in the set.
+/// States that a description determines which positive numbers are in the set.
 pub fn description_tells()
     ensures { TellsMembers }
 {}
 
-/// Where a set is described within the budget, there is no error beside it but want of memory.
+/// States that a set that is described within the budget has no error but `Memory`.
 pub fn no_error_beside()
     ensures { NoErrorBeside }
 {}
 
-/// Of a set and a budget there is one error at most beside want of memory.
+/// States that a set and a budget have at most one error other than `Memory`.
 pub fn one_error()
     ensures { OneError }
 {}

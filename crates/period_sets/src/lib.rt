@@ -1,6 +1,6 @@
-//! Sets of integers that repeat from some number on: the least period, from where on it holds, and which positive numbers are in the set.
-//! `specs/Period` says what a period is, what the runs below are, and what is said of all numbers from there on; `specs/Question` by which
-//! formulas periods are tried.
+//! Describes sets of integers that repeat from some number on.
+//! Returns the least period, the start of the repetition, and the positive numbers in the set. `specs/Period` defines periods, runs
+//! and residues, and `specs/Question` the formulas that test periods.
 #![tactic(auto)]
 
 mod description;

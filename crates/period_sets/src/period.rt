@@ -1,4 +1,4 @@
-//! The least period of a set, and from where on it repeats.
+//! The least period of a set, and the start of its repetition.
 ghost use Rattle.std.specs.Prelude.{◌≡◌, ◌≤◌, ◌<◌, ◌+◌, ◌*◌, [], ◌∷◌, pos, IfOk, IfErr, OnOk, None};
 ghost use Rattle.auto_core.specs.Integers.{DecidesIntegers};
 ghost use Rattle.auto_core.specs.Reduced.{IsReduced};
@@ -24,7 +24,7 @@ use track_word::laws::{
     bits_spell_their_integers, repeating_first_letter_keeps_values, words_of_equal_values_are_equal,
 };
 
-/// The least period, and the least positive number from which on the set repeats.
+/// Returns the least period, and the least positive number from which on the set repeats.
 pub fn first_period(alloc: Global, a: &Auto, budget: Budget) -> Result<PeriodStart, PeriodError>
     requires reduced { IsReduced a.now }
     requires tracks { a.now.tracks ≡ t_var ∷ [] }
@@ -58,7 +58,7 @@ pub fn first_period(alloc: Global, a: &Auto, budget: Budget) -> Result<PeriodSta
     Err(PeriodError::NoPeriod)
 }
 
-/// The set as the only one of a table.
+/// Adds the set to an empty table.
 fn put(sets: &mut SetTable, a: &Auto) -> Result<(), AllocError>
     requires { sets.old ≡ [] }
     ensures { OnOk result (sets.new ≡ a.now ∷ []) }
@@ -69,7 +69,7 @@ fn put(sets: &mut SetTable, a: &Auto) -> Result<(), AllocError>
     }
 }
 
-/// The last number of which the set has one of it and the number greater by the period.
+/// Returns the last number t such that exactly one of t and t + period is in the set.
 fn last_difference(
     alloc: Global,
     a: &Auto,
@@ -96,7 +96,7 @@ fn last_difference(
     Ok(greatest)
 }
 
-/// The number of a step, where the steps of the formulas before its own are counted.
+/// Returns the number of a step, counted through the formulas before its own.
 fn counted(before: u8, step: u32) -> u32
     requires before { before < MOST_PERIOD }
     requires step { step ≤ STEPS }

@@ -1,4 +1,4 @@
-//! Which rests modulo the period are in a set that repeats.
+//! The residues modulo the period of a set that repeats.
 ghost use Rattle.std.specs.Prelude.{◌≡◌, ◌↔◌, ◌+◌, ◌-◌, ◌%◌, ◌<◌, ◌≤◌, ◌^◌};
 ghost use Rattle.auto_numbers.specs.Numbers.{Has};
 ghost use Rattle.auto_numbers.specs.declared.bits.TheConstants.{GREATEST_BITS, MOST_BITS};
@@ -8,7 +8,7 @@ ghost use Rattle.period_sets.specs.Finding.{AreRestsFrom, Repeating};
 use crate::periodic::{MOST_PERIOD, PeriodStart};
 use auto_numbers::NumberSet;
 
-/// Bit i says that numbers of rest i are in the set.
+/// Returns the residues of the members from the start on; bit i is 1 if numbers with residue i are in the set.
 pub fn residues_of(set: &NumberSet, start: PeriodStart) -> u64
     requires { Repeating (Has set.now.auto.now) start }
     ensures { AreRests (Has set.now.auto.now) start.from start.period result }
@@ -16,7 +16,7 @@ pub fn residues_of(set: &NumberSet, start: PeriodStart) -> u64
     rests_from(set, start, 0)
 }
 
-/// The bits of the rests from a rest on, its own bit first.
+/// Returns the bits of the residues from `rest` on, lowest first.
 fn rests_from(set: &NumberSet, start: PeriodStart, rest: u8) -> u64
     requires start { Repeating (Has set.now.auto.now) start }
     requires rest { rest ≤ start.period }
@@ -29,7 +29,7 @@ fn rests_from(set: &NumberSet, start: PeriodStart, rest: u8) -> u64
     own_bit(set, number) + 2 * rests_from(set, start, rest + 1)
 }
 
-/// The bit of a number.
+/// Returns 1 if a number is in the set, and 0 otherwise.
 fn own_bit(set: &NumberSet, number: u128) -> u64
     requires { number < 2 ^ MOST_BITS }
     ensures bit { result < 2 }
@@ -38,7 +38,7 @@ fn own_bit(set: &NumberSet, number: u128) -> u64
     if set.has(number) { 1 } else { 0 }
 }
 
-/// The first number of a rest.
+/// Returns the first number from the start on with a residue.
 fn first_of_rest(start: PeriodStart, rest: u8) -> u128
     requires period { start.period ≤ MOST_PERIOD }
     requires rest { rest < start.period }

@@ -11,7 +11,8 @@ use auto_numbers::NumberSet;
 use auto_numbers::laws::each_number_is_in_or_not;
 use std::alloc::{AllocError, Global};
 
-/// The runs of positive members below the end.
+/// Returns the runs of positive members below the end. Errors: `Many` if there are more than `MOST_RUNS`, `Memory` if an allocation
+/// fails.
 pub fn runs_below(alloc: Global, set: &NumberSet, end: u128) -> Result<Vec<Run>, PeriodError>
     requires { end ≤ 2 ^ GREATEST_BITS }
     ensures ok { IfOk result (λ runs. AreFewRuns (Has set.now.auto.now) 1 end MOST_RUNS runs.items) }
@@ -22,7 +23,7 @@ pub fn runs_below(alloc: Global, set: &NumberSet, end: u128) -> Result<Vec<Run>,
     Ok(runs)
 }
 
-/// Adds the runs from a number on and below the end, of which there are to be no more than so many.
+/// Appends the runs from a number on and below the end, at most as many as there is room for.
 fn add_runs(
     runs: &mut Vec<Run>,
     set: &NumberSet,
@@ -51,7 +52,7 @@ fn add_runs(
     }
 }
 
-/// The first member of the set from a number on and below the end.
+/// Returns the first member of the set from a number on and below the end.
 fn run_start(set: &NumberSet, from: u128, end: u128) -> Option<u128>
     requires { end ≤ 2 ^ GREATEST_BITS }
     ensures { IsRunStart (Has set.now.auto.now) from end result }
@@ -65,7 +66,7 @@ fn run_start(set: &NumberSet, from: u128, end: u128) -> Option<u128>
     }
 }
 
-/// Where the run of members ends that begins there: the first number that is no member, or the end.
+/// Returns the end of the run of members that starts at `low`: the first number that is not a member, or the end.
 fn run_end(set: &NumberSet, low: u128, end: u128) -> u128
     requires member { Has set.now.auto.now low }
     requires below { low < end }
@@ -79,7 +80,7 @@ fn run_end(set: &NumberSet, low: u128, end: u128) -> u128
     }
 }
 
-/// Puts a run at the end.
+/// Appends a run.
 fn put(runs: &mut Vec<Run>, run: Run) -> Result<(), AllocError>
     ensures { OnOk result (runs.new.items ≡ runs.old.items ++ run ∷ []) }
 {

@@ -20,31 +20,30 @@ pub record IsFactored (whole part : Tree) (qs : List Equation) (e : Sets) : Type
   pub equation_vars : AreOver qs (free_vars whole)
   pub holds : (v : Values) → Holds whole e v ↔ (Holds part e v × AreSolved qs v)
 
--- a conjunction with a formula has to tell apart at most so many times as many words as that of the part with it
+-- a conjunction with a formula needs at most a constant times as many states as that of the part with it
 abbrev pub AndBound : Type 0
 AndBound =
     (whole part g : Tree) (qs : List Equation) (e : ℕ → SetOf) (budget each : ℕ)
     → IsFactored whole part qs (members e) → colours qs * each ≤ budget
     → Exceeds (And whole g) (members e) budget → Exceeds (And part g) (members e) each
 
--- what the formula says rests on whether the equations are solved, as that they are, or that they are not
+-- the truth of the formula depends only on whether the equations are solved
 abbrev pub RestsOn : Tree → List Equation → Sets → Type 0
 RestsOn g rs e = (v w : Values) → AreSolved rs v ↔ AreSolved rs w → Holds g e v → Holds g e w
 
--- a conjunction with equations, or with their negation, has to tell apart at most so many times as many words
--- as the part
+-- a conjunction with equations, or with their negation, needs at most a constant times as many states as the part
 abbrev pub EquationBound : Type 0
 EquationBound =
     (whole part g : Tree) (qs rs : List Equation) (e : ℕ → SetOf) (budget each : ℕ)
     → IsFactored whole part qs (members e) → RestsOn g rs (members e) → colours qs * colours rs * each ≤ budget
     → Exceeds (And whole g) (members e) budget → HasMoreResiduals part (members e) each
 
--- the equation gives the variable a value
+-- the equation determines the variable
 abbrev pub Settles : Var → Equation → Type 0
 Settles x q = ((q.less ≡ x) × (q.greater ≢ x)) ⊎ ((q.greater ≡ x) × (q.less ≢ x))
 
--- without a variable that an equation settles, a formula has to tell apart at most so many times as many words
--- as the part
+-- after the projection of a variable that an equation determines, a formula needs at most a constant times as many states as the
+-- part
 abbrev pub ExBound : Type 0
 ExBound =
     (x : Var) (whole part : Tree) (q : Equation) (qs : List Equation) (e : ℕ → SetOf) (budget each : ℕ)

@@ -1,4 +1,4 @@
--- What is proved of images and of what they are computed by.
+-- Laws of images and of their computation.
 use Rattle.std.specs.Prelude.{◌≡◌, ◌↔◌, ℕ, ℤ, pos, negsuc, suc, zero, ◌*◌, ◌≤◌, List, [], ◌∷◌, length, map, None}
 use Rattle.track_word.specs.Tracks.{Values, place}
 use Rattle.auto_core.specs.Automaton.{Automaton, IsAutomaton}
@@ -28,13 +28,13 @@ negated (pos zero) = pos zero
 negated (pos (suc n)) = negsuc n
 negated (negsuc n) = pos (suc n)
 
--- of a moved tuple the one automaton accepts what the other accepts of the tuple that it comes from
+-- the second automaton accepts a shifted tuple if and only if the first accepts the tuple before the shift
 abbrev pub IsMovedBy : List ValueShift → Automaton → Automaton → Type 0
 IsMovedBy [] a b = b ≡ a
 IsMovedBy (s ∷ shifts) a b =
     (m : Automaton) × DecidesMoved a m (place a.tracks s.new) (negated s.by) × IsMovedBy shifts m b
 
--- the second automaton decides the moved set, whatever else is named, where the first one is the set
+-- the second automaton decides the shifted set, if the first one is the set, whatever the other names denote
 abbrev pub IsMovedSet : Image → Automaton → Automaton → Type 0
 IsMovedSet i set b = (e : ℕ → SetOf) → e i.set ≡ Table set → Decides b (moved_tree i) (members e)
 
@@ -43,7 +43,7 @@ MovedSetIsDecided =
     (i : Image) (e : ℕ → SetOf) (set a b : Automaton) → IsShiftable i → e i.set ≡ Table set
     → DecidesAmong set (moved_vars i) a → IsMovedBy i.shifts a b → Decides b (moved_tree i) (members e)
 
--- how many ways to leave the changes open, one after the other
+-- the number of ways in which the changes can be left undecided, one after another
 abbrev pub start_colours : List ValueShift → ℕ
 start_colours [] = 1
 start_colours (s ∷ shifts) = colours (equation_of s ∷ []) * start_colours shifts
@@ -51,7 +51,7 @@ start_colours (s ∷ shifts) = colours (equation_of s ∷ []) * start_colours sh
 abbrev pub change_colours : List ValueShift → ℕ
 change_colours shifts = colours (map equation_of shifts)
 
--- no step of the formulas that are asked exceeds the budget, nor does one that leaves them out exceed `each`
+-- no step of the other formulas exceeds the budget, and no step that subtracts them exceeds `each`
 abbrev pub AreClearWithin : Tree → List Tree → (ℕ → SetOf) → ℕ → ℕ → Type 0
 AreClearWithin f [] e budget each = Unit {0}
 AreClearWithin f (g ∷ gs) e budget each =

@@ -1,4 +1,4 @@
-//! An image compiled by moving tracks of its set, where that is known to be within the budget, or else as any formula.
+//! Images compiled by shifting tracks of the set if that is known to be within the budget, and as other formulas otherwise.
 ghost use Rattle.std.specs.Prelude.{◌≡◌, ◌≤◌, ◌<◌, ◌^◌, length, IfOk, IfErr, IfSome, OnOk};
 ghost use Rattle.auto_core.specs.Integers.{DecidesIntegers};
 ghost use Rattle.auto_core.specs.Reduced.{AllReached};
@@ -30,8 +30,8 @@ use limits::Budget;
 use lin_formula::Formula;
 use std::alloc::{AllocError, Global};
 
-/// As `Memo::compile_unreduced`. An image of a set of which some values change by one or two is the set with tracks moved, wherever that
-/// shows that no step of the formula exceeds the budget. Of a plain formula that an image asks the memo keeps the automaton.
+/// Compiles as `Memo::compile_unreduced` does. The image of a set in which some values change by one or two is the set with shifted
+/// tracks, if that shows that no step of the formula exceeds the budget. Plain subformulas of the image are cached.
 pub fn compile_image_on(
     alloc: Global,
     memo: &mut Memo,
@@ -58,7 +58,7 @@ pub fn compile_image_on(
     }
 }
 
-/// The automaton of an image by moving tracks, if the formula is one and that is known to be within the budget.
+/// Returns the automaton of an image by shifting tracks, if the formula is an image and that is known to be within the budget.
 fn by_moving(
     alloc: Global,
     memo: &mut Memo,
@@ -82,7 +82,7 @@ fn by_moving(
     }
 }
 
-/// What a formula says as an image for which tracks can be moved, if it has the form of one.
+/// Returns a formula as an image for which tracks can be shifted, if it has that form.
 fn movable_image<'a>(alloc: Global, f: &'a Formula) -> Result<Option<Image<'a>>, AllocError>
     ensures same { IfOk result (λ some. IfSome some (λ i. image_tree (image_of i) ≡ tree_of f.now)) }
     ensures movable { IfOk result (λ some. IfSome some (λ i. IsMovable (image_of i))) }
@@ -96,7 +96,7 @@ fn movable_image<'a>(alloc: Global, f: &'a Formula) -> Result<Option<Image<'a>>,
     Ok(Some(image))
 }
 
-/// The automaton of an image by moving tracks. `Over` says nothing of the formula's steps.
+/// Returns the automaton of an image by shifting tracks. `Over` does not mean that a step of the formula exceeds the budget.
 fn image_within(
     alloc: Global,
     memo: &mut Memo,
@@ -131,7 +131,7 @@ fn image_within(
     Ok(part)
 }
 
-/// The set with the new values of the image in place of the old ones. `Over` says nothing.
+/// Returns the set with the image's new values in place of the old ones. `Over` does not mean that a step exceeds the budget.
 fn moved_set(alloc: Global, set: &Auto, image: &Image, each: Budget) -> Result<Auto, Grown>
     requires movable { IsMovable (image_of image.now) }
     requires arity { length image.now.vars.now ≡ length set.now.tracks }

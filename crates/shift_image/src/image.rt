@@ -1,9 +1,9 @@
-//! A formula taken apart, as an image.
+//! A formula parsed as an image.
 use crate::shift::ValueShift;
 use lin_formula::{Formula, SetId};
 use track_word::Var;
 
-/// The members of a set stand in some variables; some of their values change; and then none of some formulas holds.
+/// An image: the tuples of a set, with some values changed, for which none of some formulas is true.
 #[derive(Drop)]
 pub struct Image<'a> {
     pub set: SetId,

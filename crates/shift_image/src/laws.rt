@@ -1,4 +1,4 @@
-//! Laws of images, each the contract of a function that does nothing.
+//! Laws of images, each the contract of a function without a body.
 ghost use Rattle.shift_image.specs.Laws.{ImageSaysPart, MovedSetIsDecided, StepsAreWithin};
 
 use auto_shift::laws::words_can_be_moved;
@@ -7,19 +7,19 @@ use shift_bound::laws::{
     states_bound_residuals,
 };
 
-/// The image says what its part says, of the same variables.
+/// States that the image says what its part says, of the same variables.
 pub fn image_says_what_its_part_says()
     ensures { ImageSaysPart }
 {}
 
-/// A set whose tracks are moved is what the step makes of it.
+/// States that the set with shifted tracks is decided by the automaton of the step.
 pub fn moved_sets_are_decided()
     ensures { MovedSetIsDecided }
 {
     words_can_be_moved();
 }
 
-/// No step of an image exceeds the budget, where the automata of its part have few states.
+/// States that no step of an image exceeds the budget if the automata of its parts have few states.
 pub fn steps_of_an_image_are_within()
     ensures { StepsAreWithin }
 {

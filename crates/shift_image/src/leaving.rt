@@ -1,4 +1,4 @@
-//! What is left of a moved set where some formulas do not hold.
+//! The part of a shifted set for which some formulas are false.
 ghost use Rattle.std.specs.Prelude.{◌≡◌, ◌≤◌, ◌<◌, ◌^◌, length, All, IfOk, IfSome};
 ghost use Rattle.track_word.specs.Tracks.{with_vars};
 ghost use Rattle.lin_formula.specs.Tree.{steps};
@@ -18,14 +18,14 @@ use limits::{Budget, MOST_TRACKS};
 use lin_formula::Formula;
 use std::alloc::Global;
 
-/// The sets that formulas name, and how many states an automaton may have.
+/// The sets that formulas name, and the state limit of an automaton.
 #[derive(Drop)]
 pub struct Scope<'a> {
     pub sets: &'a SetTable,
     pub each: Budget,
 }
 
-/// What is left of the set where none of the formulas holds. `Over` says nothing.
+/// Returns the set without the tuples for which one of the formulas is true. `Over` does not mean that a step exceeds the budget.
 pub fn minus_all(
     alloc: Global,
     memo: &mut Memo,
@@ -44,8 +44,8 @@ pub fn minus_all(
     }
 }
 
-/// What is left where none of the formulas holds, by one product with an automaton of what some of them hold of. Made only where
-/// the budget has room for all tuples of states of the set and of the formulas' automata, and where that pays.
+/// Returns the same by one product with an automaton of the disjunction of the formulas. Built only if the budget has room for all
+/// tuples of states of the set and of the formulas' automata, and if that is faster.
 fn left_at_once(
     alloc: Global,
     memo: &mut Memo,
@@ -71,7 +71,7 @@ fn left_at_once(
     Ok(Some(left))
 }
 
-/// An automaton of the words of which some of the formulas hold, if no more tuples of states than there may be come of theirs.
+/// Returns an automaton of the disjunction of the formulas, if the number of tuples of their states is small enough.
 fn any_of(
     alloc: Global,
     memo: &mut Memo,
@@ -103,7 +103,7 @@ fn any_of(
     Ok(Some(any))
 }
 
-/// The automaton of a formula. `Over` says nothing.
+/// Returns the automaton of a formula. `Over` does not mean that a step exceeds the budget.
 fn answered(alloc: Global, memo: &mut Memo, f: &Formula, scope: &Scope) -> Result<Auto, Grown>
     requires compilable { IsCompilable (tree_of f.now) scope.now.sets.now }
     requires few_steps { length (steps (tree_of f.now)) < 2 ^ 31 }
@@ -121,7 +121,7 @@ fn answered(alloc: Global, memo: &mut Memo, f: &Formula, scope: &Scope) -> Resul
     }
 }
 
-/// What is left where none of the formulas holds, by a product with each of them, one after the other.
+/// Returns the same by a product with each of the formulas in turn.
 fn left_in_turn(
     alloc: Global,
     memo: &mut Memo,
@@ -143,7 +143,7 @@ fn left_in_turn(
     Ok(auto)
 }
 
-/// What is left where one formula does not hold.
+/// Returns the set without the tuples for which one formula is true.
 fn left_of(
     alloc: Global,
     memo: &mut Memo,
@@ -161,7 +161,7 @@ fn left_of(
     difference(alloc, a, &asked, scope.each)
 }
 
-/// What the first automaton decides, and not what the second one does.
+/// Returns the difference of two automata.
 fn difference(alloc: Global, a: &Auto, b: &Auto, each: Budget) -> Result<Auto, Grown>
     requires { length (with_vars a.now.tracks b.now.tracks) ≤ MOST_TRACKS }
     ensures { IfOk result (IsDifference each a.now b.now) }

@@ -7,7 +7,7 @@ use auto_core::Auto;
 use auto_merge::merge;
 use std::alloc::{AllocError, Global};
 
-/// The same words, with the states merged that one pass finds to be alike.
+/// Returns the automaton of the same words with states merged in one pass. Errors: an allocation failed.
 pub fn merged(alloc: Global, a: &Auto) -> Result<Auto, AllocError>
     ensures same { IfOk result (AcceptSame a.now) }
     ensures accessible { IfOk result (λ m. (budget : ℕ) → IsAccessible budget a.now → IsAccessible budget m) }

@@ -1,4 +1,4 @@
-//! Whether tracks of the set can be moved in place of an image's steps.
+//! Whether tracks of the set can be shifted in place of an image's steps.
 ghost use Rattle.std.specs.Prelude.{◌≡◌, All, AllPairs, map, IfOk, IsTrue};
 ghost use Rattle.lin_formula.specs.TreeOf.{tree_of};
 ghost use Rattle.lin_formula.specs.Free.{IsOneOf};
@@ -12,7 +12,7 @@ use lin_formula::{Formula, free_vars};
 use std::alloc::{AllocError, Global};
 use track_word::Var;
 
-/// Whether some values change, each of them by one or two, and tracks of the set can be moved for that.
+/// Returns whether some values change, each by one or two, and tracks of the set can be shifted for that.
 pub fn is_movable(alloc: Global, image: &Image) -> Result<bool, AllocError>
     ensures { IfOk result (λ is. IsTrue is → IsMovable (image_of image.now)) }
 {
@@ -24,7 +24,7 @@ pub fn is_movable(alloc: Global, image: &Image) -> Result<bool, AllocError>
     are_about(alloc, image.clear.as_slice(), moved.as_slice())
 }
 
-/// The variables in which a moved member stands.
+/// Returns the variables of a shifted tuple.
 pub fn moved_vars(
     alloc: Global,
     shifts: &[ValueShift],
@@ -39,7 +39,7 @@ pub fn moved_vars(
     Ok(moved)
 }
 
-/// The variable in which a value stands then.
+/// Returns the variable that has a value after the change.
 fn moved_var(shifts: &[ValueShift], var: Var) -> Var
     ensures { result ≡ image.moved_var shifts.now var }
 {
@@ -62,7 +62,7 @@ fn all_leave(shifts: &[ValueShift], vars: &[Var]) -> bool
     true
 }
 
-/// Whether one of the variables changes, by one or two, to one that is none of them.
+/// Returns whether one of the variables changes, by one or two, to a variable that is not among them.
 fn leaves(shift: ValueShift, vars: &[Var]) -> bool
     ensures { IsTrue result → Leaves vars.now shift }
 {
@@ -82,7 +82,7 @@ fn is_near(by: i32) -> bool
     matches!(by, -2 | -1 | 1 | 2)
 }
 
-/// Whether each two changes are of different variables to different ones.
+/// Returns whether the changes are of distinct variables to distinct variables.
 fn have_distinct_vars(shifts: &[ValueShift]) -> bool
     ensures { IsTrue result → AllPairs AreOtherVars shifts.now }
 {
@@ -103,7 +103,7 @@ fn is_apart(shift: ValueShift, others: &[ValueShift]) -> bool
     true
 }
 
-/// Whether the formulas speak of no other variables.
+/// Returns whether the formulas have no other free variables.
 fn are_about(alloc: Global, formulas: &[&Formula], vars: &[Var]) -> Result<bool, AllocError>
     ensures { IfOk result (λ are. IsTrue are → All (IsAbout vars.now) (trees formulas.now)) }
 {

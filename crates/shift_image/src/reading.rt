@@ -1,4 +1,4 @@
-//! Reading a formula as an image.
+//! Parsing a formula as an image.
 ghost use Rattle.std.specs.Prelude.{◌≡◌, [], ◌∷◌, pos, negsuc, IfOk, IfSome, IsTrue};
 ghost use Rattle.lin_formula.specs.Tree.{Not};
 ghost use Rattle.lin_formula.specs.TreeOf.{tree_of};
@@ -11,7 +11,7 @@ use lin_formula::{Formula, SetId};
 use std::alloc::{AllocError, Global};
 use track_word::{Rel, Var};
 
-/// The members of a set, and how some of their values change.
+/// A membership, and the changes of its values.
 #[derive(Drop)]
 struct Step<'a> {
     set: SetId,
@@ -19,7 +19,7 @@ struct Step<'a> {
     shifts: Vec<ValueShift>,
 }
 
-/// What a formula says as an image, if it has the form of one.
+/// Returns a formula as an image, if it has that form. Errors: an allocation failed.
 pub fn read_image<'a>(alloc: Global, f: &'a Formula) -> Result<Option<Image<'a>>, AllocError>
     ensures { IfOk result (λ some. IfSome some (λ i. image_tree (image_of i) ≡ tree_of f.now)) }
 {
@@ -40,7 +40,7 @@ pub fn read_image<'a>(alloc: Global, f: &'a Formula) -> Result<Option<Image<'a>>
     }))
 }
 
-/// What stands behind each Ex at the head of a formula. Adds their variables, the outermost first.
+/// Returns the body after the leading quantifiers of a formula. Appends their variables, outermost first.
 fn open<'a>(f: &'a Formula, bound: &mut Vec<Var>) -> Result<&'a Formula, AllocError>
     ensures { IfOk result (λ body. ex_all bound.new.items (tree_of body.now) ≡ ex_all bound.old.items (tree_of f.now)) }
 {
@@ -53,7 +53,7 @@ fn open<'a>(f: &'a Formula, bound: &mut Vec<Var>) -> Result<&'a Formula, AllocEr
     }
 }
 
-/// What stands before each And with Not at the end of a formula, and of which formulas these are.
+/// Returns the formula before the conjunctions with negations at its end, and the negated formulas.
 fn without_clear<'a>(
     alloc: Global,
     f: &'a Formula,
@@ -73,7 +73,7 @@ fn without_clear<'a>(
     }
 }
 
-/// The formula of which one is Not.
+/// Returns the negated formula, if the formula is a negation.
 fn denied<'a>(f: &'a Formula) -> Option<&'a Formula>
     ensures { IfSome result (λ g. Not (tree_of g.now) ≡ tree_of f.now) }
 {
@@ -83,7 +83,7 @@ fn denied<'a>(f: &'a Formula) -> Option<&'a Formula>
     }
 }
 
-/// The members of a set, and how some of their values change, if a formula says no more.
+/// Returns a formula as a membership with changes of its values, if it has that form.
 fn step_of<'a>(alloc: Global, f: &'a Formula) -> Result<Option<Step<'a>>, AllocError>
     ensures { IfOk result (λ some. IfSome some (λ step. step_tree step ≡ tree_of f.now)) }
 {
@@ -107,7 +107,7 @@ fn step_of<'a>(alloc: Global, f: &'a Formula) -> Result<Option<Step<'a>>, AllocE
     }
 }
 
-/// By how much which variable is more than which other one, if a formula says that.
+/// Returns the two variables and the constant, if a formula says that one variable exceeds another by a constant.
 fn shift_of(f: &Formula) -> Option<ValueShift>
     ensures { IfSome result (λ shift. change shift ≡ tree_of f.now) }
 {
@@ -128,7 +128,7 @@ fn shift_of(f: &Formula) -> Option<ValueShift>
     }
 }
 
-/// The two variables of a difference.
+/// Returns the two variables of a difference.
 fn difference_of(terms: &[(i8, Var)]) -> Option<(Var, Var)>
     ensures { IfSome result (λ vars. (pos 1, vars.0) ∷ (negsuc 0, vars.1) ∷ [] ≡ terms.now) }
 {
@@ -138,7 +138,7 @@ fn difference_of(terms: &[(i8, Var)]) -> Option<(Var, Var)>
     }
 }
 
-/// Whether these are the variables of the old values, in order.
+/// Returns whether these are the variables of the old values, in order.
 fn are_gone(vars: &[Var], shifts: &[ValueShift]) -> bool
     ensures { IsTrue result → gone shifts.now ≡ vars.now }
 {

@@ -1,4 +1,4 @@
-//! How many states a moved set may have, so that no step of the image exceeds the budget.
+//! The state limit of a shifted set that ensures that no step of the image exceeds the budget.
 ghost use Rattle.std.specs.Prelude.{◌≡◌, ◌+◌, ◌*◌, ◌^◌, ◌≤◌, ◌<◌, length, map, IfSome};
 ghost use Rattle.shift_bound.specs.Equations as equations;
 ghost use Rattle.shift_image.specs.Image.{equation_of};
@@ -7,7 +7,7 @@ ghost use Rattle.shift_image.specs.Laws as laws;
 use crate::shift::ValueShift;
 use limits::Budget;
 
-/// How many states the moved set and what is left of it may have each, if the set has few enough.
+/// Returns the state limit of the shifted set and of its part, each, if the set has few enough states.
 pub fn share(budget: Budget, shifts: &[ValueShift], states: u32) -> Option<Budget>
     requires { 0 < length shifts.now }
     ensures start { IfSome result (λ each. laws.start_colours shifts.now * states ≤ budget) }
@@ -22,7 +22,7 @@ pub fn share(budget: Budget, shifts: &[ValueShift], states: u32) -> Option<Budge
     Budget::checked(each as u32)
 }
 
-/// In how many ways a word may leave open whether the new value is the old one and so much more.
+/// Returns the number of ways in which a word can leave a change undecided.
 fn ways(shift: ValueShift) -> u64
     ensures is { result ≡ (equation_of shift).by + 1 }
     ensures few { result < 2 ^ 32 }
@@ -30,7 +30,7 @@ fn ways(shift: ValueShift) -> u64
     u64::from(shift.by.unsigned_abs()) + 1
 }
 
-/// How many colours words have by these, one change after the other.
+/// Returns the number of colours of words for these changes, one after another.
 fn start_colours(shifts: &[ValueShift]) -> Option<u64>
     ensures { IfSome result (λ colours. colours ≡ laws.start_colours shifts.now) }
 {
@@ -40,7 +40,7 @@ fn start_colours(shifts: &[ValueShift]) -> Option<u64>
     }
 }
 
-/// By all changes at once.
+/// Returns the number of colours of words for all changes together.
 fn change_colours(shifts: &[ValueShift]) -> Option<u64>
     requires { 0 < length shifts.now }
     ensures { IfSome result (λ colours. colours ≡ laws.change_colours shifts.now) }

@@ -1,7 +1,7 @@
-//! A value of a tuple that changes by a number.
+//! A value of a tuple that changes by a constant.
 use track_word::Var;
 
-/// One value of a tuple: in which variable it stood, in which it stands then, and how much more it is.
+/// A change of one value: the variable before, the variable after, and the difference.
 #[derive(Clone, Copy, PartialEq, Eq)]
 pub struct ValueShift {
     pub gone: Var,

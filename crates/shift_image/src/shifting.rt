@@ -1,4 +1,4 @@
-//! Tracks of a set, moved.
+//! Shifted tracks of a set.
 ghost use Rattle.std.specs.Prelude.{◌≡◌, ◌≢◌, ◌<◌, pos, length, All, IfOk};
 ghost use Rattle.track_word.specs.Tracks.{place};
 ghost use Rattle.auto_core.specs.Integers.{DecidesIntegers};
@@ -16,7 +16,7 @@ use limits::Budget;
 use std::alloc::Global;
 use track_word::place_of;
 
-/// The set with the new values in place of the old ones. `Over` says nothing.
+/// Returns the set with the new values in place of the old ones. `Over` does not mean that a step exceeds the budget.
 pub fn moved(alloc: Global, set: Auto, shifts: &[ValueShift], each: Budget) -> Result<Auto, Grown>
     requires integers { DecidesIntegers set }
     requires near { All (λ s. IsNear s.by) shifts.now }
@@ -31,7 +31,7 @@ pub fn moved(alloc: Global, set: Auto, shifts: &[ValueShift], each: Budget) -> R
     Ok(auto)
 }
 
-/// With one value changed.
+/// Returns the set with one value changed.
 fn shifted(alloc: Global, a: &Auto, shift: ValueShift, each: Budget) -> Result<Auto, Grown>
     requires integers { DecidesIntegers a.now }
     requires near { IsNear shift.by }
@@ -45,7 +45,7 @@ fn shifted(alloc: Global, a: &Auto, shift: ValueShift, each: Budget) -> Result<A
     Ok(merged(alloc, &pairs)?)
 }
 
-/// How much more the old value is than the new one.
+/// Returns the old value minus the new one.
 fn back(shift: ValueShift) -> i32
     requires { IsNear shift.by }
     ensures is { result ≡ negated shift.by }

@@ -1,12 +1,12 @@
-//! How many tuples of states some automata have.
+//! The number of tuples of states of several automata.
 ghost use Rattle.std.specs.Prelude.{◌≡◌, ◌*◌, ◌^◌, ◌<◌, ◌≤◌, IfSome};
 
 use limits::Budget;
 
-/// Only where the set has so many times as many states as there are tuples of the formulas' does it pay to meet them at once.
+/// The formulas are combined first only if the set has at least this many times as many states as they have tuples of states.
 const LEAST_TIMES: u64 = 4;
 
-/// The number of tuples of states of some automata, and of how many there may be at most.
+/// The number of tuples of states of several automata, and its limit.
 #[derive(Clone, Copy)]
 pub struct Tuples {
     pub count: u64,
@@ -14,7 +14,7 @@ pub struct Tuples {
 }
 
 impl Tuples {
-    /// Those of an automaton with so many states, to which as many may be added as the budget has room for and as pay.
+    /// Returns the limits for an automaton with this many states: the room in the budget, and what is faster.
     pub fn new(states: u32, budget: Budget) -> Tuples
         ensures count { result.count ≡ states }
         ensures most { result.most ≤ budget }
@@ -28,7 +28,7 @@ impl Tuples {
         }
     }
 
-    /// With an automaton of so many states more, if there may be so many.
+    /// Adds an automaton with this many states, if the limit allows it.
     pub fn with(self, states: u32) -> Option<Tuples>
         ensures count { IfSome result (λ more. more.count ≡ self.count * states) }
         ensures few { IfSome result (λ more. more.count ≤ self.most) }
