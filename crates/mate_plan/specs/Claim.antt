@@ -14,7 +14,7 @@ use Rattle.mate_plan.specs.Plan.{Level}
 use Rattle.mate_plan.specs.PlanOf.{last_ply}
 use Rattle.mate_plan.specs.Turns.{plies_before_turn}
 
--- a set that is claimed at a ply for the positions with these live men
+-- a claimed set: of positions at a ply with these live men
 pub record ClaimedSet : Type 0 where
   pub ply : ℕ
   pub mask : ℕ
@@ -34,27 +34,27 @@ claimed_in (c ∷ sets) ply mask = if (c.ply == ply) && (c.mask == mask) then So
 abbrev pub claimed_at : Claim → ℕ → ℕ → Option Automaton
 claimed_at c ply mask = claimed_in c.sets ply mask
 
--- what is claimed at a ply, for each mask
+-- the claimed level of a ply: a set for each mask
 abbrev pub claimed_level : Claim → ℕ → Level
 claimed_level c ply mask = as_set (claimed_at c ply mask)
 
--- every second ply, so many of them
+-- `count` plies, every second one
 abbrev pub every_second : ℕ → ℕ → List ℕ
 every_second ply zero = []
 every_second ply (suc count) = ply ∷ every_second (ply + 2) count
 
--- the plies of the loser, from his first turn on: one for each move of the winner, and one more where he moves first
+-- the plies of the loser, from his first turn on: one for each move of the winner, and one more if the loser moves
+-- first
 abbrev pub losers_plies : Side → Side → ℕ → List ℕ
 losers_plies winner first moves = every_second (plies_before_turn (other winner) first) (moves + plies_before_turn winner first)
 
--- the loser is to move at the ply, which is an odd number of plies before the last one; the winner has so many moves
--- left
+-- the loser is to move at the ply, the last ply is an odd number of plies later, and the winner has `left` moves left
 pub record IsLosersPly (winner : Side) (p : Position) (moves ply : ℕ) : Type 0 where
   pub left : ℕ
   pub before : ply + (2 * left + 1) ≡ last_ply winner p.turn moves
 
--- the claim of a sound position has a set over the tracks of the mask's men for each ply of the loser and each mask,
--- and no other
+-- the claim is of a sound position and has exactly one set for each ply of the loser and each mask, over the tracks of
+-- the mask's men
 pub record IsClaim (c : Claim) : Type 0 where
   pub sound : Sound c.position
   pub few : length c.position.men ≤ 8
@@ -64,7 +64,7 @@ pub record IsClaim (c : Claim) : Type 0 where
       → IsLosersPly c.winner c.position c.moves ply × IsGameMask c.position mask
   pub tracks : (ply mask : ℕ) (a : Automaton) → claimed_at c ply mask ≡ Some a → a.tracks ≡ mask_tracks c.position mask
 
--- the position has the stock of the claim, the loser is to move, and its coordinates are in the claimed set of its own
+-- the position has the material of the claim, the loser is to move, and its coordinates are in the claimed set of its
 -- mask
 pub record IsClaimed (c : Claim) (ply : ℕ) (q : Position) : Type 0 where
   pub stock : HasStock c.position.men q

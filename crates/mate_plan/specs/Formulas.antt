@@ -1,4 +1,4 @@
--- The formulas of the plan over the sets that names stand for.
+-- The formulas of the plan over sets that names refer to.
 use Rattle.std.specs.Prelude.{◌≡◌, ℕ, ◌==◌, if◌then◌else◌, List, [], ◌∷◌, ◌++◌, map, filter, Option, Some, None, Vec}
 use Rattle.std.specs.List.{flat_map}
 use Rattle.std.specs.declared.alloc.Global.{Global}
@@ -19,7 +19,7 @@ use Rattle.mate_plan.specs.declared.stage.MaskSet.{MaskSet}
 use Rattle.mate_plan.specs.declared.stage.Stage.{Stage}
 use Rattle.mate_plan.specs.declared.stage.StageSet.{StageSet}
 
--- the last name for the mask, or what there is where it has none
+-- the last name for the mask, or the given one if there is none
 abbrev pub name_from : Option SetId → List ℕ → List (Option SetId) → ℕ → Option SetId
 name_from found [] names mask = found
 name_from found (m ∷ masks) [] mask = found
@@ -37,55 +37,55 @@ HaveTrees trees formulas = map tree_of formulas.items ≡ trees
 abbrev pub AreAdded : List Tree → Vec Formula Global → Vec Formula Global → Type 0
 AreAdded trees old new = map tree_of new.items ≡ map tree_of old.items ++ trees
 
--- where the option leads from the set of a mask, if it leads into the other mask
+-- the targets of the option's moves from the set of a mask, if it leads to the other mask
 abbrev pub image_to : Position → MaskSet → ℕ → Opt → List Tree
 image_to p from to o = if target_of from.mask o == to then image_of p.men from.mask o from.set.0 ∷ [] else []
 
--- where the options lead from the set of a mask, as far as they lead into the other mask
+-- the targets of the options' moves from the set of a mask, for the options that lead to the other mask
 abbrev pub images_to : Position → MaskSet → ℕ → List Opt → List Tree
 images_to p from to options =
     map (λ o. image_of p.men from.mask o from.set.0) (filter (λ o. target_of from.mask o == to) options)
 
--- where the side's moves lead from the set of a mask into another mask
+-- the targets of the side's moves from the set of a mask, with the other mask
 abbrev pub images_from : Position → Side → ℕ → ℕ → Option SetId → List Tree
 images_from p side to mask None = []
 images_from p side to mask (Some source) =
     images_to p (record { mask = mask; set = source }) to (options_of p.men mask side)
 
--- where the moves of the stage's side lead from the set of a mask into the mask of the stage
+-- the targets of the moves of the stage's side from the set of a mask, with the mask of the stage
 abbrev pub stage_images : Position → Stage → ℕ → Option SetId → List Tree
 stage_images p stage mask source = images_from p stage.side stage.mask mask source
 
--- where they lead from all sets of a level into a mask
+-- the targets of the side's moves from all sets of a level, with the mask
 abbrev pub image_trees : Position → Side → ℕ → List (Option SetId) → List Tree
 image_trees p side to level =
     flat_map (λ mask. images_from p side to mask (name_of (masks_of p) level mask)) (masks_of p)
 
--- where a move by the option leads from the set of a mask into the other set
+-- the positions of a mask's set with a move by the option into the other set
 abbrev pub pre_to : Position → MaskSet → Opt → Option SetId → List Tree
 pre_to p from o None = []
 pre_to p from o (Some target) = pre_of p.men from.mask o from.set.0 target.0 ∷ []
 
--- where a move by one of the options leads from the set of a mask into a set of a level
+-- the positions of a mask's set with a move by one of the options into a set of a level
 abbrev pub pres_to : Position → MaskSet → Names → List Opt → List Tree
 pres_to p from targets options =
     flat_map (λ o. pre_to p from o (name_of (masks_of p) targets (target_of from.mask o))) options
 
--- where some move of the side leads from the set of a mask into a set of a level
+-- the positions of a mask's set from which the side has a move into a set of a level
 abbrev pub pre_trees : Position → Side → ℕ → Option SetId → List (Option SetId) → List Tree
 pre_trees p side mask None targets = []
 pre_trees p side mask (Some source) targets =
     pres_to p (record { mask = mask; set = source }) targets (options_of p.men mask side)
 
--- where some move of the stage's side leads from the set of the stage into a set of a level
+-- the positions of the stage's set from which the stage's side has a move into a set of a level
 abbrev pub stage_pres : Position → StageSet → Names → List Tree
 stage_pres p source targets = pre_trees p source.stage.side source.stage.mask source.name targets
 
--- where one of the men bears as it is said, in the set of a mask
+-- the positions of a mask's set in which one of the bearings attacks
 abbrev pub bears_by : Position → MaskSet → List Bearing → List Tree
 bears_by p source bearings = map (λ b. bear_of p.men source.mask b.man b.ray b.king source.set.0) bearings
 
--- where men of the side bear on the other king in the set of a mask
+-- the positions of a mask's set in which the side attacks the other king
 abbrev pub bear_trees : Position → Side → ℕ → Option SetId → List Tree
 bear_trees p side mask None = []
 bear_trees p side mask (Some source) =

@@ -1,5 +1,5 @@
--- The programs of the plan on a bench, over sets that names stand for. Each takes what the function takes that answers
--- it, which has its name.
+-- The programs of the plan over sets that names refer to. Each has the parameters and the name of the function that
+-- computes it.
 use Rattle.std.specs.Prelude.{◌≡◌, ℕ, List, Bool, Option, Result}
 use Rattle.std.specs.Borrow.{Bor}
 use Rattle.auto_core.specs.Automaton.{Automaton}
@@ -39,46 +39,47 @@ use Rattle.mate_plan.specs.declared.stage.StageLevel.{StageLevel}
 use Rattle.mate_plan.specs.declared.stage.StageSet.{StageSet}
 use Rattle.mate_plan.specs.declared.winning.WinnerLevel.{WinnerLevel}
 
--- a program that is known where there are a bench and the sets that names stand for
+-- a program that depends on the context and on the stored sets
 abbrev pub Named : Type 0 → Type 0
 Named A = PlanContext → List Automaton → Program A
 
--- over the sets of the work and within its budget, the program is answered by what the result is seen as
+-- the result, as the view shows it, is the value of the program over the state's sets and within its budget, or the
+-- first step that exceeds the budget
 abbrev pub AnswersBy : {A R : Type 0} → PlanContext → PlanState → Named A → (R → A) → Result R (PlanError PartName) → Type 0
 AnswersBy bench work program view result = Answers (program bench work.sets) work.memo.budget view result
 
--- it is answered by a set
+-- the result is a set
 abbrev pub AnswersSet : PlanContext → PlanState → Named SetOf → Result (Option Automaton) (PlanError PartName) → Type 0
 AnswersSet bench work program result = AnswersBy bench work program as_set result
 
--- over the old sets it is answered by the name of a set among the new ones
+-- the result is the name, among the new sets, of the value of the program over the old sets
 abbrev pub AnswersName : PlanContext → PlanState → PlanState → Named SetOf → Result (Option SetId) (PlanError PartName) → Type 0
 AnswersName bench old new program result = AnswersBy bench old program (λ name. set_at new.sets name) result
 
--- over the old sets it is answered by the names of a level among the new ones
+-- the result is the names, among the new sets, of the level that is the value of the program over the old sets
 abbrev pub AnswersLevel : PlanContext → PlanState → PlanState → Named Level → Result Names (PlanError PartName) → Type 0
 AnswersLevel bench old new program result = AnswersBy bench old program (level_on bench new.sets) result
 
--- it is answered by yes or no
+-- the result is true or false
 abbrev pub AnswersWhether : PlanContext → PlanState → Named Bool → Result Bool (PlanError PartName) → Type 0
 AnswersWhether bench work program result = AnswersBy bench work program as_is result
 
--- what is left of a set without another, in a part of its own, is answered within a budget
+-- the result is what is left of a set without another one, in a part of its own, within a budget
 abbrev pub AnswersLeft : PlanContext → List Automaton → PartSet → Option (Bor Automaton) → ℕ
     → Result Left (PlanError PartName) → Type 0
 AnswersLeft bench sets whole other budget result =
     AnswersRemainder (tracks_on bench whole.part.mask) whole.part (set_at sets whole.name) (lent other) budget result
 
--- over the new sets it is the same as over the old ones
+-- the value over the new sets is that over the old sets
 abbrev pub StaysSame : {A : Type 0} → (List Automaton → A) → List Automaton → List Automaton → Type 0
 StaysSame program old new = program new ≡ program old
 
--- one set without the other
+-- the difference of two sets
 abbrev pub without : PartSet → Option Automaton → Named SetOf
 without whole other bench sets =
     unite.difference_set (tracks_on bench whole.part.mask) whole.part (set_at sets whole.name) (as_set other)
 
--- one set and the other together
+-- the union of two sets
 abbrev pub together_on : PlanContext → PartName → Option Automaton → Option Automaton → Program SetOf
 together_on bench part first second = unite.union_of_two (tracks_on bench part.mask) part (as_set first) (as_set second)
 
@@ -86,11 +87,11 @@ together_on bench part first second = unite.union_of_two (tracks_on bench part.m
 abbrev pub union : PartName → List Formula → Named SetOf
 union part formulas bench sets = unite.union (tracks_on bench part.mask) part (items_over sets formulas)
 
--- the set of a mask, by a program for each
+-- the set of one mask, by a program for each mask
 abbrev pub at_mask : (Position → List Automaton → ℕ → Program SetOf) → ℕ → Named SetOf
 at_mask program mask bench sets = program bench.position.now sets mask
 
--- the sets of all masks, by a program for each
+-- the sets of all masks, by a program for each mask
 abbrev pub by_mask : (Position → List Automaton → ℕ → Program SetOf) → Named Level
 by_mask program bench sets =
     plan.for_masks (masks_of bench.position.now) (program bench.position.now sets) plan.no_sets
@@ -163,7 +164,7 @@ lost_level from bench sets =
     plan.lost_level (rules_on bench) from.side from.ply (level_on bench sets from.reach.now)
     (level_on bench sets from.next_reach.now) (level_on bench sets from.next_kept.now)
 
--- where a move leads from the one level into the other, among the positions with the live men of the starting position
+-- the positions with the live men of the starting position from which a move leads from the first level into the second
 abbrev pub first_set : Names → Names → Named SetOf
 first_set start into bench sets =
     plan.pre_set (rules_on bench) bench.position.now.turn 0 (mask_of bench.position.now) kind.First

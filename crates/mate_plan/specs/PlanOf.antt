@@ -14,8 +14,8 @@ use Rattle.set_plan.specs.Program.{Give}
 use Rattle.mate_plan.specs.Plan.{Level, Program, Rules, plan}
 use Rattle.mate_plan.specs.Turns.{plies_before_turn}
 
--- the last ply of so many moves of the winner, by the side that moves first: the winner is to move there, and has no
--- move left
+-- the last ply of a plan, given the winner and the side that moves first: it is the winner's turn, and he has no move
+-- left
 abbrev pub last_ply : Side → Side → ℕ → ℕ
 last_ply winner first moves = 2 * moves + plies_before_turn winner first
 
@@ -39,11 +39,11 @@ rules_of p = record {
   safe = λ mask b. safe_of p.men mask b.man b.ray b.king 0;
 }
 
--- there is no step where the winner is to move and has no move
+-- the plan has no step if it is the winner's turn and he has no move
 abbrev pub plan_to : Position → ℕ → Program (List Level)
 plan_to p zero = Give []
 plan_to p (suc last) = plan (rules_of p) p.turn (mask_of p) (suc last)
 
--- the plan by which the winner is to mate within so many moves
+-- the plan by which the winner mates within `moves` moves
 abbrev pub plan_of : Side → Position → ℕ → Program (List Level)
 plan_of winner p moves = plan_to p (last_ply winner p.turn moves)

@@ -1,4 +1,5 @@
-//! Whether each position of a set has a move into a level: replies have answers, and quiet positions have replies.
+//! Whether each position of a set has a move into a level: loser's moves are answered, and quiet positions have
+//! replies.
 ghost use Rattle.std.specs.Prelude.{◌≡◌, IfOk};
 ghost use Rattle.rule_formula.specs.Fits.{IsGameMask};
 ghost use Rattle.set_plan.specs.Outcome.{Answers, as_is};
@@ -64,7 +65,7 @@ fn quiet_name(
     keep_without(bench, work, whole, check)
 }
 
-/// Whether the side that is to move has an answer into the other level from each position of the stage's set.
+/// Returns whether the side to move has a move into the other level from each position of the stage's set.
 pub fn are_answered(
     bench: &PlanContext,
     work: &mut PlanState,
@@ -86,8 +87,8 @@ pub fn are_answered(
     have_moves(bench, &mut work.memo, &work.sets, &answers, Part::Left)
 }
 
-/// Whether the side that is to move is in check, or has a reply into the other level, in each position of the stage's set. The set that
-/// is made on the way is kept for as long only as it is needed.
+/// Returns whether in each position of the stage's set the side to move is in check or has a move into the other level.
+/// Intermediate sets are dropped as soon as they are no longer needed.
 pub fn have_replies(
     bench: &PlanContext,
     work: &mut PlanState,

@@ -50,7 +50,7 @@ fn twin_formulas(
     twins(bench, MaskSet { mask, set }, all.as_slice())
 }
 
-/// Whether live men stand on distinct squares in each position of the stage's set.
+/// Returns whether live men stand on distinct squares in each position of the stage's set.
 pub fn are_on_distinct_squares(
     bench: &PlanContext,
     work: &mut PlanState,
@@ -74,7 +74,7 @@ pub fn are_on_distinct_squares(
     )
 }
 
-/// Whether no man of the side that is to move bears on the other king in a position of the stage's set.
+/// Returns whether in no position of the stage's set a man of the side to move bears on the other king.
 pub fn are_safe(
     bench: &PlanContext,
     work: &mut PlanState,

@@ -1,4 +1,4 @@
-//! What the sets of a plan are computed for, and with.
+//! The context and the state of a plan.
 ghost use Rattle.std.specs.Prelude.{◌≡◌, ◌≤◌, [], length};
 ghost use Rattle.game_rules.specs.Game.{Sound};
 ghost use Rattle.rule_formula.specs.Fits.{masks_of};
@@ -21,16 +21,16 @@ pub struct PlanContext<'a> {
     ghost masks_are: { masks.now ≡ masks_of position.now },
 }
 
-/// What is kept from one set to the next: compiled formulas, within a budget, and the sets.
+/// The state of a plan: formulas compiled within a budget, and the sets.
 #[derive(Drop)]
 pub struct PlanState {
     pub memo: Memo,
-    /// The sets that the names of levels stand for, and those that are made on the way.
+    /// The sets to which the names in levels refer, and intermediate sets.
     pub sets: SetStore,
 }
 
 impl PlanState {
-    /// Without sets.
+    /// Creates a state without sets.
     pub fn new(alloc: Global, budget: Budget) -> PlanState
         ensures budget { result.memo.budget ≡ budget }
         ensures sets { result.sets ≡ [] }

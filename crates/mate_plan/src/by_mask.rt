@@ -1,4 +1,4 @@
-//! Levels that are made mask by mask.
+//! Levels that are computed mask by mask.
 ghost use Rattle.std.specs.Prelude.{ℕ, ◌≡◌, List, IfOk};
 ghost use Rattle.auto_core.specs.Automaton.{Automaton};
 ghost use Rattle.game_rules.specs.Game.{Position};
@@ -16,7 +16,7 @@ use crate::names::PartName;
 use lin_formula::SetId;
 use set_plan::{PlanError, ProgramFold, each};
 
-/// What makes the set of one mask of a level after another, from levels that are named.
+/// Computes the sets of a level, one mask after the other, from levels that are given by name.
 pub trait LevelBuilder {
     /// The program of a mask, over the sets of a table.
     ghost program: { Self → Position → List Automaton → ℕ → plan.Program SetOf };
@@ -92,7 +92,7 @@ impl<M: LevelBuilder> ProgramFold for ByMask<'_, M> {
     }
 }
 
-/// A level, mask by mask.
+/// Computes a level mask by mask.
 pub fn level_by<M: LevelBuilder>(
     bench: &PlanContext,
     work: &mut PlanState,

@@ -1,4 +1,4 @@
-//! Whether the side that is to move in the starting position has a move into a level.
+//! Whether the side to move in the starting position has a move into a level.
 ghost use Rattle.std.specs.Prelude.{◌≡◌, ◌↔◌, IfOk, IfSome, IsTrue};
 ghost use Rattle.lin_formula.specs.SetOf.{Member, as_set};
 ghost use Rattle.mask_sets.specs.Stock.{mask_of};
@@ -62,7 +62,7 @@ fn first_set(
     pre_set(bench, memo, sets, &moves)
 }
 
-/// Whether the side that is to move has a move from the position itself into the level. The sets that are made on the way are let go.
+/// Returns whether the side to move has a move from the position itself into the level. Intermediate sets are dropped.
 pub fn has_first_move(
     bench: &PlanContext,
     work: &mut PlanState,

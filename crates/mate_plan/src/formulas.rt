@@ -68,7 +68,8 @@ fn push_mask(
     push_images(bench, formulas, from, stage.mask, all.as_slice())
 }
 
-/// Where the side's moves lead from the sets of a level into the mask of the stage: mask by mask, and in each option by option.
+/// Returns the formulas of the positions with the stage's mask that the side's moves reach from the sets of a level:
+/// mask by mask, and option by option for each mask.
 pub(crate) fn image_formulas(
     bench: &PlanContext,
     stage: Stage,
@@ -124,7 +125,8 @@ fn pre_options(
     Ok(formulas)
 }
 
-/// Where some move of the side leads from the set of the stage into a set of a level, option by option.
+/// Returns the formulas of the positions of the stage's set from which the side has a move into a set of a level,
+/// option by option.
 pub(crate) fn pre_formulas(
     bench: &PlanContext,
     source: StageSet,
@@ -158,7 +160,8 @@ fn bears(
     Ok(formulas)
 }
 
-/// Where a man of the side bears on the other side's king in the set of a mask, bearing by bearing.
+/// Returns the formulas of the positions of a mask's set in which a man of the side bears on the other king, bearing by
+/// bearing.
 pub(crate) fn bear_formulas(
     bench: &PlanContext,
     side: Side,

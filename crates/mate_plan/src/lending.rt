@@ -1,4 +1,4 @@
-//! SetStore that are lent by name.
+//! Sets that are borrowed by name.
 ghost use Rattle.std.specs.Prelude.{◌≡◌, IfOk, IfSome, List};
 ghost use Rattle.std.specs.Bool.{OnTrue, OnFalse};
 ghost use Rattle.track_word.specs.declared.tracks.Var.{Var};
@@ -19,7 +19,7 @@ use lin_formula::SetId;
 use set_plan::{Left, PlanError, SetStore, difference_set, is_empty_set, union_of_two};
 use std::alloc::AllocError;
 
-/// The set of a name, if there is one.
+/// Returns the set of a name, if there is one.
 pub(crate) fn lent(sets: &SetStore, name: Option<SetId>) -> Option<&Auto>
     requires { (tracks : List Var) × IsNameOn tracks sets.now name }
     ensures set { lent_set result ≡ set_at sets.now name }
@@ -31,7 +31,7 @@ pub(crate) fn lent(sets: &SetStore, name: Option<SetId>) -> Option<&Auto>
     }
 }
 
-/// Whether the set of a name is empty.
+/// Returns whether there is no set of the name.
 pub(crate) fn is_lacking(sets: &SetStore, name: Option<SetId>) -> bool
     requires { (tracks : List Var) × IsNameOn tracks sets.now name }
     ensures yes { OnTrue result (IsEmpty (set_at sets.now name)) }
@@ -43,7 +43,7 @@ pub(crate) fn is_lacking(sets: &SetStore, name: Option<SetId>) -> bool
     }
 }
 
-/// What is left of a set without another, over the men of the part's mask.
+/// Returns what is left of a set without another one, over the men of the part's mask.
 pub(crate) fn left_without(
     bench: &PlanContext,
     sets: &SetStore,
@@ -61,7 +61,7 @@ pub(crate) fn left_without(
     difference_set(bench.alloc, &tracks, part, lent(sets, name), other, budget)
 }
 
-/// The name of what is left: that of the whole set, or of a set that is now kept.
+/// Returns the name of what is left: that of the whole set, or that of a set that is stored now.
 pub(crate) fn keep_left(
     sets: &mut SetStore,
     whole: Option<SetId>,
@@ -77,7 +77,7 @@ pub(crate) fn keep_left(
     }
 }
 
-/// The name of what is left of a set without another, over the men of the part's mask.
+/// Returns the name of what is left of a set without another one, over the men of the part's mask.
 pub(crate) fn keep_without(
     bench: &PlanContext,
     work: &mut PlanState,
@@ -95,7 +95,7 @@ pub(crate) fn keep_without(
     Ok(keep_left(&mut work.sets, whole.name, left)?)
 }
 
-/// Two sets together, over the men of the part's mask.
+/// Returns the union of two sets over the men of the part's mask.
 pub(crate) fn joined(
     bench: &PlanContext,
     part: PartName,

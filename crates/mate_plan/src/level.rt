@@ -8,7 +8,8 @@ use lin_formula::SetId;
 use std::alloc::{AllocError, Global};
 use std::marker::Model;
 
-/// Names of the sets of a level, one for each of the position's masks, in the order of the masks. Where there is no name, there is no set.
+/// The names of the sets of a level, one for each mask of the position, in the order of the masks. `None` means that
+/// the set is empty.
 #[derive(Drop)]
 pub struct LevelNames {
     names: Vec<Option<SetId>>,
@@ -24,7 +25,7 @@ impl Model for LevelNames {
 }
 
 impl LevelNames {
-    /// No names.
+    /// Creates a level without masks.
     pub fn new(alloc: Global) -> LevelNames
         ensures { result ≡ [] }
     {
@@ -33,7 +34,7 @@ impl LevelNames {
         }
     }
 
-    /// The name for the next mask.
+    /// Adds the name for the next mask. The error is that an allocation failed.
     pub fn push(&mut self, name: Option<SetId>) -> Result<(), AllocError>
         ensures ok { OnOk result (self.new ≡ self.old ++ name ∷ []) }
         ensures err { OnErr result (self.new ≡ self.old) }
@@ -42,7 +43,7 @@ impl LevelNames {
         Ok(())
     }
 
-    /// The names, one for each mask.
+    /// Returns the names, one for each mask.
     pub fn as_slice(&self) -> &[Option<SetId>]
         ensures { result.now ≡ self.now }
     {
@@ -50,7 +51,7 @@ impl LevelNames {
     }
 }
 
-/// The name for a mask in a level.
+/// Returns the name for a mask in a level.
 pub(crate) fn name_in(bench: &PlanContext, level: &LevelNames, mask: u8) -> Option<SetId>
     ensures { result ≡ name_of (masks_of bench.now.position.now) level.now mask }
 {

@@ -1,9 +1,13 @@
-//! The plan by which the winner is to mate within so many moves: the named steps in which its sets of positions are computed, ply by ply and
-//! mask by mask. `specs/Plan` has the steps, `specs/PlanOf` the plan of a position, `specs/Levels` the sets of a ply as the code keeps them,
-//! `specs/Formulas` the formulas whose sets are united. Each function here answers one level of the plan, from the levels that it is made of,
-//! or one of the questions on the sets of a ply that `specs/Questions` has. `specs/Claim` is a claim, and `specs/Won` says when it is won.
-//! Each is given a `PlanContext`, which stays, and `PlanState`, which grows; a level is made mask by mask, by `level_by`. `specs/Bench` has what is said of a
-//! bench, and `specs/Named` the programs of the plan over the sets that its names stand for.
+//! Computes the levels of the plan by which the winner mates within n moves.
+//!
+//! A plan is a sequence of named steps that compute sets of positions, ply by ply and mask by mask; a level is the sets
+//! of one ply. `specs/Plan` has the steps, `specs/PlanOf` the plan of a position, `specs/Levels` the levels as the code
+//! stores them, and `specs/Formulas` the formulas whose sets are united.
+//!
+//! Each function computes one level from the levels that it depends on, mask by mask (`level_by`), or one of the
+//! questions on the sets of a ply in `specs/Questions`. It takes a `PlanContext`, which does not change, and a
+//! `PlanState`, which grows; `specs/Bench` has the properties of both. `specs/Named` has the programs of the plan over
+//! sets that are referred to by name. `specs/Claim` defines claims, and `specs/Won` when a claim is won.
 #![tactic(auto)]
 
 mod answering;

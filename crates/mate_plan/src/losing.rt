@@ -1,4 +1,4 @@
-//! What is kept at a ply of the loser.
+//! The kept sets of a ply of the loser.
 ghost use Rattle.std.specs.Prelude.{◌≡◌, ◌<◌, IfOk, IfSome};
 ghost use Rattle.rule_formula.specs.Fits.{IsGameMask};
 ghost use Rattle.set_plan.specs.Sets.{IsSetOn};
@@ -219,8 +219,8 @@ impl LevelBuilder for Lost<'_> {
     }
 }
 
-/// What is kept at a ply at which the loser, the side, is to move, from what is reached at the ply and at the next one, and what is kept at
-/// the next one.
+/// The inputs of the kept level of a ply at which the loser, `side`, is to move: what is reached at the ply and at the
+/// next one, and what is kept at the next one.
 #[derive(Clone, Copy)]
 pub struct LoserLevel<'a> {
     pub side: Side,
@@ -230,7 +230,7 @@ pub struct LoserLevel<'a> {
     pub next_kept: &'a LevelNames,
 }
 
-/// What is kept at a ply of the loser.
+/// Computes the kept level of a ply of the loser.
 pub fn lost_level(
     bench: &PlanContext,
     work: &mut PlanState,

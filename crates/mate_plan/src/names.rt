@@ -39,12 +39,12 @@ pub enum Part {
     Stale,
 }
 
-/// A part of a plan at a ply, for the positions with the live men of a mask.
+/// The name of a part of a plan: a part at a ply, for the positions whose live men are those of a mask.
 #[derive(Clone, Copy, PartialEq, Eq)]
 pub struct PartName {
-    /// How many moves were made since the starting position.
+    /// The number of moves made since the starting position.
     pub ply: u8,
-    /// The live men: bit `i - 1` stands for man `i`.
+    /// The live men: bit `i - 1` is 1 if and only if man `i` is live.
     pub mask: u8,
     pub part: Part,
 }

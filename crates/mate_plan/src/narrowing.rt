@@ -1,4 +1,4 @@
-//! A set made narrower to the positions in which a king is not attacked.
+//! Narrows a set to the positions in which a king is not attacked.
 ghost use Rattle.std.specs.Prelude.{◌≡◌, ◌≤◌, All, IfOk, length};
 ghost use Rattle.rule_formula.specs.Meaning.{IsBearer};
 ghost use Rattle.mate_plan.specs.Bench.{IsLater, IsSetFor};
@@ -83,7 +83,7 @@ impl ProgramFold for Narrowing<'_> {
     }
 }
 
-/// The set made narrower by each of the bearings in turn. Only the last one is reduced.
+/// Narrows the set by each of the bearings in turn. Only the last result is reduced.
 pub(crate) fn narrow(
     bench: &PlanContext,
     work: &mut PlanState,

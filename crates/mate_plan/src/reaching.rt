@@ -1,4 +1,4 @@
-//! What is reached at a ply.
+//! The reached sets of a ply.
 ghost use Rattle.std.specs.Prelude.{◌≡◌, IfOk};
 ghost use Rattle.rule_formula.specs.Fits.{IsGameMask};
 ghost use Rattle.mate_plan.specs.Levels.{AreNamesIn};
@@ -19,11 +19,11 @@ use lin_formula::SetId;
 use rule_formula::bearings;
 use set_plan::PlanError;
 
-/// What is reached at a ply, from what is reached at the ply before it, where the side moves.
+/// The inputs of the reached level of a ply: what is reached at the ply before it, where `side` is to move.
 #[derive(Clone, Copy)]
 pub struct ReachedLevel<'a> {
     pub side: Side,
-    /// Step names have this ply.
+    /// The ply in the names of the steps.
     pub ply: u8,
     pub level: &'a LevelNames,
 }
@@ -84,7 +84,7 @@ impl LevelBuilder for ReachedLevel<'_> {
     }
 }
 
-/// What is reached at a ply.
+/// Computes the reached level of a ply.
 pub fn reach_level(
     bench: &PlanContext,
     work: &mut PlanState,

@@ -1,4 +1,4 @@
-//! Where in a plan a set is made, or a question is asked.
+//! The place in a plan where a set is computed or a question is asked.
 ghost use Rattle.std.specs.Prelude.{◌≡◌};
 ghost use Rattle.mate_plan.specs.Plan as plan;
 
@@ -7,18 +7,18 @@ use crate::names::{Part, PartName};
 use game_rules::Side;
 use lin_formula::SetId;
 
-/// A mask at a ply, and the side that is to move.
+/// A mask at a ply, and the side to move.
 #[derive(Clone, Copy)]
 pub struct Stage {
     pub side: Side,
-    /// How many moves were made since the starting position.
+    /// The number of moves made since the starting position.
     pub ply: u8,
-    /// The live men: bit `i - 1` stands for man `i`.
+    /// The live men: bit `i - 1` is 1 if and only if man `i` is live.
     pub mask: u8,
 }
 
 impl Stage {
-    /// The name of a part.
+    /// Returns the name of a part of this stage.
     pub(crate) fn part(self, part: Part) -> PartName
         ensures { result ≡ plan.name self.ply self.mask part }
     {
@@ -41,7 +41,7 @@ pub(crate) struct MaskSet {
 #[derive(Clone, Copy)]
 pub(crate) struct PartSet {
     pub(crate) part: PartName,
-    /// No name, where the set has no tuple.
+    /// `None` if the set is empty.
     pub(crate) name: Option<SetId>,
 }
 
@@ -49,11 +49,11 @@ pub(crate) struct PartSet {
 #[derive(Clone, Copy)]
 pub(crate) struct StageSet {
     pub(crate) stage: Stage,
-    /// No name, where the set has no tuple.
+    /// `None` if the set is empty.
     pub(crate) name: Option<SetId>,
 }
 
-/// A stage, and the level that has its set.
+/// A stage, and the level that contains its set.
 #[derive(Clone, Copy)]
 pub struct StageLevel<'a> {
     pub stage: Stage,
@@ -68,7 +68,7 @@ pub(crate) struct PartMoves<'a> {
     pub(crate) into: &'a LevelNames,
 }
 
-/// A stage, the level that has its set, and the level into which the moves from there are to lead.
+/// A stage, the level that contains its set, and the level into which moves from there lead.
 #[derive(Clone, Copy)]
 pub struct MovesInto<'a> {
     pub stage: Stage,

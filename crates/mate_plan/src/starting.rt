@@ -1,4 +1,4 @@
-//! Where the plan begins, and where it ends.
+//! The first and the last level of a plan.
 ghost use Rattle.std.specs.Prelude.{◌≡◌, List, IfOk};
 ghost use Rattle.auto_core.specs.Automaton.{Automaton};
 ghost use Rattle.rule_formula.specs.Fits.{IsGameMask};
@@ -31,7 +31,7 @@ fn level_at(bench: &PlanContext, mask: u8, name: Option<SetId>) -> Result<LevelN
     Ok(names)
 }
 
-/// The level with the set of this name for a mask, and without a set for the others.
+/// Returns the level with this name for one mask, and no set for the other masks.
 pub fn one_level(
     bench: &PlanContext,
     mask: u8,
@@ -44,7 +44,7 @@ pub fn one_level(
     level_at(bench, mask, name)
 }
 
-/// The level without sets, in which no mask has a name.
+/// Returns the level without sets: no mask has a name.
 pub fn no_level(bench: &PlanContext) -> Result<LevelNames, AllocError>
     ensures level { IfOk result (StandFor bench.now (λ sets. plan.no_sets)) }
     ensures names { IfOk result (λ names. (sets : List Automaton) → AreNamesIn bench.now.position.now sets names) }
@@ -72,7 +72,7 @@ fn point_set(
     make(bench.alloc, memo, part, 1, &formula, sets.table())
 }
 
-/// What is reached without a move: the position alone.
+/// Computes the level that is reached without a move: the starting position alone.
 pub fn point_level(
     bench: &PlanContext,
     work: &mut PlanState,

@@ -8,7 +8,7 @@ use chess_game::Position;
 use std::alloc::{AllocError, Global};
 use track_word::Var;
 
-/// Whether man k is in the mask.
+/// Returns whether man k is in the mask.
 pub(crate) fn is_live(mask: u8, k: u8) -> bool
     requires low { 1 ≤ k }
     requires high { k ≤ 8 }
@@ -30,7 +30,8 @@ fn push_man(tracks: &mut Vec<Var>, mask: u8, k: u8) -> Result<(), AllocError>
     Ok(())
 }
 
-/// The tracks of the sets of a mask: the variables of its live men.
+/// Returns the tracks of the sets of a mask: two variables for each of its live men. The error is that an allocation
+/// failed.
 pub fn mask_tracks(alloc: Global, p: &Position, mask: u8) -> Result<Vec<Var>, AllocError>
     ensures { IfOk result (λ tracks. tracks.items ≡ tracks_of p.now.men (live_in mask)) }
 {

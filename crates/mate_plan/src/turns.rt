@@ -4,7 +4,7 @@ ghost use Rattle.mate_plan.specs.Turns.{plies_before_turn as plies};
 
 use game_rules::Side;
 
-/// How many plies the side waits for its turn, by the side that moves first.
+/// Returns how many plies pass before the side's first turn: 0 or 1.
 pub fn plies_before_turn(side: Side, first: Side) -> u8
     ensures plies { result ≡ plies side first }
     ensures most { result ≤ 1 }

@@ -40,7 +40,7 @@ fn united(
     Ok(made.set)
 }
 
-/// Where the side's moves lead from the sets of a level into the mask.
+/// Computes the positions with the mask that the side's moves reach from the sets of a level.
 pub(crate) fn image_set(
     bench: &PlanContext,
     memo: &mut Memo,
@@ -57,7 +57,7 @@ pub(crate) fn image_set(
     united(bench, memo, sets, stage.part(Part::Image), &formulas)
 }
 
-/// Where some move of the side leads from the set of the stage into a set of the level.
+/// Computes the positions of the stage's set from which the side has a move into a set of the level.
 pub(crate) fn pre_set(
     bench: &PlanContext,
     memo: &mut Memo,
@@ -80,7 +80,7 @@ pub(crate) fn pre_set(
     )
 }
 
-/// Where a man of the other side bears on the king of the side, in the set of the stage.
+/// Computes the positions of the stage's set in which a man of the other side bears on the side's king.
 pub(crate) fn check_set(
     bench: &PlanContext,
     memo: &mut Memo,

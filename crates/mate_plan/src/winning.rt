@@ -1,4 +1,4 @@
-//! What is kept at a ply of the winner.
+//! The kept sets of a ply of the winner.
 ghost use Rattle.std.specs.Prelude.{◌≡◌, IfOk};
 ghost use Rattle.rule_formula.specs.Fits.{IsGameMask};
 ghost use Rattle.mate_plan.specs.Levels.{AreNamesIn};
@@ -16,7 +16,8 @@ use game_rules::Side;
 use lin_formula::SetId;
 use set_plan::PlanError;
 
-/// What is kept at a ply at which the winner, the side, is to move, from what is reached at the ply and what is kept at the next one.
+/// The inputs of the kept level of a ply at which the winner, `side`, is to move: what is reached at the ply, and what
+/// is kept at the next one.
 #[derive(Clone, Copy)]
 pub struct WinnerLevel<'a> {
     pub side: Side,
@@ -76,7 +77,7 @@ impl LevelBuilder for WinnerLevel<'_> {
     }
 }
 
-/// What is kept at a ply of the winner.
+/// Computes the kept level of a ply of the winner.
 pub fn win_level(
     bench: &PlanContext,
     work: &mut PlanState,
