@@ -24,13 +24,13 @@ FitsBelow-append xs ys bound (Test track low high) h fits =
     }
 
 -- a place in a list with one more is an old one or the last
-pub get-push : (xs : List Shape) (y : Shape) (i : ℕ) (shape : Shape) → slice_get (xs ++ y ∷ []) i ≡ Some shape
-    → ((i < length xs) × (slice_get xs i ≡ Some shape)) ⊎ ((i ≡ length xs) × (y ≡ shape))
-get-push [] y zero shape h = inr (refl, grind (arith, common_steps, h))
-get-push [] y (suc i) shape h = cc
-get-push (x ∷ xs) y zero shape h = inl (omega arith, h)
-get-push (x ∷ xs) y (suc i) shape h =
-    elim (get-push xs y i shape h) [ inl w ↦ inl (omega arith, w.1) | inr w ↦ inr (let e = w.0 in omega arith, w.1) ]
+pub get-push : {Item : Type 0} (xs : List Item) (y : Item) (i : ℕ) (item : Item) → slice_get (xs ++ y ∷ []) i ≡ Some item
+    → ((i < length xs) × (slice_get xs i ≡ Some item)) ⊎ ((i ≡ length xs) × (y ≡ item))
+get-push [] y zero item h = inr (refl, grind (arith, common_steps, h))
+get-push [] y (suc i) item h = cc
+get-push (x ∷ xs) y zero item h = inl (omega arith, h)
+get-push (x ∷ xs) y (suc i) item h =
+    elim (get-push xs y i item h) [ inl w ↦ inl (omega arith, w.1) | inr w ↦ inr (let e = w.0 in omega arith, w.1) ]
 
 -- where a shape is new, it stands at one place
 distinct-push : {xs : List Shape} (y : Shape) → IsDiagram xs → (Contains xs y → ⊥) → (i j : ℕ) (shape : Shape) → slice_get (xs ++ y ∷ []) i ≡ Some shape

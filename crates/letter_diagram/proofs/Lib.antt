@@ -1,6 +1,7 @@
 pub mod Maps
 pub mod Shapes
 pub mod Added
+pub mod OpenTables
 pub mod ShapeTables
 pub mod Canonical
 pub mod Memos

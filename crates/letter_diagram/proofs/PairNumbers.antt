@@ -8,7 +8,6 @@ use Rattle.std.proofs.lemmas.List.{length-append, get_or_append_left}
 use Rattle.std.proofs.lemmas.Map.Made.{AllPairs-from_IsDistinct, is_member-Decides}
 use Rattle.std.proofs.lemmas.List.Quantifiers.{position-Some}
 use Rattle.std.proofs.lemmas.Option.{slice_get-get_or, slice_get_within, get_or_from_slice_get}
-use Rattle.indexmap.specs.IndexSet.{insert_key}
 use Rattle.letter_diagram.specs.Numbering.{PairsKept}
 
 -- whether two pairs are equal
@@ -50,7 +49,7 @@ PairsKept-refl xs = record { longer = omega arith; at = λ n p h. h }
 pub PairsKept-trans : {xs ys zs : List (ℕ × ℕ)} → PairsKept xs ys → PairsKept ys zs → PairsKept xs zs
 PairsKept-trans f g = record { longer = let a = f.longer in let b = g.longer in omega arith; at = λ n p h. g.at n p (f.at n p h) }
 
-pub PairsKept-insert : (old new : List (ℕ × ℕ)) (p : ℕ × ℕ) → new ≡ insert_key pair_eq old p → PairsKept old new
+pub PairsKept-insert : (old new : List (ℕ × ℕ)) (p : ℕ × ℕ) → new ≡ (if list_any (pair_eq p) old then old else old ++ p ∷ []) → PairsKept old new
 PairsKept-insert old new p h = by (list_any (pair_eq p) old) refl
   where
     by : (b : Bool) → list_any (pair_eq p) old ≡ b → PairsKept old new

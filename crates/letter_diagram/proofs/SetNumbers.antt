@@ -1,18 +1,18 @@
 -- Facts on lists of sets.
-use Rattle.std.proofs.Common.{◌≡◌, ◌≢◌, ℕ, ◌<◌, ◌≤◌, ◌+◌, Bool, true, false, true≢false, nat_eq, ◌||◌, List, length, slice_get, Some, Contains, AllPairs, All, map, arith, refl, sym, ap, ◌∙◌, subst, get_or, [], ◌∷◌, ◌++◌, inl, inr, ◌⊎◌, if◌then◌else◌}
+use Rattle.std.proofs.Common.{◌≡◌, ◌≢◌, ℕ, ◌<◌, ◌≤◌, ◌+◌, Bool, true, false, true≢false, nat_eq, ◌||◌, List, length, take, slice_get, Some, Contains, AllPairs, All, map, arith, refl, sym, ap, ◌∙◌, subst, get_or, [], ◌∷◌, ◌++◌, inl, inr, ◌⊎◌, if◌then◌else◌}
 use Rattle.std.specs.Bool.{Decides}
 use Rattle.std.specs.List.{list_any, position}
 use Rattle.std.specs.Cmp.Lexicographic.{pointwise}
 use Rattle.std.specs.List.Sorted.{IsStrictlyIncreasing}
 use Rattle.std.proofs.lemmas.Bool.Decides.{Decides-eqb}
 use Rattle.std.proofs.lemmas.Slice.Eq.{slice_eq-Decides}
-use Rattle.std.proofs.lemmas.List.{length_push, length-append, get_or_append_left, get_or_push, map-append}
+use Rattle.std.proofs.Math.Seq.{take-length}
+use Rattle.std.proofs.lemmas.List.{length_push, length-append, get_or_append_left, get_or_push, take-append-le}
 use Rattle.std.proofs.lemmas.List.Elements.{All-push, Contains-get_or}
 use Rattle.std.proofs.lemmas.List.Quantifiers.{position-Some, all_pairs_push}
 use Rattle.std.proofs.lemmas.Map.Made.{is_member-Decides}
 use Rattle.std.proofs.lemmas.Option.{slice_get-get_or, slice_get_within, get_or_from_slice_get, slice_get-map, slice_get_read}
 use Rattle.std.specs.Option.{option_map}
-use Rattle.indexmap.specs.IndexSet.{insert_key}
 use Rattle.letter_diagram.specs.Sets.{NumbersSet, SetsKept, IsUnion, set_at}
 
 -- whether two lists of numbers are equal
@@ -22,47 +22,25 @@ set_eq = pointwise nat_eq
 pub set_eq-Decides : (a b : List ℕ) → Decides (set_eq a b) (a ≡ b)
 set_eq-Decides a b = slice_eq-Decides (λ x y. Decides-eqb x y) a b (set_eq a b) refl
 
-list_any-map : {X : Type 0} (items : X → List ℕ) (test : List ℕ → Bool) (keys : List X) → list_any test (map items keys) ≡ list_any (λ k. test (items k)) keys
-list_any-map items test [] = refl
-list_any-map items test (k ∷ keys) = ap (λ b. test (items k) || b) (list_any-map items test keys)
+-- a list comes back whole from a place that it fills
+pub take_all : (count : ℕ) (numbers rest : List ℕ) → length numbers ≡ count → take count (numbers ++ rest) ≡ numbers
+take_all count numbers rest size = take-append-le count numbers rest (omega arith) ∙ ap (λ n. take n numbers) (sym size) ∙ take-length numbers
 
--- inserting a key inserts its set
-pub map-insert : {X : Type 0} (items : X → List ℕ) (keys : List X) (k : X) → map items (insert_key (λ a b. set_eq (items a) (items b)) keys k) ≡ insert_key set_eq (map items keys) (items k)
-map-insert {X} items keys k = by (list_any (λ b. set_eq (items k) (items b)) keys) refl
-  where
-    by : (there : Bool) → list_any (λ b. set_eq (items k) (items b)) keys ≡ there
-        → map items (insert_key (λ a b. set_eq (items a) (items b)) keys k) ≡ insert_key set_eq (map items keys) (items k)
-    by true e =
-        ap (λ c. map items (if c then keys else keys ++ k ∷ [])) e
-        ∙ sym (ap (λ c. if c then map items keys else map items keys ++ items k ∷ []) (list_any-map items (set_eq (items k)) keys ∙ e))
-    by false e =
-        ap (λ c. map items (if c then keys else keys ++ k ∷ [])) e
-        ∙ map-append items keys (k ∷ [])
-        ∙ sym (ap (λ c. if c then map items keys else map items keys ++ items k ∷ []) (list_any-map items (set_eq (items k)) keys ∙ e))
+-- a set that is read and is the one that is looked for has this number
+pub set_there : {X : Type 0} (items : X → List ℕ) (sets : List X) (number : ℕ) (k : X) (set : List ℕ) → number < length sets → k ≡ get_or sets number k
+    → set_eq (items k) set ≡ true → slice_get (map items sets) number ≡ Some set
+set_there items sets number k set below is same =
+    slice_get-map items sets number
+    ∙ ap (option_map items) (slice_get_read sets (length sets) number k refl below is)
+    ∙ ap Some ((set_eq-Decides (items k) set).0 same)
 
--- a set that is not found is not there
-pub set_absent : {X : Type 0} (items : X → List ℕ) (keys : List X) (set : List ℕ) → list_any (λ k. set_eq set (items k)) keys ≡ false → Contains (map items keys) set → ⊥
-set_absent items keys set absent there = true≢false (sym ((is_member-Decides set_eq-Decides (map items keys) set).1 there) ∙ list_any-map items (set_eq set) keys ∙ absent)
-
--- a set that is found has the number of its place
-pub set_found : {X : Type 0} (items : X → List ℕ) (keys : List X) (set : List ℕ) (i : ℕ) → position (λ k. set_eq set (items k)) keys ≡ Some i → slice_get (map items keys) i ≡ Some set
-set_found items [] set i h = cc
-set_found items (k ∷ keys) set i h =
-    let found = position-Some (λ x. set_eq set (items x)) (k ∷ keys) i k h in
-    slice_get-map items (k ∷ keys) i
-    ∙ ap (option_map items) (slice_get-get_or (k ∷ keys) i k found.0)
-    ∙ ap Some (sym ((set_eq-Decides set (items (get_or (k ∷ keys) i k))).0 found.1))
-
-pub set_stored : {X : Type 0} (items : X → List ℕ) (keys : List X) (k : X) (set : List ℕ) (i : ℕ)
-    → slice_get keys i ≡ Some k → set_eq set (items k) ≡ true → slice_get (map items keys) i ≡ Some set
-set_stored items keys k set i at same = slice_get-map items keys i ∙ ap (option_map items) at ∙ ap Some (sym ((set_eq-Decides set (items k)).0 same))
-
-pub NumbersSet-insert : (old new : List (List ℕ)) (set : List ℕ) → new ≡ insert_key set_eq old set → NumbersSet old new set
-NumbersSet-insert old new set h = by (list_any (set_eq set) old) refl
-  where
-    by : (there : Bool) → list_any (set_eq set) old ≡ there → NumbersSet old new set
-    by true e = inl (h ∙ ap (λ c. if c then old else old ++ set ∷ []) e)
-    by false e = inr (h ∙ ap (λ c. if c then old else old ++ set ∷ []) e, λ there. true≢false (sym ((is_member-Decides set_eq-Decides old set).1 there) ∙ e))
+-- a set that is read and is another one is not the one of this number
+pub set_differs : {X : Type 0} (items : X → List ℕ) (sets : List X) (number : ℕ) (k : X) (set : List ℕ) → number < length sets → k ≡ get_or sets number k
+    → set_eq (items k) set ≡ false → slice_get (map items sets) number ≡ Some set → ⊥
+set_differs items sets number k set below is other at =
+    let read : slice_get (map items sets) number ≡ Some (items k) = slice_get-map items sets number ∙ ap (option_map items) (slice_get_read sets (length sets) number k refl below is) in
+    let same : items k ≡ set = cc in
+    true≢false (sym ((set_eq-Decides (items k) set).1 same) ∙ other)
 
 pub SetsKept-refl : (xs : List (List ℕ)) → SetsKept xs xs
 SetsKept-refl xs = record { longer = omega arith; at = λ n s h. h }
@@ -130,6 +108,11 @@ Contains-at xs i x at = subst (Contains xs) (get_or_from_slice_get xs i x x at) 
 pub set_read : {X : Type 0} (items : X → List ℕ) (keys : List X) (i : ℕ) (k : X) → i < length keys → k ≡ get_or keys i k → set_at (map items keys) i ≡ items k
 set_read items keys i k below is =
     get_or_from_slice_get (map items keys) i (items k) [] (slice_get-map items keys i ∙ ap (option_map items) (slice_get_read keys (length keys) i k refl below is))
+
+-- the same, as an item of the list
+pub set_read_at : {X : Type 0} (items : X → List ℕ) (keys : List X) (i : ℕ) (k : X) → i < length keys → k ≡ get_or keys i k → items k ≡ get_or (map items keys) i (items k)
+set_read_at items keys i k below is =
+    sym (get_or_from_slice_get (map items keys) i (items k) (items k) (slice_get-map items keys i ∙ ap (option_map items) (slice_get_read keys (length keys) i k refl below is)))
 
 -- a set that is new is the one that was numbered
 pub slice_get-last : (old new : List (List ℕ)) (set : List ℕ) (n : ℕ) → NumbersSet old new set → length old ≤ n → n < length new → slice_get new n ≡ Some set

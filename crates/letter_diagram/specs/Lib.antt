@@ -16,4 +16,5 @@ pub mod Leaves
 pub mod NodeMemo
 pub mod PairMemo
 pub mod Probing
+pub mod OpenTable
 pub mod ShapeTable

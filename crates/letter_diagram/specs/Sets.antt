@@ -1,5 +1,11 @@
 -- Numbered sets, each as its elements in ascending order.
 use Rattle.std.specs.Prelude.{◌≡◌, ◌≤◌, ◌<◌, ◌⊎◌, ◌↔◌, ℕ, List, [], ◌∷◌, ◌++◌, length, slice_get, slice_index_or, Some, Contains}
+use Rattle.std.specs.List.{fold}
+use Rattle.letter_diagram.specs.Probing.{spread_of}
+
+-- the number from which a set is looked for in a table: it depends on how many elements there are, and on each of them
+abbrev pub start_of : List ℕ → ℕ
+start_of set = fold spread_of (length set) set
 
 -- the set of a number
 abbrev pub set_at : List (List ℕ) → ℕ → List ℕ

@@ -19,6 +19,7 @@ mod merge;
 mod merger;
 mod node_memo;
 mod numbering;
+mod open_table;
 mod pair_memo;
 pub mod probing;
 mod relabel;

@@ -1,11 +1,13 @@
 //! Sets of numbers, numbered in the order in which they were first seen.
-ghost use Rattle.std.specs.Prelude.{◌≡◌, ◌≢◌, ◌≤◌, ◌<◌, ◌^◌, ◌+◌, ◌-◌, [], List, ℕ, length, map, slice_get, Some, IfOk, IfSome, OnOk, OnErr, IsSome, IsTrue, All, AllPairs, ◌↔◌};
+ghost use Rattle.std.specs.Prelude.{◌≡◌, ◌≢◌, ◌≤◌, ◌<◌, ◌^◌, ◌+◌, ◌-◌, [], ◌∷◌, ◌++◌, List, ℕ, length, map, slice_get, Some, None, Contains, IfOk, IfSome, OnOk, OnErr, IsSome, IsTrue, All, AllPairs, ◌↔◌};
 ghost use Rattle.std.specs.List.Sorted.{IsStrictlyIncreasing};
 ghost use Rattle.letter_diagram.specs.Numbering.{HasNoNumberLeft};
-ghost use Rattle.letter_diagram.specs.Sets.{NumbersSet, SetsKept, HasElementsOfEither, IsUnion, AddsOnlyUnion};
+ghost use Rattle.letter_diagram.specs.OpenTable.{IsHashed, IsFirstFree};
+ghost use Rattle.letter_diagram.specs.Sets.{start_of, NumbersSet, SetsKept, HasElementsOfEither, IsUnion, AddsOnlyUnion};
 
 use crate::numbering::NumberingError;
-use indexmap::IndexSet;
+use crate::open_table::{FREE, first_free};
+use crate::probing::{place, scatter, slots_for};
 use std::alloc::{AllocError, AllocFailed, Global};
 use std::marker::Model;
 
@@ -21,25 +23,79 @@ fn union(alloc: Global, a: &[u32], b: &[u32]) -> Result<Vec<u32>, AllocError>
     Ok(both)
 }
 
-/// Sets of numbers with a number each.
+/// The number from which a set is looked for.
+fn start(set: &[u32]) -> usize
+    ensures { result ≡ start_of set.now }
+{
+    let mut start = set.len();
+    for &element in set {
+        start = scatter(start, element as usize);
+    }
+    start
+}
+
+/// The number of a set, where it has one.
+fn find(slots: &[u32], sets: &[Vec<u32>], set: &[u32]) -> Option<u32>
+    requires { IsHashed start_of slots.now (map (λ s. s.items) sets.now) }
+    ensures some { IfSome result (λ number. slice_get (map (λ s. s.items) sets.now) number ≡ Some set.now) }
+    ensures none { result ≡ None → ¬ Contains (map (λ s. s.items) sets.now) set.now }
+{
+    let start = start(set);
+    for step in 0..slots.len() {
+        let place = place(slots.len(), start, step);
+        let number = slots[place];
+        if number == FREE {
+            return None;
+        }
+        if sets[number as usize].as_slice() == set {
+            return Some(number);
+        }
+    }
+    None
+}
+
+/// Adds a new set, whose number is put into the first free slot that is met where it is looked for.
+fn add(
+    sets: &mut Vec<Vec<u32>>,
+    slots: &mut [u32],
+    set: Vec<u32>,
+    place: usize,
+) -> Result<u32, AllocError>
+    requires hashed { IsHashed start_of slots.old (map (λ s. s.items) sets.old.items) }
+    requires first { IsFirstFree slots.old (start_of set.items) place }
+    requires room { length sets.old.items < 2 ^ 32 - 1 }
+    ensures number { IfOk result (λ number. slice_get (map (λ s. s.items) sets.new.items) number ≡ Some set.items) }
+    ensures added { OnOk result (map (λ s. s.items) sets.new.items ≡ map (λ s. s.items) sets.old.items ++ set.items ∷ []) }
+    ensures err { OnErr result (sets.new.items ≡ sets.old.items) }
+    ensures hashed { IsHashed start_of slots.new (map (λ s. s.items) sets.new.items) }
+{
+    let number = sets.len();
+    sets.push(set)?;
+    slots[place] = number as u32;
+    Ok(number as u32)
+}
+
+/// Sets of numbers with a number each. The numbers stand in an open table, where the sets are looked for.
 pub struct Sets {
-    seen: IndexSet<Vec<u32>>,
+    sets: Vec<Vec<u32>>,
+    slots: Vec<u32>,
 }
 
 impl Drop for Sets {
     /// Lets the sets go. Written out, so that a body that lets sets go has a call here in place of their fields' drops.
     fn drop(self) {
-        let Sets { seen: _ } = self;
+        let Sets { sets: _, slots: _ } = self;
     }
 }
 
 impl Model for Sets {
     ghost Value = { List (List ℕ) };
 
-    ghost view = { λ s. map (λ set. set.items) s.seen.keys };
+    ghost view = { λ s. map (λ set. set.items) s.sets.items };
 
-    ghost invariant = { λ s. (All IsStrictlyIncreasing (map (λ set. set.items) s.seen.keys))
-        × (AllPairs (λ x y. x ≢ y) (map (λ set. set.items) s.seen.keys)) × (length s.seen.keys < 2 ^ 32) };
+    ghost invariant = { λ s. (All IsStrictlyIncreasing (map (λ set. set.items) s.sets.items))
+        × (AllPairs (λ x y. x ≢ y) (map (λ set. set.items) s.sets.items))
+        × (IsHashed start_of s.slots.items (map (λ set. set.items) s.sets.items)) };
 }
 
 impl Sets {
@@ -47,7 +103,8 @@ impl Sets {
         ensures { result ≡ [] }
     {
         Sets {
-            seen: IndexSet::new(alloc),
+            sets: Vec::new(alloc),
+            slots: Vec::new(alloc),
         }
     }
 
@@ -58,14 +115,14 @@ impl Sets {
         ensures unrepeated { AllPairs (λ x y. x ≢ y) self.now }
         ensures ascend { All IsStrictlyIncreasing self.now }
     {
-        self.seen.len()
+        self.sets.len()
     }
 
     /// Whether no set is numbered.
     pub fn is_empty(&self) -> bool
         ensures { IsTrue result ↔ (self.now ≡ []) }
     {
-        self.seen.is_empty()
+        self.sets.is_empty()
     }
 
     /// The set of a number, in ascending order.
@@ -73,7 +130,7 @@ impl Sets {
         ensures known { IsSome result ↔ (number < length self.now) }
         ensures set { IfSome result (λ set. slice_get self.now number ≡ Some set.now) }
     {
-        let set = self.seen.get_index(number as usize)?;
+        let set = self.sets.get(number as usize)?;
         Some(set.as_slice())
     }
 
@@ -85,14 +142,14 @@ impl Sets {
         ensures full { (result ≡ Err NumberingError.Full) ↔ HasNoNumberLeft self.old set.now }
         ensures err { OnErr result (self.new ≡ self.old) }
     {
-        if let Some(number) = self.seen.get_index_of(set) {
-            return Ok(number as u32);
+        if let Some(number) = find(&self.slots, &self.sets, set) {
+            return Ok(number);
         }
-        if self.seen.len() == u32::MAX as usize {
+        if self.sets.len() == u32::MAX as usize {
             return Err(NumberingError::Full);
         }
-        let set = set.to_vec(*self.seen.allocator())?;
-        Ok(self.add(set)?)
+        let set = set.to_vec(*self.sets.allocator())?;
+        Ok(self.push(set)?)
     }
 
     /// The number of a set, where there is room for one more.
@@ -105,8 +162,56 @@ impl Sets {
         ensures room { length self.new ≤ length self.old + 1 }
         ensures err { OnErr result (self.new ≡ self.old) }
     {
-        let (number, _) = self.seen.insert_full(set)?;
-        Ok(number as u32)
+        if let Some(number) = find(&self.slots, &self.sets, &set) {
+            return Ok(number);
+        }
+        let number = self.push(set)?;
+        Ok(number)
+    }
+
+    /// The number of a set that is new, where there is room for one more.
+    fn push(&mut self, set: Vec<u32>) -> Result<u32, AllocError>
+        requires ascends { IsStrictlyIncreasing set.items }
+        requires absent { ¬ Contains self.old set.items }
+        requires room { length self.old < 2 ^ 32 - 1 }
+        ensures number { IfOk result (λ number. slice_get self.new number ≡ Some set.items) }
+        ensures added { OnOk result (self.new ≡ self.old ++ set.items ∷ []) }
+        ensures err { OnErr result (self.new ≡ self.old) }
+    {
+        self.make_room()?;
+        let from = start(&set);
+        let Some(place) = first_free(&self.slots, from) else {
+            return Err(AllocError);
+        };
+        let number = add(&mut self.sets, &mut self.slots, set, place)?;
+        Ok(number)
+    }
+
+    /// Sees that less than half of the slots are taken.
+    fn make_room(&mut self) -> Result<(), AllocError>
+        ensures { self.new ≡ self.old }
+    {
+        if self.sets.len() >= self.slots.len() / 2 {
+            let slots = self.grown()?;
+            self.slots = slots;
+        }
+        Ok(())
+    }
+
+    /// Twice as many slots, with the same numbers.
+    fn grown(&self) -> Result<Vec<u32>, AllocError>
+        ensures { IfOk result (λ slots. IsHashed start_of slots.items self.now) }
+    {
+        let alloc = *self.sets.allocator();
+        let mut slots = vec![in alloc; FREE; slots_for(self.slots.len())?]?;
+        for (number, set) in self.sets.iter().enumerate() {
+            let from = start(set);
+            let Some(place) = first_free(&slots, from) else {
+                return Err(AllocError);
+            };
+            slots[place] = number as u32;
+        }
+        Ok(slots)
     }
 
     /// The number of the union of two numbered sets, where there is room for one more.
@@ -121,9 +226,9 @@ impl Sets {
         ensures unchanged { OnErr result (self.new ≡ self.old) }
     {
         let both = union(
-            *self.seen.allocator(),
-            self.seen.as_slice()[a as usize].as_slice(),
-            self.seen.as_slice()[b as usize].as_slice(),
+            *self.sets.allocator(),
+            self.sets[a as usize].as_slice(),
+            self.sets[b as usize].as_slice(),
         )?;
         let number = self.add(both)?;
         Ok(number)

@@ -1,14 +1,13 @@
 //! Shapes, numbered in the order in which they were first seen.
 ghost use Rattle.std.specs.Prelude.{◌≡◌, [], ◌∷◌, ◌++◌, slice_get, Some, IfOk, IfSome, OnOk, OnErr};
-ghost use Rattle.letter_diagram.specs.ShapeTable.{start_of, IsHashed, IsFirstFree, IsFound, AddsShape};
+ghost use Rattle.letter_diagram.specs.OpenTable.{IsHashed, IsFirstFree};
+ghost use Rattle.letter_diagram.specs.ShapeTable.{start_of, IsFound, AddsShape};
 
 use crate::diagrams::Shape;
+use crate::open_table::{FREE, first_free};
 use crate::probing::{place, scatter, slots_for};
 use std::alloc::{AllocError, Global};
 use std::marker::Model;
-
-/// What stands in a slot that is free.
-const FREE: u32 = u32::MAX;
 
 /// What is found of a shape.
 #[derive(Clone, Copy)]
@@ -32,23 +31,9 @@ fn start(shape: &Shape) -> usize
     }
 }
 
-/// The first free slot that is met where a shape is looked for.
-fn first_free(slots: &[u32], shape: &Shape) -> Option<usize>
-    ensures { IfSome result (IsFirstFree slots.now shape.now) }
-{
-    let start = start(shape);
-    for step in 0..slots.len() {
-        let place = place(slots.len(), start, step);
-        if slots[place] == FREE {
-            return Some(place);
-        }
-    }
-    None
-}
-
 /// The number of a shape, or the first free slot that is met where it is looked for.
 fn find(slots: &[u32], shapes: &[Shape], shape: &Shape) -> Found
-    requires { IsHashed slots.now shapes.now }
+    requires { IsHashed start_of slots.now shapes.now }
     ensures { IsFound slots.now shapes.now shape.now result }
 {
     let start = start(shape);
@@ -72,12 +57,12 @@ fn add(
     shape: Shape,
     place: usize,
 ) -> Result<u32, AllocError>
-    requires hashed { IsHashed slots.old shapes.old.items }
-    requires first { IsFirstFree slots.old shape place }
+    requires hashed { IsHashed start_of slots.old shapes.old.items }
+    requires first { IsFirstFree slots.old (start_of shape) place }
     ensures number { IfOk result (λ number. slice_get shapes.new.items number ≡ Some shape) }
     ensures added { OnOk result (shapes.new.items ≡ shapes.old.items ++ shape ∷ []) }
     ensures err { OnErr result (shapes.new.items ≡ shapes.old.items) }
-    ensures hashed { IsHashed slots.new shapes.new.items }
+    ensures hashed { IsHashed start_of slots.new shapes.new.items }
 {
     let number = shapes.len();
     if number == FREE as usize {
@@ -99,13 +84,14 @@ pub(crate) struct ShapeTable {
 impl Model for ShapeTable {
     ghost use Rattle.std.specs.Prelude.{List};
     ghost use Rattle.letter_diagram.specs.declared.diagrams.Shape.{Shape};
-    ghost use Rattle.letter_diagram.specs.ShapeTable.{IsHashed};
+    ghost use Rattle.letter_diagram.specs.OpenTable.{IsHashed};
+    ghost use Rattle.letter_diagram.specs.ShapeTable.{start_of};
 
     ghost Value = { List Shape };
 
     ghost view = { λ t. t.shapes.items };
 
-    ghost invariant = { λ t. IsHashed t.slots.items t.shapes.items };
+    ghost invariant = { λ t. IsHashed start_of t.slots.items t.shapes.items };
 }
 
 impl ShapeTable {
@@ -174,11 +160,12 @@ impl ShapeTable {
 
     /// Twice as many slots, with the same numbers.
     fn grown(&self) -> Result<Vec<u32>, AllocError>
-        ensures { IfOk result (λ slots. IsHashed slots.items self.now) }
+        ensures { IfOk result (λ slots. IsHashed start_of slots.items self.now) }
     {
         let mut slots = vec![in self.alloc(); FREE; slots_for(self.slots.len())?]?;
         for (number, shape) in self.shapes.iter().enumerate() {
-            let Some(place) = first_free(&slots, shape) else {
+            let from = start(shape);
+            let Some(place) = first_free(&slots, from) else {
                 return Err(AllocError);
             };
             slots[place] = number as u32;

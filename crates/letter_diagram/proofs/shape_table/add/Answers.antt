@@ -1,6 +1,6 @@
 use Rattle.std.proofs.Common.{◌≡◌, ◌<◌, length, arith, rules}
-use Rattle.letter_diagram.specs.ShapeTable.{free}
-use Rattle.letter_diagram.proofs.ShapeTables.{IsHashed-push, last-number}
+use Rattle.letter_diagram.specs.OpenTable.{free}
+use Rattle.letter_diagram.proofs.OpenTables.{IsHashed-push, last-number}
 use Rattle.letter_diagram.proofs.shape_table.add.Goals as goal
 
 pub returns-clause-hashed : goal.returns-clause-hashed

@@ -4,25 +4,25 @@ use Rattle.letter_diagram.specs.Sets.{set_at}
 use Rattle.letter_diagram.proofs.SetNumbers.{IsUnion-numbered, set_read, slice_get-last}
 use Rattle.letter_diagram.proofs.sets.Sets.unite.Goals as goal
 
-first : (c : goal.In_ok-number) → set_at c.args.self.now c.args.a ≡ c.as_slice-2.result.now
+first : (c : goal.In_ok-number) → set_at c.args.self.now c.args.a ≡ c.as_slice.result.now
 first c =
     let l = ap length c.self.view_is in
-    let m = length-map c.self.inside.seen.keys (λ s. s.items) in
+    let m = length-map c.self.inside.sets.items (λ s. s.items) in
     let known = c.requires.a_known in
     rw (← c.self.view_is) (
-    set_read (λ s. s.items) c.self.inside.seen.keys c.args.a c.index-as_slice-a.result
-    (omega (arith, l, m, known)) (rw (← c.as_slice.ensures.keys) c.index-as_slice-a.is))
-    ∙ sym c.as_slice-2.ensures.value
+    set_read (λ s. s.items) c.self.inside.sets.items c.args.a c.index.result.now
+    (omega (arith, l, m, known)) c.index.ensures)
+    ∙ sym c.as_slice.ensures.value
 
-second : (c : goal.In_ok-number) → set_at c.args.self.now c.args.b ≡ c.as_slice-4.result.now
+second : (c : goal.In_ok-number) → set_at c.args.self.now c.args.b ≡ c.as_slice-2.result.now
 second c =
     let l = ap length c.self.view_is in
-    let m = length-map c.self.inside.seen.keys (λ s. s.items) in
+    let m = length-map c.self.inside.sets.items (λ s. s.items) in
     let known = c.requires.b_known in
     rw (← c.self.view_is) (
-    set_read (λ s. s.items) c.self.inside.seen.keys c.args.b c.index-as_slice-b.result
-    (omega (arith, l, m, known)) (rw (← c.as_slice-3.ensures.keys) c.index-as_slice-b.is))
-    ∙ sym c.as_slice-4.ensures.value
+    set_read (λ s. s.items) c.self.inside.sets.items c.args.b c.index-2.result.now
+    (omega (arith, l, m, known)) c.index-2.ensures)
+    ∙ sym c.as_slice-2.ensures.value
 
 pub returns-clause-union : goal.returns-clause-union
 returns-clause-union c =
