@@ -1,5 +1,5 @@
 -- Marks at states from which no acceptance is possible, and the list of the nonzero cells.
-use Rattle.std.specs.Prelude.{◌≡◌, ℕ, ◌*◌, ◌<◌, ◌≤◌, ◌⊎◌, List, length, slice_index}
+use Rattle.std.specs.Prelude.{◌≡◌, ℕ, ◌<◌, ◌≤◌, ◌⊎◌, List, length, slice_index}
 use Rattle.std.specs.Int.{bit_at}
 use Rattle.auto_core.specs.Automaton.{Automaton}
 use Rattle.auto_search.specs.declared.marks.Marks.{Marks}
@@ -33,9 +33,8 @@ pub record IsMarked (old new : List ℕ) (cell slot : ℕ) : Type 0 where
   pub marks : (k i : ℕ) → bit_at (slice_index new k) i ≡ 1
       → (bit_at (slice_index old k) i ≡ 1) ⊎ ((k ≡ cell) × (i ≡ slot))
 
--- a cell for each state at each place; a marked state cannot reach acceptance
+-- a marked state cannot reach acceptance
 pub record Serves (a : Automaton) (ray : TrackRay) (marks : Marks) : Type 0 where
-  pub room : length a.accept * 68 ≤ length marks.failed.items
   pub remembers : Remembers a ray marks.failed.items
   pub listed : HasListedMarks marks
 

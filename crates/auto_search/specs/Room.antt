@@ -6,7 +6,6 @@ use Rattle.auto_search.specs.Marks.{IsClear}
 -- tables for this many states, without marks and entries
 pub record IsRoom (states : ℕ) (room : Room) : Type 0 where
   pub clear : IsClear room.marks
-  pub marks_size : length room.marks.failed.items ≡ states * 68
   pub none : (k : ℕ) → slice_index room.met.times.items k ≡ 0
   pub times_size : length room.met.times.items ≡ states * 9
   pub states_size : length room.met.states.items ≡ 9 + states * 18

@@ -1,6 +1,6 @@
 //! Searches the distances along a ray whose tuples are in an automaton's set.
 //! Returns the least distance between two bounds, and whether all positive distances have none, one or several such tuples. Only
-//! the calls that reserve room allocate. `specs/TupleRay` defines rays and their tuples, `specs/Bits` the carries of the last bits
+//! the call that reserves room can fail. `specs/TupleRay` defines rays and their tuples, `specs/Bits` the carries of the last bits
 //! of a distance, `specs/Search` the search of states, and `specs/Met` the count over all distances.
 #![tactic(auto)]
 

@@ -1,5 +1,5 @@
 //! Marks at states from which no acceptance is possible.
-ghost use Rattle.std.specs.Prelude.{◌≡◌, ◌≤◌, ◌<◌, ◌*◌, IsTrue, ◌↔◌, ℕ, length, All, slice_index};
+ghost use Rattle.std.specs.Prelude.{◌≡◌, ◌≤◌, ◌<◌, IsTrue, ◌↔◌, ℕ, length, All, IfOk, slice_index};
 ghost use Rattle.std.specs.Int.{bit_at};
 ghost use Rattle.auto_search.specs.Search.{IsFront, IsLive, IsDead, cell_of};
 ghost use Rattle.auto_search.specs.Marks.{Serves, SameRoom, IsClear, IsMarked, HasCellFrom, HasListed, HasListedMarks};
@@ -8,8 +8,13 @@ use crate::carry::SLOTS;
 use crate::course::Course;
 use crate::front::Front;
 use auto_core::Auto;
+use std::alloc::{AllocError, Global};
 
-/// For each place and state a cell with a bit for each slot, and a list of the nonzero cells, as far as it has room.
+/// The number of cells per entry of the list of nonzero cells: a search that marks more of them clears all cells.
+const CELLS_PER_ENTRY: usize = 32;
+
+/// For the first places and states a cell with a bit for each slot, and a list of the nonzero cells, as far as it has room. A state without a cell is
+/// never marked: a search needs no marks to be correct, it then visits the state again.
 #[derive(Drop)]
 pub struct Marks {
     pub failed: Vec<u16>,
@@ -18,26 +23,53 @@ pub struct Marks {
 }
 
 impl Marks {
-    /// Returns whether a cell has a slot's bit.
+    /// Allocates this many cells, all zero. Errors: an allocation failed.
+    fn of_cells(alloc: Global, count: usize) -> Result<Marks, AllocError>
+        ensures { IfOk result IsClear }
+    {
+        Ok(Marks {
+            failed: vec![in alloc; 0u16; count]?,
+            cells: vec![in alloc; 0usize; count / CELLS_PER_ENTRY]?,
+            listed: 0,
+        })
+    }
+
+    /// Grows to this many cells. If an allocation fails, keeps the cells that there are.
+    pub fn fit(&mut self, alloc: Global, count: usize)
+        requires { IsClear self.old }
+        ensures { IsClear self.new }
+    {
+        if self.failed.len() < count {
+            if let Ok(marks) = Marks::of_cells(alloc, count) {
+                *self = marks;
+            }
+        }
+    }
+
+    /// Returns whether there is a cell with a slot's bit.
     fn has(&self, cell: usize, slot: u8) -> bool
-        requires cell { cell < length self.now.failed.items }
         requires slot { slot < 9 }
         ensures { IsTrue result ↔ (bit_at (slice_index self.now.failed.items cell) slot ≡ 1) }
     {
-        (self.failed[cell] >> slot) & 1 == 1
+        if cell < self.failed.len() {
+            (self.failed[cell] >> slot) & 1 == 1
+        } else {
+            false
+        }
     }
 
-    /// Sets a slot's bit in a cell.
+    /// Sets a slot's bit in a cell, if there is such a cell.
     fn add(&mut self, cell: usize, slot: u8)
-        requires cell { cell < length self.old.failed.items }
         requires slot { slot < 9 }
         requires listed { HasListedMarks self.old }
         ensures marked { IsMarked self.old.failed.items self.new.failed.items cell slot }
         ensures listed { HasListedMarks self.new }
         ensures room { SameRoom self.old self.new }
     {
-        self.list(cell);
-        self.failed[cell] |= 1 << slot;
+        if cell < self.failed.len() {
+            self.list(cell);
+            self.failed[cell] |= 1 << slot;
+        }
     }
 
     /// Lists a cell, unless it is nonzero already or the list is full.
@@ -112,8 +144,7 @@ impl Marks {
 fn cell_at(a: &Auto, place: u8, state: u32) -> usize
     requires place { place ≤ 67 }
     requires state { state < length a.now.accept }
-    ensures cell { result ≡ cell_of a.now place state }
-    ensures within { result < length a.now.accept * 68 }
+    ensures { result ≡ cell_of a.now place state }
 {
     place as usize * a.states() as usize + state as usize
 }

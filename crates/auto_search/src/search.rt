@@ -13,7 +13,7 @@ use crate::front::start;
 use crate::least::least;
 use crate::marks::Marks;
 use crate::met::{MOST_TIMES, VisitTable};
-use crate::ray::{MOST_PLACES, TrackRay};
+use crate::ray::TrackRay;
 use crate::tuple_ray::TupleRay;
 use auto_core::Auto;
 use std::alloc::{AllocError, Global};
@@ -22,12 +22,10 @@ use track_word::laws::{
     bits_spell_their_integers, repeating_first_letter_keeps_values, words_of_equal_values_are_equal,
 };
 
-/// The number of list entries for marked cells per reserved state: a search that marks more cells clears all of them.
-const LISTED: usize = 2;
-
 /// Reusable tables for searches in automata with a limited number of states.
 #[derive(Drop)]
 pub struct Search {
+    alloc: Global,
     states: u32,
     room: Room,
 }
@@ -44,14 +42,16 @@ impl Model for Search {
 }
 
 impl Search {
-    /// Allocates tables for automata with at most `states` states, about 250 bytes per state. Errors: an allocation failed.
+    /// Allocates what counting needs in automata with at most `states` states, 99 bytes per state. Errors: an allocation failed.
+    /// The marks of a search grow when it begins, by two bytes per state and place that it reads. If that allocation fails, the
+    /// search goes on with fewer marks: it returns the same and may take longer.
     pub fn reserve(alloc: Global, states: u32) -> Result<Search, AllocError>
         ensures { IfOk result (λ search. search ≡ states) }
     {
         let count = states as usize;
         let marks = Marks {
-            failed: vec![in alloc; 0u16; count * MOST_PLACES]?,
-            cells: vec![in alloc; 0usize; count * LISTED]?,
+            failed: vec![in alloc]?,
+            cells: vec![in alloc]?,
             listed: 0,
         };
         let pairs = count * SLOTS as usize;
@@ -63,6 +63,7 @@ impl Search {
             len: 0,
         };
         Ok(Search {
+            alloc,
             states,
             room: Room { marks, met },
         })
@@ -88,6 +89,7 @@ impl Search {
         let _ = a.tracks();
         let ray = TrackRay::new(way, near, far - near);
         let course = Course { auto: a, ray: &ray };
+        self.room.marks.fit(self.alloc, cells_of(&course));
         match ahead(&mut self.room.marks, &course) {
             None => None,
             Some(steps) => {
@@ -115,8 +117,14 @@ impl Search {
         let _ = a.tracks();
         let ray = TrackRay::new(way, 1, 0);
         let course = Course { auto: a, ray: &ray };
+        self.room.marks.fit(self.alloc, cells_of(&course));
         count(&mut self.room, &course)
     }
+}
+
+/// Returns how many cells a search can mark: one per state and place.
+fn cells_of(course: &Course) -> usize {
+    (course.ray.top as usize + 1) * course.auto.states() as usize
 }
 
 /// Returns the least number of steps from the near end at which the tuple is in the set. The marks are cleared before and after.

@@ -1,4 +1,3 @@
-use Rattle.std.proofs.Common.{arith}
 use Rattle.auto_search.proofs.MarkLemmas.{Remembers-marked, SameRoom-trans}
 use Rattle.auto_search.proofs.marks.Marks.add_all.Goals as goal
 use Rattle.auto_search.proofs.marks.Marks.add_all.Goals.{in-Some, in_default}
@@ -13,10 +12,9 @@ loop-slot-preserved c =
           let state = w.in-Some.state in
           rw w.self-is (record {
             serves = record {
-              room = let r = known.serves.room in let k = w.add.ensures.room.failed_kept in omega (arith, r, k);
               remembers =
                   Remembers-marked w.add.new.self.failed.items c.args.place state c.loop-slot.slot c.args.front.now known.serves.remembers
-                  (c.requires.front.states c.loop-slot.slot state w.in-Some.is) (rw w.cell_at.ensures.cell at w.add.ensures.marked) w.in-Some.is c.requires.dead;
+                  (c.requires.front.states c.loop-slot.slot state w.in-Some.is) (rw w.cell_at.ensures at w.add.ensures.marked) w.in-Some.is c.requires.dead;
               listed = w.add.ensures.listed;
             };
             room = SameRoom-trans known.room w.add.ensures.room;
