@@ -25,29 +25,6 @@ IsRowFrom-grows {node} grows is =
 pub AreRowsFrom-grows : {old new : List Shape} {width : ℕ} {table nodes : List ℕ} → Grows old new → AreRowsFrom old width table nodes → AreRowsFrom new width table nodes
 AreRowsFrom-grows grows are = record { rows = λ i h. IsRowFrom-grows grows (are.rows i h) }
 
--- a row of a part of a table
-pub IsRowFrom-part : (shapes : List Shape) (width : ℕ) (table : List ℕ) (start node : ℕ) → 0 < width → IsRowFrom shapes width (take width (drop start table)) 0 node
-    → IsRowFrom shapes width table start node
-IsRowFrom-part shapes width table start node some is = record {
-  known = is.known;
-  map = λ letter.
-      let below = mod_below letter width some in
-      is.map letter ∙ (let e : 0 + letter % width ≡ letter % width = omega arith in ap (λ k. slice_index (take width (drop start table)) k) e)
-      ∙ get_or-take width (drop start table) (letter % width) 0 below ∙ get_or-drop start table (letter % width) 0;
-}
-
-pub AreRowsFrom-push : (shapes : List Shape) (width : ℕ) (table nodes : List ℕ) (node count : ℕ) → length nodes ≡ count → AreRowsFrom shapes width table nodes
-    → IsRowFrom shapes width table (count * width) node → AreRowsFrom shapes width table (nodes ++ node ∷ [])
-AreRowsFrom-push shapes width table nodes node count size are is = record {
-  rows = λ i h. elim (cases_lt i (length nodes)) [
-    | inl below ↦ rw (get_or_append_left nodes (node ∷ []) 0 i below) (are.rows i below)
-    | inr past ↦
-        let e : i ≡ count = grind (arith, common_steps, h, past, size) in
-        let at : slice_index (nodes ++ node ∷ []) i ≡ node = get_or_push nodes node 0 i (size ∙ sym e) in
-        rw (at, e) is
-  ];
-}
-
 pub LooksBelow-row : {shapes : List Shape} (tracks : ℕ) {table : List ℕ} {offset node : ℕ} → IsRowFrom shapes (2 ^ tracks) table offset node → LooksBelow shapes node tracks
 LooksBelow-row tracks {table} {offset} is = record {
   same = λ a b bits.

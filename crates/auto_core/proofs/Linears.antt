@@ -35,10 +35,6 @@ vars-at [] j d = refl
 vars-at (t ∷ terms) zero d = refl
 vars-at (t ∷ terms) (suc j) d = vars-at terms j d
 
-pub length-vars : (terms : List (ℤ × Var)) → length (term_vars terms) ≡ length terms
-length-vars [] = refl
-length-vars (t ∷ terms) = ap suc (length-vars terms)
-
 -- the terms in order, with their tracks and weights
 pub record AreOrdered (terms ordered : List (ℤ × Var)) (tracks : List Var) (weights : List ℤ) : Type 0 where
   pub is : ordered ≡ ordered_terms terms

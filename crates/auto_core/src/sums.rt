@@ -60,7 +60,7 @@ impl ValueRange {
 
 /// Returns the node of the map from a letter to the state of `sum` plus the weights of the letter's bits, by the tracks from
 /// `track` on. Results are cached by track and sum.
-pub fn row(
+pub(crate) fn row(
     diagrams: &mut Diagrams,
     memo: &mut HashMap<(u8, i32), Node>,
     weights: &[i32],

@@ -8,7 +8,7 @@ use std::alloc::{AllocError, Global};
 use track_word::Var;
 
 /// Returns the terms, ascending by their variables. Errors: an allocation failed.
-pub fn ordered(alloc: Global, terms: &[(i8, Var)]) -> Result<Vec<(i8, Var)>, AllocError>
+pub(crate) fn ordered(alloc: Global, terms: &[(i8, Var)]) -> Result<Vec<(i8, Var)>, AllocError>
     ensures { IfOk result (λ sorted. sorted.items ≡ ordered_terms terms.now) }
 {
     match terms.split_first() {
@@ -36,7 +36,7 @@ fn place_of(terms: &[(i8, Var)], var: Var) -> usize
 }
 
 /// Returns the variables of terms, in order.
-pub fn variables(alloc: Global, terms: &[(i8, Var)]) -> Result<Vec<Var>, AllocError>
+pub(crate) fn variables(alloc: Global, terms: &[(i8, Var)]) -> Result<Vec<Var>, AllocError>
     ensures { IfOk result (λ vars. vars.items ≡ map (λ t. t.1) terms.now) }
 {
     let mut vars = Vec::new(alloc);
@@ -47,7 +47,7 @@ pub fn variables(alloc: Global, terms: &[(i8, Var)]) -> Result<Vec<Var>, AllocEr
 }
 
 /// Returns the coefficients of terms, in order.
-pub fn coefficients(alloc: Global, terms: &[(i8, Var)]) -> Result<Vec<i32>, AllocError>
+pub(crate) fn coefficients(alloc: Global, terms: &[(i8, Var)]) -> Result<Vec<i32>, AllocError>
     ensures { IfOk result (λ weights. weights.items ≡ map (λ t. t.0) terms.now) }
 {
     let mut weights = Vec::new(alloc);
@@ -58,7 +58,7 @@ pub fn coefficients(alloc: Global, terms: &[(i8, Var)]) -> Result<Vec<i32>, Allo
 }
 
 /// Returns the negated weights, which are those of a sign letter's bits.
-pub fn negated(alloc: Global, weights: &[i32]) -> Result<Vec<i32>, AllocError>
+pub(crate) fn negated(alloc: Global, weights: &[i32]) -> Result<Vec<i32>, AllocError>
     requires { All IsSmall weights.now }
     ensures { IfOk result (λ opposite. opposite.items ≡ map neg_ℤ weights.now) }
 {

@@ -69,24 +69,11 @@ AddsListed-set lists at x list new is items = record {
   ];
 }
 
-pub AddsListed-refl : (lists : List (SmallVec ℕ)) (x : ℕ) → AddsListed lists lists x
-AddsListed-refl lists x = record { size = refl; kept = λ k y l. l; only = λ k y l. inl l }
-
 pub AddsListed-trans : {first second third : List (SmallVec ℕ)} {x : ℕ} → AddsListed first second x → AddsListed second third x → AddsListed first third x
 AddsListed-trans f s = record {
   size = s.size ∙ f.size;
   kept = λ k y l. s.kept k y (f.kept k y l);
   only = λ k y l. elim (s.only k y l) [ inl before ↦ f.only k y before | inr same ↦ inr same ];
-}
-
-pub AreListedBelow-none : (lists : List (SmallVec ℕ)) (bound : ℕ) → All (λ list. list.items ≡ []) lists → AreListedBelow lists bound
-AreListedBelow-none lists bound none = record {
-  below = λ k x l.
-      let empty : l.list.items ≡ [] = subst (λ v. v.items ≡ []) (get_or_from_slice_get lists k l.list l.list l.is)
-      (All-get_or (λ list. list.items ≡ []) lists k l.list (slice_get_within lists k l.list l.is) none) in
-      let there : Contains [] x = subst (λ xs. Contains xs x) empty l.has in
-      let less = there.1 in
-      absurd (omega (arith, less));
 }
 
 pub AreListedBelow-adds : {old new : List (SmallVec ℕ)} {bound : ℕ} → AreListedBelow old bound → AddsListed old new bound → AreListedBelow new (bound + 1)
@@ -118,9 +105,6 @@ unmarked-set (true ∷ marks) zero off within = cc
 unmarked-set (false ∷ marks) zero off within = refl
 unmarked-set (true ∷ marks) (suc place) off within = unmarked-set marks place off (omega (arith, within))
 unmarked-set (false ∷ marks) (suc place) off within = ap (λ n. n + 1) (unmarked-set marks place off (omega (arith, within)))
-
-pub MarksMore-refl : (marks : List Bool) (waiting : List ℕ) → MarksMore marks waiting marks waiting
-MarksMore-refl marks waiting = record { size = refl; kept = λ p h. h; waits = λ p h. inl h; stays = λ p h. h; within = λ h. h; work = omega arith }
 
 pub MarksMore-trans : {a b c : List Bool} {u v w : List ℕ} → MarksMore a u b v → MarksMore b v c w → MarksMore a u c w
 MarksMore-trans {a} {b} {c} {u} {v} {w} f s = record {

@@ -28,10 +28,6 @@ each_push P xs x before last k y is =
           subst (P k) value (subst (λ i. P i x) here last)
     ]
 
--- ---- more ways
-pub KeepsWays-refl : (ways : List PlaceTarget) → KeepsWays ways ways
-KeepsWays-refl ways = record { longer = omega arith; at = λ place way h. h }
-
 pub KeepsWays-trans : {first second third : List PlaceTarget} → KeepsWays first second → KeepsWays second third → KeepsWays first third
 KeepsWays-trans f g = record { longer = let a = f.longer in let b = g.longer in omega (arith, a, b); at = λ place way h. g.at place way (f.at place way h) }
 
