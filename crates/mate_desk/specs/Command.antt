@@ -1,4 +1,4 @@
--- What a run of an order comes to, by what the order is of.
+-- The properties of a run, by what its command reads.
 use Rattle.std.specs.Prelude.{◌≡◌, ℕ, List, [], Option, Some, IsSomeAnd, slice_get}
 use Rattle.desk_base.specs.Files.{Files}
 use Rattle.desk_base.specs.Lines.{Lines, lines_of}
@@ -12,27 +12,27 @@ use Rattle.desk_text.specs.declared.problem.Problem.{Problem}
 abbrev pub OfText : (Problem → Lines → Report → Type 0) → Files → List ℕ → Report → Type 0
 OfText reports files bytes report = OfLines problems reports files (lines_of bytes) report
 
--- the bytes taken are the text of a sound position, of which this holds, and at most 256 behind it
+-- the bytes taken are the text of a sound position with this property, and at most 256 bytes after it
 abbrev pub IsBehindText : (Holds : Problem → Type 0) → (taken : List ℕ) → Type 0
 IsBehindText Holds taken = IsBehindTextOf problems Holds taken
 
--- where the shelf may fail while it keeps a file: the words name it, and there is a file to keep of the text that was
--- taken
+-- when the shelf may fail while it stores a file: the arguments name it, and there is a file to store for the text that
+-- was taken
 pub record MayMissKeep (HasFile : Problem → Type 0) (name : Option (List ℕ)) (taken : List ℕ)
     (keeping : Option (List ℕ)) : Type 0 where
   pub named : keeping ≡ name
   pub text : IsBehindText HasFile taken
 
--- what is reported of a name, where there is one
+-- the report for a name, if there is one
 abbrev pub OfName : (name : Option (List ℕ)) → ((name : List ℕ) → Report → Type 0) → Report → Type 0
 OfName name reports report = IsSomeAnd name (λ name'. reports name' report)
 
--- of two names, where both are there
+-- the report for two names, if there are both
 abbrev pub OfNames : (from to : Option (List ℕ)) → ((from to : List ℕ) → Report → Type 0) → Report → Type 0
 OfNames from to reports = OfName from (λ from'. OfName to (λ to'. reports from' to'))
 
--- Where the shelf may fail between the file that is read and the one that is kept: nothing was taken, and it may by the
--- two names and the files.
+-- When the shelf may fail between reading one file and storing the other: nothing of the input was taken, and the two
+-- names and the files allow it.
 pub record MayMissBetween (misses : (from to : List ℕ) → Files → Option (List ℕ) → Type 0) (words : List (List ℕ))
     (taken : List ℕ) (files : Files) (keeping : Option (List ℕ)) : Type 0 where
   pub none : taken ≡ []
@@ -42,24 +42,24 @@ pub record MayMissBetween (misses : (from to : List ℕ) → Files → Option (L
   pub to_named : slice_get words 2 ≡ Some to
   pub fails : misses from to files keeping
 
--- What a run of an order comes to.
+-- The properties of a run of a command.
 pub record Command : Type 1 where
-  -- what is reported, by the words, for the names that stand there, the bytes of the input, and the files
+  -- the report, given the arguments with their names, the bytes of the input, and the files
   pub reports : (words : List (List ℕ)) → List ℕ → Files → Report → Type 0
-  -- what the order asks for takes memory, of the problem of a text or of one that follows from a seed
+  -- the command allocates for the problem of a text, or for one that follows from a seed
   pub takes : Problem → Type 0
-  -- memory may be wanting after these bytes were taken
+  -- memory may run out after these bytes were taken
   pub may_lack : (taken : List ℕ) → Type 0
-  -- of such files the shelf may fail then, while the file of this name, or none, is being kept
+  -- the shelf with these files may fail then, while the file of this name, or none, is being stored
   pub may_miss : (words : List (List ℕ)) → (taken : List ℕ) → Files → (keeping : Option (List ℕ)) → Type 0
-  -- it is of a position text
+  -- it reads a position text
   pub text : Type 0
   -- it uses no file
   pub no_shelf : Type 0
-  -- it reads nothing: it is of no text, and of no lines
+  -- it reads neither a text nor lines
   pub no_text : Type 0
 
--- of the problem of a text and the lines behind it
+-- a command on the problem of a text and the lines after it
 abbrev pub of_text : (says : Problem → Lines → Files → Report → Type 0) → (takes : Problem → Type 0) → Command
 of_text says takes =
     record {
@@ -72,7 +72,7 @@ of_text says takes =
       no_text = ⊥;
     }
 
--- of the problem of a text, to keep a file of a name, which is the third word
+-- a command on the problem of a text that stores a file; its name is the third argument
 abbrev pub of_text_to_keep : (says : Problem → (name : List ℕ) → Files → Report → Type 0)
     → (takes has_file : Problem → Type 0) → Command
 of_text_to_keep says takes has_file =
@@ -88,7 +88,7 @@ of_text_to_keep says takes has_file =
       no_text = ⊥;
     }
 
--- of the file of a name, which is the second word, and of the lines of the input, where it reads any
+-- a command on the file named by the second argument, and on the lines of the input, if it reads any
 abbrev pub of_file : (says : Lines → (name : List ℕ) → Files → Report → Type 0) → (no_text : Type 0) → Command
 of_file says no_text =
     record {
@@ -101,7 +101,7 @@ of_file says no_text =
       no_text = no_text;
     }
 
--- of the file of the one name, to keep one of the other, which are the second word and the third
+-- a command on the file named by the second argument that stores a file under the third
 abbrev pub of_files : (says : (from to : List ℕ) → Files → Report → Type 0)
     → (misses : (from to : List ℕ) → Files → Option (List ℕ) → Type 0) → Command
 of_files says misses =
@@ -116,7 +116,7 @@ of_files says misses =
       no_text = Unit {0};
     }
 
--- of the lines of the input alone
+-- a command on the lines of the input alone
 abbrev pub of_lines : (says : Lines → Files → Report → Type 0) → (may_lack : (taken : List ℕ) → Type 0) → Command
 of_lines says may_lack =
     record {
@@ -129,7 +129,7 @@ of_lines says may_lack =
       no_text = ⊥;
     }
 
--- of nothing but its words, where memory may be wanting if there is something to do
+-- a command on its arguments alone, for which memory may run out if there is something to compute
 abbrev pub of_words : (says : Files → Report → Type 0) → (some : Type 0) → (takes : Problem → Type 0) → Command
 of_words says some takes =
     record {

@@ -51,22 +51,22 @@ use Rattle.desk_text.specs.declared.problem.Problem.{Problem}
 use Rattle.desk_report.specs.declared.status.Status.{Status}
 use Rattle.desk_report.specs.declared.status.Status.TheVariants as is
 
--- What `decide` wrote behind the bytes `old`: one of the two lines, the one exactly where the winner mates within n moves
--- of his own, and the other exactly where he does not.
+-- The bytes that `decide` appended to `old`: one of the two lines, the first if and only if the winner mates within n
+-- moves of his own, and the second if and only if he does not.
 pub record WritesVerdict (n : ℕ) (p : Position) (winner : Side) (old new : List ℕ) : Type 0 where
   pub one : (new ≡ old ++ mate_line n) ⊎ (new ≡ old ++ no_mate_line n)
   pub mate : (new ≡ old ++ mate_line n) ↔ Value winner n p
   pub no_mate : (new ≡ old ++ no_mate_line n) ↔ (¬ Value winner n p)
 
--- What `least` wrote behind the bytes `old`: the least number of moves up to the limit within which the winner mates,
--- or that there is none.
+-- The bytes that `least` appended to `old`: the least number of moves up to the limit within which the winner mates, or
+-- that there is none.
 pub record WritesLeast (limit : ℕ) (p : Position) (winner : Side) (old new : List ℕ) : Type 0 where
   pub found : Option ℕ
   pub least : Least winner p limit found
   pub written : new ≡ old ++ least_line limit found
 
--- A run that is done has the text of the sound position and of the winner at the front of its source, and a sink that
--- tells what was written.
+-- A run that is done, with the text of the sound position and winner at the front of its source, and a sink that
+-- exposes what was written.
 pub record HasRun (words : List (List ℕ)) (order : Order) (p : Position) (winner : Side) (old new : Seen) (out : List ℕ) : Type 0 where
   pub behind : List ℕ
   pub ordered : Ordered words (Ok order)
@@ -90,16 +90,15 @@ LeastWrites =
     → HasRun words (orders.Least limit budget) p winner old new out
     → (all : List ℕ) × (new.written ≡ Some all) × WritesLeast limit p winner out all
 
--- the status is that of words that are no order exactly where they are none
+-- the status is that of a usage error if and only if the arguments are not a command
 abbrev pub UsageExactly : Type 0
 UsageExactly =
     (words : List (List ℕ)) (status : Status) (old new : Seen)
     → RunEnds words status old new
     → (status ≡ is.Usage) ↔ ((why : UsageWhy) × Ordered words (Err why))
 
--- What a run says whose memory was wanting: after these bytes of its source were taken it may be, by its words; and
--- where the source told the text of a problem, and the words order something of a text, the problem's position is sound
--- and what they order of it takes memory.
+-- The properties of a run whose memory ran out: its arguments and the bytes taken allow it; and if the source exposed
+-- the text of a problem and the command reads a text, the problem's position is sound and the command allocates for it.
 pub record LacksSome (words : List (List ℕ)) (old new : Seen) : Type 0 where
   pub taken : List ℕ
   pub consumed : Consumes old.left new.left taken
@@ -108,17 +107,17 @@ pub record LacksSome (words : List (List ℕ)) (old new : Seen) : Type 0 where
       → IsOfText order → old.left ≡ Some bytes → TextAt bytes (whole problem rest)
       → Sound problem.position × TakesMemory order problem
 
--- want of memory comes only there
+-- memory runs out only then
 abbrev pub MemoryLast : Type 0
 MemoryLast = (words : List (List ℕ)) (old new : Seen) → RunEnds words is.Memory old new → LacksSome words old new
 
--- a run of an order that uses no file has no fault of the shelf
+-- a run of a command that uses no file has no fault of the shelf
 abbrev pub NoShelfFault : Type 0
 NoShelfFault =
     (words : List (List ℕ)) (order : Order) (status : Status) (old new : Seen)
     → Ordered words (Ok order) → UsesNoShelf order → RunEnds words status old new → status ≢ is.ShelfFault
 
--- the statuses of a fault come only where its count has risen
+-- a status of a fault occurs only if the count of faults has risen
 pub record FaultsAreCounted : Type 0 where
   pub read : (words : List (List ℕ)) (old new : Seen) → RunEnds words is.ReadFault old new
       → HasRisen old.read_faults new.read_faults
@@ -145,8 +144,8 @@ DecidesExactly =
     → Reports words bytes files report
     → IsExact n budget problem report
 
--- What `crowd` reports of a sound crowd: the first step that exceeds the budget, or that the winner mates within n moves
--- of his own, where he does, and that he does not, where he does not.
+-- What `crowd` reports of a sound crowd: the first step that exceeds the budget, or that the winner mates within n
+-- moves of his own, if he does, or that he does not, if he does not.
 abbrev pub DecidesCrowd : (n budget : ℕ) → Problem → Files → Report → Type 0
 DecidesCrowd n budget problem files =
     FirstOver crowd_line (ExceedsPlan problem budget n)
@@ -154,7 +153,7 @@ DecidesCrowd n budget problem files =
     (Value problem.winner n problem.position × (report ≡ done_with files (mate_line n)))
     ⊎ ((Value problem.winner n problem.position → ⊥) × (report ≡ done_with files (no_mate_line n)))) files
 
--- each report of `crowd` on the text of a sound crowd
+-- this is true of each report of `crowd` on the text of a sound crowd
 abbrev pub CrowdDecides : Type 0
 CrowdDecides =
     (words : List (List ℕ)) (bytes : List ℕ) (files : Files) (n budget : ℕ) (problem : Problem) (rest : Lines)
@@ -165,7 +164,7 @@ CrowdDecides =
     → Reports words bytes files report
     → DecidesCrowd n budget problem files report
 
--- A run of `crowd` that is done, on bytes that begin with a crowd's text, writes one of the two lines.
+-- A run of `crowd` that is done, on bytes that begin with a crowd text, writes one of the two lines.
 abbrev pub CrowdWrites : Type 0
 CrowdWrites =
     (words : List (List ℕ)) (n budget : ℕ) (input : List ℕ) (problem : Problem) (rest : Lines) (old new : Seen) (out : List ℕ)
@@ -176,7 +175,8 @@ CrowdWrites =
     → RunEnds words is.Done old new
     → (all : List ℕ) × (new.written ≡ Some all) × WritesVerdict n problem.position problem.winner out all
 
--- Two inputs begin with texts of one position and one winner: the one with a position text, the other with a crowd's.
+-- Two inputs begin with texts of the same position and winner: the first with a position text, the second with a crowd
+-- text.
 pub record AreOfOne (bytes input : List ℕ) : Type 0 where
   pub problem : Problem
   pub rest : Lines
@@ -187,7 +187,7 @@ pub record AreOfOne (bytes input : List ℕ) : Type 0 where
   pub position : crowd.position ≡ problem.position
   pub winner : crowd.winner ≡ problem.winner
 
--- what `decide` reports of the one and `crowd` of the other is one report, where both are done
+-- `decide` on the first input and `crowd` on the second have the same report, if both are done
 abbrev pub CrowdAgrees : Type 0
 CrowdAgrees =
     (words later : List (List ℕ)) (bytes input : List ℕ) (files : Files) (n budget other : ℕ) (one two : Report)
@@ -200,16 +200,16 @@ CrowdAgrees =
     → two.status ≡ is.Done
     → one ≡ two
 
--- After the winner's move of this number, counted from 0, of a game that began with the problem: legal moves have led
--- to the position, the move is one of his n, and the loser is mated within those that he has left.
+-- After the winner's move of this number, counted from 0, in a game from the problem: legal moves have led to the
+-- position, the move is one of his n, and the loser is mated within the moves left.
 pub record IsKeptGame (n : ℕ) (problem : Problem) (number : ℕ) (after : Match) : Type 0 where
   pub reached : Reach problem.position after.ply after.position
   pub few : number + 1 ≤ n
   pub lost : Lost problem.winner (n - (number + 1)) after.position
 
--- What `play` reports of a sound position: the first step that exceeds the budget, or that the winner does not mate
--- within n moves of his own, or, where he does, the game with the lines behind the text, in which each of his moves is
--- legal and keeps the count.
+-- What `play` reports of a sound position: the first step that exceeds the budget; or that the winner does not mate
+-- within n moves of his own; or, if he does, the game with the lines after the text, in which each of his moves is
+-- legal and the loser is mated within the moves left after it.
 abbrev pub PlaysGame : ℕ → ℕ → Problem → Lines → Files → Report → Type 0
 PlaysGame n budget problem lines files =
     FirstOver budget_line (ExceedsAt problem budget n)
@@ -221,7 +221,7 @@ PlaysGame n budget problem lines files =
     × ((number : ℕ) (after : Match) → slice_get played.games number ≡ Some after → IsKeptGame n problem number after))))
     files
 
--- each report of `play` on the text of a sound position
+-- this is true of each report of `play` on the text of a sound position
 abbrev pub PlayKeeps : Type 0
 PlayKeeps =
     (words : List (List ℕ)) (bytes : List ℕ) (files : Files) (n budget : ℕ) (problem : Problem) (rest : Lines)
@@ -232,10 +232,9 @@ PlayKeeps =
     → Reports words bytes files report
     → PlaysGame n budget problem rest files report
 
--- What `defend` reports of a sound position: the first step that exceeds the budget, or that the winner mates within n
--- moves of his own, or, where he does not, the game with the lines behind the text. After each move of the loser in it,
--- and in the end, the winner has made at most n moves and does not mate within those that he has left, and the loser is
--- not mated.
+-- What `defend` reports of a sound position: the first step that exceeds the budget; or that the winner mates within n
+-- moves of his own; or, if he does not, the game with the lines after the text. After each move of the loser in it, and
+-- at the end, the winner has made at most n moves and does not mate within the moves left, and the loser is not mated.
 abbrev pub DefendsGame : ℕ → ℕ → Problem → Lines → Files → Report → Type 0
 DefendsGame n budget problem lines files =
     FirstOver budget_line (ExceedsAt problem budget n)
@@ -248,7 +247,7 @@ DefendsGame n budget problem lines files =
     × IsSavedReport (first_defence n problem) played)))
     files
 
--- each report of `defend` on the text of a sound position
+-- this is true of each report of `defend` on the text of a sound position
 abbrev pub Defends : Type 0
 Defends =
     (words : List (List ℕ)) (bytes : List ℕ) (files : Files) (n budget : ℕ) (problem : Problem) (rest : Lines)
@@ -259,22 +258,22 @@ Defends =
     → Reports words bytes files report
     → DefendsGame n budget problem rest files report
 
--- After the winner's move of this number, counted from 0, of a game that began with the claim: legal moves have led to
--- the position, the move is one of the claim's, and the loser is mated within those that the winner has left.
+-- After the winner's move of this number, counted from 0, in a game from the claim: legal moves have led to the
+-- position, the move is one of the claim's, and the loser is mated within the moves left.
 pub record IsLostGame (c : Claim) (number : ℕ) (after : Match) : Type 0 where
   pub reached : Reach c.position after.ply after.position
   pub few : number + 1 ≤ c.moves
   pub lost : Lost c.winner (c.moves - (number + 1)) after.position
 
 -- What `resume` reports of the claim of a file that keeps all rules: its winner mates within its moves, and in the game
--- with the lines each of his moves is legal and keeps the count.
+-- with the lines each of his moves is legal and the loser is mated within the moves left after it.
 abbrev pub ResumesGame : Lines → Files → Claim → Report → Type 0
 ResumesGame lines files c report =
     Value c.winner c.moves c.position
     × ((played : LineReport Match) × IsReport winner_rules 0 lines (claimed_match c) played × (report ≡ as_played files played)
     × ((number : ℕ) (after : Match) → slice_get played.games number ≡ Some after → IsLostGame c number after))
 
--- each report of `resume`, whoever made the file
+-- this is true of each report of `resume`, no matter who made the file
 abbrev pub ResumeKeeps : Type 0
 ResumeKeeps =
     (words : List (List ℕ)) (bytes : List ℕ) (files : Files) (budget : ℕ) (name : List ℕ) (report : Report)
@@ -283,8 +282,8 @@ ResumeKeeps =
     → Reports words bytes files report
     → OfChecked (ResumesGame (lines_of bytes) files) budget name files report
 
--- A run of `keep` is done and wrote that the winner mates within n moves of his own. Its sink and its shelf tell; the files
--- are these then.
+-- A run of `keep` is done and wrote that the winner mates within n moves of his own. Its sink and its shelf expose
+-- their contents; these are the files after it.
 pub record HasKept (words : List (List ℕ)) (n budget : ℕ) (name : List ℕ) (files : Files) (old new : Seen) : Type
     0 where
   pub ordered : Ordered words (Ok (orders.Keep n budget))
@@ -297,8 +296,8 @@ pub record HasKept (words : List (List ℕ)) (n budget : ℕ) (name : List ℕ) 
   pub files_before : old.files ≡ Some before
   pub files_after : new.files ≡ Some files
 
--- The file of the name is of a claim of n moves, and the report names the first step of the plan that checks it that
--- exceeds the budget.
+-- The file of the name has a claim of n moves, and the report names the first step that exceeds the budget in the plan
+-- that checks it.
 pub record NamesCheckStep (n budget : ℕ) (name : List ℕ) (files : Files) (report : Report) : Type 0 where
   pub charts : Charts
   pub read : IsReadAs name files (Ok charts)
@@ -307,8 +306,8 @@ pub record NamesCheckStep (n budget : ℕ) (name : List ℕ) (files : Files) (re
   pub exceeds : IsSolveError (check_plan (claim_with charts)) n budget (solve_error.Over step)
   pub named : report ≡ over_budget files step
 
--- After that, of a store whose file of the name is still that one, each report of `check` of the name is that the claim
--- mates within n moves, or names the first step that exceeds its budget.
+-- Afterwards, for a store whose file of the name is still the same, each report of `check` of the name is that the
+-- claim mates within n moves, or the first step that exceeds its budget.
 abbrev pub CheckedAfterKeep : Type 0
 CheckedAfterKeep =
     (words later : List (List ℕ)) (n budget other : ℕ) (name : List ℕ) (kept files : Files) (old new : Seen)
@@ -320,8 +319,7 @@ CheckedAfterKeep =
     → Reports later bytes files report
     → (report ≡ done_with files (mate_line n)) ⊎ NamesCheckStep n other name files report
 
--- A run of `migrate` is done, between two names. Its shelf tells what files there were before, and what files there are
--- after it.
+-- A run of `migrate` between two names is done. Its shelf exposes the files before and after it.
 pub record HasMigrated (words : List (List ℕ)) (from to : List ℕ) (before after : Files) (old new : Seen) : Type 0 where
   pub ordered : Ordered words (Ok orders.Migrate)
   pub from_named : slice_get words 1 ≡ Some from
@@ -330,8 +328,7 @@ pub record HasMigrated (words : List (List ℕ)) (from to : List ℕ) (before af
   pub files_before : old.files ≡ Some before
   pub files_after : new.files ≡ Some after
 
--- What the file of the one name was read as is read of the file of the other, as a claim of the same sets, and each other
--- file is as it was.
+-- The second file is read as a claim of the same sets as the first was, and each other file is unchanged.
 pub record IsCarried (from to : List ℕ) (before after : Files) : Type 0 where
   pub charts : Charts
   pub read : IsReadAs from before (Ok charts)
@@ -340,19 +337,19 @@ pub record IsCarried (from to : List ℕ) (before after : Files) : Type 0 where
   pub same : IsSameClaim (claim_with charts) (claim_with migrated)
   pub others : (name : List ℕ) → name ≢ to → map.get after name ≡ map.get before name
 
--- so it is after each run of `migrate` that is done
+-- this is true of each run of `migrate` that is done
 abbrev pub MigrateCarries : Type 0
 MigrateCarries =
     (words : List (List ℕ)) (from to : List ℕ) (before after : Files) (old new : Seen)
     → HasMigrated words from to before after old new → IsCarried from to before after
 
--- What `arith` reports of a formula: the first of its steps that exceeds the budget, or a line that answers it.
+-- What `arith` reports of a formula: the first of its steps that exceeds the budget, or a line with the answer.
 abbrev pub ReportsAnswer : (budget : ℕ) → Tree → Files → Report → Type 0
 ReportsAnswer budget f files =
     FirstOver step_line (λ step. IsOver f budget (Over step))
     (λ report. (line : List ℕ) × Answers f line × (report ≡ done_with files line)) files
 
--- each report of `arith` on a line that is a formula, whatever comes behind it
+-- this is true of each report of `arith` on a line that is a formula, whatever follows it
 abbrev pub AnswersExactly : Type 0
 AnswersExactly =
     (words : List (List ℕ)) (bytes : List ℕ) (files : Files) (budget : ℕ) (line : List ℕ) (rest : Lines) (f : Tree)
@@ -363,8 +360,7 @@ AnswersExactly =
     → Reports words bytes files report
     → ReportsAnswer budget f files report
 
--- The words are the order, and the source tells the text of the sound position and of the winner, and what comes behind
--- it.
+-- The arguments are the command, and the source exposes the text of the sound position and winner, and what follows it.
 pub record IsTold (words : List (List ℕ)) (order : Order) (p : Position) (winner : Side) (old : Seen) : Type 0 where
   pub behind : List ℕ
   pub ordered : Ordered words (Ok order)
@@ -372,14 +368,14 @@ pub record IsTold (words : List (List ℕ)) (order : Order) (p : Position) (winn
   pub sound : Sound p
   pub input : old.left ≡ Some (position_text p winner ++ behind)
 
--- Behind the bytes `out` stand this text and this fault line: the whole of them, unless the sink has failed.
+-- The bytes `out` are followed by this text and this fault line: the whole of them, unless the sink failed.
 pub record IsWritten (text fault out all : List ℕ) (failed : Type 0) : Type 0 where
   pub missing : List ℕ
   pub front : all ++ missing ≡ out ++ (text ++ fault)
   pub whole : (missing ≡ []) ⊎ failed
 
--- What a run that plays a game wrote of a position and a winner, where these bytes come behind their text: of the game
--- with the lines of them, of which `Plays` says what is reported.
+-- What a run that plays a game wrote of a position and a winner, if these bytes follow their text: the report, in the
+-- sense of `Plays`, of the game with the lines of these bytes.
 pub record WritesGame (Plays : Problem → Lines → Files → Report → Type 0) (p : Position) (winner : Side)
     (behind : List ℕ) (old new : Seen) (out : List ℕ) : Type 0 where
   pub all : List ℕ
@@ -389,14 +385,14 @@ pub record WritesGame (Plays : Problem → Lines → Files → Report → Type 0
   pub plays : Plays (text_problem p winner) (lines_of behind) files report
   pub writes : IsWritten report.text report.fault out all (WriteFailed old new)
 
--- What such a run had to play whose source failed: the bytes that it took are a text cut short, and nothing is written of
--- it; or they are the text of the position and some lines, and the game is that with those.
+-- What such a run played if its source failed: the bytes taken are an incomplete text, and nothing is written of it; or
+-- they are the text of the position and some lines, and the game is that with these lines.
 abbrev pub PlaysTaken : (Plays : Problem → Lines → Files → Report → Type 0) → Problem → (taken : List ℕ) → Files → Report → Type 0
 PlaysTaken Plays problem taken files report =
     ((number : ℕ) × (why : LineWhy) × TextAt taken (refused number why) × (report.text ≡ []))
     ⊎ ((lines : Lines) × TextAt taken (whole problem lines) × Plays problem lines files report)
 
--- What it wrote of an input: the text of that, and that the source has failed.
+-- What it wrote of such an input: the text of that game, and that the source failed.
 pub record WritesTaken (Plays : Problem → Lines → Files → Report → Type 0) (p : Position) (winner : Side)
     (input : List ℕ) (old new : Seen) (out : List ℕ) : Type 0 where
   pub taken : List ℕ
@@ -409,7 +405,7 @@ pub record WritesTaken (Plays : Problem → Lines → Files → Report → Type 
   pub plays : PlaysTaken Plays (text_problem p winner) taken files report
   pub writes : IsWritten report.text (codes "read fault\n") out all (WriteFailed old new)
 
--- So it is with each run of an order that plays a game, and that has memory.
+-- This is true of each run of a command that plays a game and does not run out of memory.
 pub record GameWrites (order : (n budget : ℕ) → Order)
     (Plays : (n budget : ℕ) → Problem → Lines → Files → Report → Type 0) : Type 0 where
   pub game : (words : List (List ℕ)) (n budget : ℕ) (p : Position) (winner : Side) (status : Status) (old new : Seen) (out : List ℕ)
@@ -423,13 +419,14 @@ pub record GameWrites (order : (n budget : ℕ) → Order)
       → RunEnds words is.ReadFault old new
       → WritesTaken (Plays n budget) p winner (position_text p winner ++ told.behind) old new out
 
--- A run of `play` writes the game of the text with the lines behind it, in which each move of the winner is legal and
--- keeps the count, or that he does not mate, or the first step that exceeds the budget.
+-- A run of `play` writes the game with the lines after the text, in which each move of the winner is legal and the
+-- loser is mated within the moves left after it; or that the winner does not mate; or the first step that exceeds the
+-- budget.
 abbrev pub PlayWrites : Type 0
 PlayWrites = GameWrites (λ n budget. orders.Play n budget) PlaysGame
 
--- A run of `defend` writes the game of the text with the lines behind it, in which the loser is not mated, or that the
--- winner mates, or the first step that exceeds the budget.
+-- A run of `defend` writes the game with the lines after the text, in which the loser is not mated; or that the winner
+-- mates; or the first step that exceeds the budget.
 abbrev pub DefendWrites : Type 0
 DefendWrites = GameWrites (λ n budget. orders.Defend n budget) DefendsGame
 
@@ -442,8 +439,8 @@ Causes n budget problem is.WriteFault old new = WriteFailed old new
 Causes n budget problem is.Memory old new = TakesMemory (orders.Decide n budget) problem
 Causes n budget problem status old new = ⊥
 
--- A run of `decide` on the text of a sound position is done, or over budget, where a step exceeds it, or its source or
--- its sink failed and counted it, or memory was wanting, where it takes memory; and it does not end otherwise.
+-- A run of `decide` on the text of a sound position is done; or over budget, if a step exceeds it; or its source or its
+-- sink failed and counted it; or memory ran out, if it allocates. It does not end otherwise.
 abbrev pub DecideEnds : Type 0
 DecideEnds =
     (words : List (List ℕ)) (n budget : ℕ) (p : Position) (winner : Side) (status : Status) (old new : Seen)

@@ -1,4 +1,4 @@
--- What a run reports.
+-- The report of a run.
 use Rattle.std.specs.Prelude.{◌≡◌, ℕ, ◌<◌, List, false, Option, Result, Ok, Err}
 use Rattle.desk_base.specs.Files.{Files}
 use Rattle.desk_formula.specs.Arith.{ArithReports, IsBehindLine}
@@ -25,7 +25,7 @@ use Rattle.desk_args.specs.declared.order.UsageWhy.{UsageWhy}
 use Rattle.desk_text.specs.declared.problem.Problem.{Problem}
 use Rattle.desk_report.specs.declared.status.Status.TheVariants as is
 
--- What a run of each order comes to, a row each.
+-- The properties of the runs of each command, one row each.
 abbrev pub command_of : Order → Command
 command_of (orders.Decide n budget) =
     of_text (λ problem rest. DecideReports n budget problem) (λ problem. ¬ HasNothingToPlay n problem)
@@ -49,7 +49,7 @@ command_of orders.Show = of_text (λ problem rest. ShowReports problem) (λ prob
 command_of (orders.Drill seed count) = of_words (DrillReports seed count) (0 < count) (IsDrilled seed count)
 command_of (orders.Arith budget) = of_lines (λ lines. ArithReports budget lines) IsBehindLine
 
--- what is reported of an order: the words that it is, the bytes of the input, and the files
+-- the report of a command, given its arguments, the bytes of the input, and the files
 abbrev pub ReportsOrder : Order → (words : List (List ℕ)) → List ℕ → Files → Report → Type 0
 ReportsOrder order = (command_of order).reports
 
@@ -57,41 +57,41 @@ abbrev pub ReportsWords : Result Order UsageWhy → (words : List (List ℕ)) �
 ReportsWords (Err why) words bytes files report = report ≡ refusal_as files is.Usage (usage_line why) false
 ReportsWords (Ok order) words bytes files report = ReportsOrder order words bytes files report
 
--- What is reported of words, the bytes of an input, and files.
+-- The report of arguments, the bytes of an input, and files.
 abbrev pub Reports : List (List ℕ) → List ℕ → Files → Report → Type 0
 Reports words bytes files report =
     (answer : Result Order UsageWhy) × Ordered words answer × ReportsWords answer words bytes files report
 
--- what the order asks for takes memory, of the problem of a text or of one that follows from a seed
+-- the command allocates for the problem of a text, or for one that follows from a seed
 abbrev pub TakesMemory : Order → Problem → Type 0
 TakesMemory order = (command_of order).takes
 
--- where memory may be wanting, by the order and the bytes that were taken
+-- when memory may run out, given the command and the bytes taken
 abbrev pub OrderMayLack : Order → List ℕ → Type 0
 OrderMayLack order = (command_of order).may_lack
 
--- the words are an order, and memory may be wanting after these bytes were taken
+-- the arguments are a command, and memory may run out after these bytes were taken
 abbrev pub MayLackMemory : List (List ℕ) → (taken : List ℕ) → Type 0
 MayLackMemory words taken = (order : Order) × Ordered words (Ok order) × OrderMayLack order taken
 
--- where the shelf may fail while the file of this name, or none, is being kept, by the order, its words, the bytes that
--- were taken, and the files
+-- when the shelf may fail while the file of this name, or none, is being stored, given the command, its arguments, the
+-- bytes taken, and the files
 abbrev pub OrderMayMiss : Order → (words : List (List ℕ)) → (taken : List ℕ) → Files → (keeping : Option (List ℕ)) → Type 0
 OrderMayMiss order = (command_of order).may_miss
 
--- the words are an order, and the shelf, which has these files, may fail so after these bytes were taken
+-- the arguments are a command, and the shelf with these files may fail in this way after these bytes were taken
 abbrev pub MayMissShelf : List (List ℕ) → (taken : List ℕ) → Files → (keeping : Option (List ℕ)) → Type 0
 MayMissShelf words taken files keeping =
     (order : Order) × Ordered words (Ok order) × OrderMayMiss order words taken files keeping
 
--- the order is of a position text
+-- the command reads a position text
 abbrev pub IsOfText : Order → Type 0
 IsOfText order = (command_of order).text
 
--- the order uses no file
+-- the command uses no file
 abbrev pub UsesNoShelf : Order → Type 0
 UsesNoShelf order = (command_of order).no_shelf
 
--- the order reads nothing: it is of no text, and of no lines
+-- the command reads neither a text nor lines
 abbrev pub ReadsNoText : Order → Type 0
 ReadsNoText order = (command_of order).no_text

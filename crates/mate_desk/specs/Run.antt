@@ -18,8 +18,8 @@ use Rattle.mate_desk.specs.Report.{Reports, MayLackMemory, MayMissShelf}
 use Rattle.desk_report.specs.declared.status.Status.{Status}
 use Rattle.desk_report.specs.declared.status.Status.TheVariants as is
 
--- What a run was given: the bytes that it took of its source, those behind them, and the files. They are what the ports
--- tell, where they tell.
+-- The input of a run: the bytes that it took of its source, those after them, and the files. They are what the ports
+-- expose, if they expose it.
 pub record Given (old new : Seen) : Type 0 where
   pub taken : List ℕ
   pub rest : List ℕ
@@ -28,17 +28,18 @@ pub record Given (old new : Seen) : Type 0 where
   pub left : IfSome new.left (λ told. told ≡ rest)
   pub kept : IfSome old.files (λ told. told ≡ files)
 
--- a line is due behind these: the report on them ends because they end
+-- a line is due after these lines: their report ends because they end
 abbrev pub IsLineDue : List (List ℕ) → Files → (before : List (List ℕ)) → Type 0
 IsLineDue words files before =
     (report : Report) × Reports words (text_of_lines before) files report × IsTrue report.short
 
--- what a run with this status takes: nothing where the words are no order, and else the lines that it reads
+-- the bytes that a run with this status takes: none if the arguments are not a command, and otherwise the lines that it
+-- reads
 abbrev pub Takes : List (List ℕ) → Files → Status → List ℕ → Type 0
 Takes words files is.Usage taken = taken ≡ []
 Takes words files status taken = (pending : List ℕ) × TakesLines (IsLineDue words files) taken pending
 
--- How a run of these words with this status ends.
+-- How a run of these arguments with this status ends.
 pub record RunEnds (words : List (List ℕ)) (status : Status) (old new : Seen) : Type 0 where
   pub given : Given old new
   pub takes : Takes words given.files status given.taken
@@ -46,22 +47,22 @@ pub record RunEnds (words : List (List ℕ)) (status : Status) (old new : Seen) 
       RunEndsAs status (λ report. Reports words (reported_on status given.taken given.rest) given.files report)
       (MayLackMemory words given.taken) (MayMissShelf words given.taken given.files) old new
 
--- How it ends on a source, a sink and a shelf that it is lent.
+-- How it ends with a source, a sink and a shelf.
 abbrev pub RunEndsOn : {S K H : Type 0} → SourceModel S → SinkModel K → ShelfModel H → (words : List (List ℕ)) → Status
     → (ports : Lent S × Lent K × Lent H) → Type 0
 RunEndsOn s k h words status ports =
     RunEnds words status (ports_seen s k h (all_old ports)) (ports_seen s k h (all_new ports))
 
--- how a run ends of any words that are this order of a text
+-- how a run ends of any arguments that are this command on a text
 abbrev pub OrderEndsOn : {S K H : Type 0} → SourceModel S → SinkModel K → ShelfModel H → TextOrder → Status
     → (ports : Lent S × Lent K × Lent H) → Type 0
 OrderEndsOn s k h order status ports =
     (words : List (List ℕ)) → IsOrderOf order words → RunEndsOn s k h words status ports
 
--- where the words are an order of which this holds, so does that
+-- if the arguments are a command with the first property, the second statement is true
 abbrev pub WhereOrder : (words : List (List ℕ)) → (this : Order → Type 0) → (that : Type 0) → Type 0
 WhereOrder words this that = (order : Order) → Ordered words (Ok order) → this order → that
 
--- where the words are no order, or one of which this holds, so does that
+-- if the arguments are not a command, or one with the first property, the second statement is true
 abbrev pub WhereNoOrderOr : (words : List (List ℕ)) → (this : Order → Type 0) → (that : Type 0) → Type 0
 WhereNoOrderOr words this that = (answer : Result Order UsageWhy) → Ordered words answer → IfOk answer this → that

@@ -1,4 +1,4 @@
--- What is reported of `show`.
+-- The report of `show`.
 use Rattle.std.specs.Prelude.{◌≡◌, ◌⊎◌, ℕ, List, ◌++◌, codes, count_by, is_some}
 use Rattle.std.specs.Fmt.{decimal}
 use Rattle.desk_base.specs.Files.{Files}
@@ -13,14 +13,14 @@ IsCheckLine p line =
     ((line ≡ codes "check yes\n") × InCheck p p.turn)
     ⊎ ((line ≡ codes "check no\n") × (InCheck p p.turn → ⊥))
 
--- how many men are not captured
+-- the number of men that are not captured
 abbrev pub live_count : Position → ℕ
 live_count p = count_by (λ m. is_some (square_of m)) p.men
 
 abbrev pub live_line : Position → List ℕ
 live_line p = codes "live " ++ decimal (live_count p) ++ codes "\n"
 
--- the text of a problem, whether the side to move is in check, and how many men are live
+-- the text of a problem, whether the side to move is in check, and the number of live men
 abbrev pub IsShown : Problem → List ℕ → Type 0
 IsShown problem text =
     (check : List ℕ) × IsCheckLine problem.position check

@@ -1,4 +1,4 @@
-//! The top call.
+//! The top-level function.
 
 ghost use Rattle.std.specs.Prelude.{◌≡◌};
 ghost use Rattle.desk_args.specs.Order.{IsWithinLimits, as_order, texts};
@@ -26,11 +26,14 @@ use desk_solve::least::least;
 use desk_text::{FileTask, TextEnd, read_problem};
 use std::alloc::Global;
 
-/// Does what the words say, with the position text at the front of the source and the replies behind it, with a crowd's text, with a file that was
-/// kept, or with a formula typed as a line, and writes the answer to the sink.
+/// Executes the command that the arguments name, and writes the answer to the sink.
 ///
-/// The words come first, then, where the order is of a text, the text line by line, then whether its position is sound, then the sets, the files and
-/// the answer; the first refusal ends the run with its one fault line. Where writing that line fails, the status stays the refusal's.
+/// The source has a position text with replies after it, a crowd text, or a formula as a line; or the command reads a
+/// strategy file from the shelf.
+///
+/// Errors are checked in this order: the arguments; the text, line by line; whether its position is sound; the sets,
+/// the files and the answer. The first refusal ends the run with its one fault line. If that line cannot be written,
+/// the status is still that of the refusal.
 pub fn run<S: Source, K: Sink, H: Shelf>(
     alloc: Global,
     words: &Vec<String>,
@@ -38,13 +41,13 @@ pub fn run<S: Source, K: Sink, H: Shelf>(
     sink: &mut K,
     shelf: &mut H,
 ) -> Status
-    // The bare name of a port stands for what it is before and after.
+    // The bare name of a port stands for its state before and after.
     ensures ends { RunEndsOn S.Source K.Sink H.Shelf (texts words.now.items) result (source, sink, shelf) }
-    // Where the words are no order, nothing is read.
+    // If the arguments are not a command, nothing is read.
     ensures nothing_read { result ≡ Status.Usage → source.new ≡ source.old }
-    // Nor where they are an order of no text and of no lines.
+    // Nothing is read by a command that reads neither a text nor lines.
     ensures no_text_read { WhereOrder (texts words.now.items) ReadsNoText (source.new ≡ source.old) }
-    // Where they are none, or one that uses no file, the shelf is not called.
+    // The shelf is not called if the arguments are not a command, or name one that uses no file.
     ensures shelf_untouched { WhereNoOrderOr (texts words.now.items) UsesNoShelf (shelf.new ≡ shelf.old) }
 {
     let order = match order_of(words) {

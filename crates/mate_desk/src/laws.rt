@@ -1,135 +1,147 @@
-//! Laws of a run, each the contract of a function that does nothing. They are of the relation that the contract of `run` names.
+//! Laws of a run. Each is the contract of a function that does nothing. They are about the relation in the contract of
+//! `run`.
 
 ghost use Rattle.desk_text.specs.TextLaws.{TextIsRead};
 ghost use Rattle.mate_desk.specs.Faultless.{ExactWhereNoneFails};
 ghost use Rattle.mate_desk.specs.Laws.{AnswersExactly, CheckedAfterKeep, CrowdAgrees, CrowdDecides, CrowdWrites, DecideEnds, DecidesExactly, DecideWrites, Defends, DefendWrites, FaultsAreCounted, LeastWrites, MemoryLast, MigrateCarries, NoShelfFault, OneReport, PlayKeeps, PlayWrites, ResumeKeeps, UsageExactly};
 
-/// A run of `decide` that is done, on the text of a sound position and whatever comes behind it, writes `mate in n` exactly where the side
-/// that the text names as winner mates within n moves of its own, whatever is replied on the whole board, and `no mate in n` exactly where it does not.
+/// States what `decide` writes. A run that is done, on the text of a sound position and whatever follows it, writes
+/// `mate in n` if and only if the winner that the text names mates within n moves of his own, whatever the replies on
+/// the whole board, and `no mate in n` if and only if he does not.
 pub fn decide_writes()
     ensures { DecideWrites }
 {}
 
-/// A run of `least` that is done, on the text of a sound position and whatever comes behind it, writes the least number of moves up to its
-/// limit within which the side that the text names as winner mates, or that there is none.
+/// States what `least` writes. A run that is done, on the text of a sound position and whatever follows it, writes the
+/// least number of moves, up to its limit, within which the winner that the text names mates, or that there is none.
 pub fn least_writes()
     ensures { LeastWrites }
 {}
 
-/// The text of a position and a winner, whatever comes behind it, is read as that position and that winner.
+/// States that the text of a position and its winner, whatever follows it, is read as that position and winner.
 pub fn text_is_read()
     ensures { TextIsRead }
 {}
 
-/// A run has the status of words that are no order exactly where they are none.
+/// States that a run has the status of a usage error if and only if the arguments are not a command.
 pub fn usage_exactly()
     ensures { UsageExactly }
 {}
 
-/// Want of memory comes only where the bytes that were taken and the words say that it may; and where the source told the text of a position, that
-/// position is sound, and what is ordered of it takes memory.
+/// States that memory runs out only if the arguments and the bytes taken say that it may; and that, if the source
+/// exposed the text of a position, that position is sound and the command allocates for it.
 pub fn memory_last()
     ensures { MemoryLast }
 {}
 
-/// A run of an order that uses no file never has the status of a fault of the shelf.
+/// States that a run of a command that uses no file never has the status of a fault of the shelf.
 pub fn no_shelf_fault()
     ensures { NoShelfFault }
 {}
 
-/// A run has the status of a fault only where the count of faults of its source, of its sink or of its shelf has risen.
+/// States that a run has the status of a fault only if the count of faults of its source, its sink or its shelf has
+/// risen.
 pub fn faults_are_counted()
     ensures { FaultsAreCounted }
 {}
 
-/// Two reports of one input are equal.
+/// States that two reports of one input are equal.
 pub fn reports_once()
     ensures { OneReport }
 {}
 
-/// Of the text of a sound position `decide` reports `mate in n` exactly where its winner mates within n moves of his own, whatever is replied
-/// on the whole board, and `no mate in n` exactly where he does not; or it names the first step that exceeds the budget.
+/// States what `decide` reports for the text of a sound position: `mate in n` if and only if its winner mates within n
+/// moves of his own, whatever the replies on the whole board, and `no mate in n` if and only if he does not; or the
+/// first step that exceeds the budget.
 pub fn decides_exactly()
     ensures { DecidesExactly }
 {}
 
-/// Of the text of a sound crowd `crowd` reports `mate in n` exactly where its winner mates within n moves of his own, whatever is replied on the whole
-/// board, and `no mate in n` exactly where he does not; or it names the first step that exceeds the budget.
+/// States what `crowd` reports for the text of a sound crowd: `mate in n` if and only if its winner mates within n
+/// moves of his own, whatever the replies on the whole board, and `no mate in n` if and only if he does not; or the
+/// first step that exceeds the budget.
 pub fn crowd_decides()
     ensures { CrowdDecides }
 {}
 
-/// A run of `crowd` that is done, on the text of a crowd and whatever comes behind it, writes `mate in n` exactly where the side that the text names as
-/// winner mates within n moves of its own, whatever is replied on the whole board, and `no mate in n` exactly where it does not.
+/// States what `crowd` writes. A run that is done, on the text of a crowd and whatever follows it, writes `mate in n`
+/// if and only if the winner that the text names mates within n moves of his own, whatever the replies on the whole
+/// board, and `no mate in n` if and only if he does not.
 pub fn crowd_writes()
     ensures { CrowdWrites }
 {}
 
-/// Of the texts of one position and one winner, the one a position text and the other a crowd's, `decide` and `crowd` report the same line for the same
-/// number of moves, where both are done.
+/// States that `decide` and `crowd` report the same line for the same number of moves if both are done, one on the
+/// position text and the other on the crowd text of the same position and winner.
 pub fn crowd_agrees()
     ensures { CrowdAgrees }
 {}
 
-/// Of the text of a sound position whose winner mates within n moves of his own, `play` reports a game with the lines behind the text, and each
-/// of the winner's moves in it is legal and keeps the count: he makes at most n, and after his k-th, whatever was replied, the loser is mated within
-/// n - k; or it names the first step that exceeds the budget.
+/// States what `play` reports for the text of a sound position whose winner mates within n moves of his own: a game
+/// with the lines after the text, or the first step that exceeds the budget. In the game each move of the winner is
+/// legal; he makes at most n moves, and after his k-th move, whatever the replies, the loser is mated within n - k.
 pub fn play_keeps()
     ensures { PlayKeeps }
 {}
 
-/// Of the text of a sound position whose winner does not mate within n moves of his own, `defend` reports a game with the lines behind the text, in which
-/// each move of the loser is legal; whatever is typed, after each of them and in the end the winner has made at most n moves and does not mate within
-/// those that he has left, and the loser is not mated. Else it reports that he mates, or names the first step that exceeds the budget.
+/// States what `defend` reports for the text of a sound position whose winner does not mate within n moves of his own:
+/// a game with the lines after the text. In it each move of the loser is legal. Whatever is typed, after each of his
+/// moves and at the end the winner has made at most n moves and does not mate within the moves left, and the loser is
+/// not mated. Otherwise it reports that the winner mates, or the first step that exceeds the budget.
 pub fn defends()
     ensures { Defends }
 {}
 
-/// Of a file whose claim keeps all rules, whoever made it, `resume` reports a game with the lines, and each of the winner's moves in it is legal and
-/// keeps the count: after his k-th move, whatever was replied, the loser is mated within n - k.
+/// States what `resume` reports for a file whose claim keeps all rules, no matter who made it: a game with the lines.
+/// In it each move of the winner is legal, and after his k-th move, whatever the replies, the loser is mated within n -
+/// k.
 pub fn resume_keeps()
     ensures { ResumeKeeps }
 {}
 
-/// After a run of `keep` that wrote `mate in n`, `check` of that name reports `mate in n`, or names the first step that exceeds its budget, as long as
-/// the file of the name is that one, whatever the other files are.
+/// States that after a run of `keep` that wrote `mate in n`, `check` of that name reports `mate in n`, or names the
+/// first step that exceeds its budget. This is true as long as the file of the name is the same, whatever the other
+/// files are.
 pub fn checked_after_keep()
     ensures { CheckedAfterKeep }
 {}
 
-/// After a run of `migrate` that is done, the file of the new name is read as a claim of the sets that the file of the old name was read as, so that
-/// both are checked alike; and each file of another name than the new one is as it was.
+/// States that after a run of `migrate` that is done, the file of the new name is read as a claim of the same sets as
+/// the file of the old name was, so that both are checked alike. Each file whose name is not the new one is unchanged.
 pub fn migrate_carries()
     ensures { MigrateCarries }
 {}
 
-/// Of a line that is a formula `arith` reports that it holds exactly where it does over all integers, and `false` exactly where it does not; a number
-/// that it reports is the one nearest to 0 of those with which what the formula says there is one of holds; or it names the first step that exceeds
-/// the budget.
+/// States what `arith` reports for a line that is a formula: that it is true if and only if it is true over all
+/// integers, and `false` if and only if it is not; or the first step that exceeds the budget. A number in the report is
+/// the one nearest to 0 of those with which the formula is true.
 pub fn answers_exactly()
     ensures { AnswersExactly }
 {}
 
-/// A run of `play` on the text of a sound position that has memory writes what is reported of the game with the lines behind the text: the whole of it,
-/// unless the sink has failed. Where its source failed, they are the lines that it took, and behind the game stands that the source has failed.
+/// States what `play` writes. A run on the text of a sound position that does not run out of memory writes the report
+/// of the game with the lines after the text: the whole of it, unless the sink failed. If its source failed, these are
+/// the lines taken, and the game is followed by the line for that fault.
 pub fn play_writes()
     ensures { PlayWrites }
 {}
 
-/// A run of `defend` on the text of a sound position that has memory writes what is reported of the game with the lines behind the text: the whole of it,
-/// unless the sink has failed. Where its source failed, they are the lines that it took, and behind the game stands that the source has failed.
+/// States what `defend` writes. A run on the text of a sound position that does not run out of memory writes the report
+/// of the game with the lines after the text: the whole of it, unless the sink failed. If its source failed, these are
+/// the lines taken, and the game is followed by the line for that fault.
 pub fn defend_writes()
     ensures { DefendWrites }
 {}
 
-/// A run of `decide` on the text of a sound position is done, or a step exceeds the budget, or a fault was counted, or memory was wanting, and it
-/// does not end otherwise.
+/// States how a run of `decide` on the text of a sound position ends: it is done, or a step exceeds the budget, or a
+/// fault was counted, or memory ran out.
 pub fn decide_ends()
     ensures { DecideEnds }
 {}
 
-/// A run over ports that tell all, and of which none has failed, has no status of a fault, and nothing of it is cut: it did what is reported of the whole
-/// input, or memory was wanting for what is ordered. No port has failed that counts 0 whatever happens, as a slice and files in memory do.
+/// States that a run over ports that expose everything and do not fail has no status of a fault, and that nothing of it
+/// is cut: it did what is reported of the whole input, or memory ran out for its command. A port that always counts 0
+/// faults, like a slice or files in memory, does not fail.
 pub fn exact_where_none_fails()
     ensures { ExactWhereNoneFails }
 {}

@@ -1,7 +1,8 @@
-//! The top call: does what the words of a command line say, with the text of a position or with a file that was kept, and writes the answer.
+//! The top-level function `run`: executes one command on an input, an output and a file store.
 //!
-//! The words, the text, the soundness of its position, the sets, the store of files and the output come in this order, and the first refusal ends
-//! the run. What a run does is the relation `Reports` under `specs`, and the contract of `run` says how a run may differ from it where an object fails.
+//! The arguments, the text, the soundness of its position, the sets, the file store and the output are handled in this
+//! order. The first refusal ends the run. The relation `Reports` under `specs` defines what a run does. The contract of
+//! `run` says how a run may differ from it if a port fails or memory runs out.
 #![tactic(auto)]
 
 mod desk;

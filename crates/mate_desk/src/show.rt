@@ -1,4 +1,4 @@
-//! A problem, whether the side to move is in check, and how many men are live.
+//! A problem, whether the side to move is in check, and the number of live men.
 
 ghost use Rattle.std.specs.Prelude.{IfOk, ◌≡◌, is_some};
 ghost use Rattle.game_rules.specs.Game.{Sound, square_of};
@@ -14,7 +14,7 @@ use desk_report::{Status, print, refuse};
 use desk_text::Problem;
 use std::alloc::{AllocError, Global};
 
-/// Writes the text of the problem, whether the side to move is in check, and how many men are live.
+/// Writes the text of the problem, whether the side to move is in check, and the number of live men.
 pub fn show<K: Sink>(alloc: Global, problem: &Problem, sink: &mut K) -> Status
     requires { Sound problem.now.position }
     ensures ends { EndsOnSink K.Sink result (ShowReports problem.now) (Unit {0}) sink.old sink.new }
