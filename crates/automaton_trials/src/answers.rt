@@ -1,4 +1,4 @@
-//! Rows that ask automata.
+//! Rows that query automata.
 
 ghost use Rattle.std.specs.Prelude.{◌≡◌, IsTrue};
 ghost use Rattle.auto_core.specs.Reduced.{IsReduced};
@@ -14,7 +14,7 @@ use auto_core::Auto;
 use auto_reduce::{is_empty, same_set, sign_stable};
 use trial_rows::{Named, Row, RowError};
 
-/// `KIND A`: writes what the automaton is told to be.
+/// Runs `KIND A`: writes a property of the automaton.
 pub fn write_told(named: &Named<ReducedAuto>, kind: &str, row: &mut Row) -> Result<(), RowError> {
     let set = automaton(named, MOST_DEPTH, row)?;
     write_of(row, set.auto(), kind)
@@ -35,7 +35,7 @@ fn write_of(row: &mut Row, a: &Auto, kind: &str) -> Result<(), RowError>
     Ok(())
 }
 
-/// `KIND WORD A`: writes what is asked of the automaton.
+/// Runs `KIND WORD A`: writes the result of a query on the automaton.
 pub fn write_asked(named: &Named<ReducedAuto>, kind: &str, row: &mut Row) -> Result<(), RowError> {
     let word = row.word()?;
     let set = automaton(named, MOST_DEPTH, row)?;
@@ -64,7 +64,7 @@ fn write_are_same(row: &mut Row, a: &Auto, b: &Auto) -> Result<(), RowError> {
     Ok(())
 }
 
-/// `same A A`: whether two automata over the same variables accept the same words.
+/// Runs `same A A`: whether two automata over the same variables accept the same words.
 pub fn write_same(named: &Named<ReducedAuto>, row: &mut Row) -> Result<(), RowError> {
     let one = automaton(named, MOST_DEPTH, row)?;
     let other = automaton(named, MOST_DEPTH, row)?;

@@ -47,7 +47,8 @@ fn write_formula(memo: &mut Memo, text: &str, row: &mut Row) -> Result<(), RowEr
     write_compiled(row, memo.compile(row.alloc, &f, &sets))
 }
 
-/// `memo BUDGET FORMULA/FORMULA ..`: whether the formulas hold, which one memo compiles, and what it keeps then.
+/// Runs `memo BUDGET FORMULA/FORMULA ..`: whether the formulas are true, compiled with one cache, and what the cache
+/// contains afterwards.
 pub fn write_memo(row: &mut Row) -> Result<(), RowError> {
     let mut memo = Memo::new(row.alloc, row.budget()?);
     for (place, text) in row.rest().split('/').enumerate() {

@@ -1,4 +1,4 @@
-//! Variables, by their letters.
+//! Variables, named by letters.
 
 use track_word::Var;
 use trial_rows::{Row, RowError};
@@ -11,12 +11,12 @@ fn var_of(field: &str) -> Result<Var, RowError> {
     }
 }
 
-/// The variable of the next field.
+/// Parses a variable from the next field.
 pub fn var(row: &mut Row) -> Result<Var, RowError> {
     row.word().and_then(var_of)
 }
 
-/// The variables of the next field, parted by commas. The field `-` has none.
+/// Parses variables, separated by commas, from the next field. The field `-` has none.
 pub fn vars(row: &mut Row) -> Result<Vec<Var>, RowError> {
     let field = row.word()?;
     let mut vars = Vec::new(row.alloc);
@@ -29,7 +29,7 @@ pub fn vars(row: &mut Row) -> Result<Vec<Var>, RowError> {
     Ok(vars)
 }
 
-/// Writes the letters of variables, parted by commas, or `-` where there are none.
+/// Writes the letters of variables separated by commas, or `-` if there are none.
 pub fn write_vars(row: &mut Row, vars: &[Var]) {
     if vars.is_empty() {
         row.write("-");

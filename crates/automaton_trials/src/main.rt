@@ -1,5 +1,7 @@
-//! The program `automaton_trials`: reads a script of rows from the standard input, makes the automata or formulas that each row spells, and
-//! writes what the calls of the libraries answer of them. `docs/CALLS.md` says how rows are written.
+//! The test program `automaton_trials`: performs a script of rows from the standard input and writes the result of each
+//! row.
+//!
+//! A row spells automata or formulas and calls the libraries on them. `docs/CALLS.md` describes the rows.
 #![tactic(auto)]
 
 mod answers;

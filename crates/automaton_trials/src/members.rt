@@ -1,4 +1,4 @@
-//! Which words an automaton accepts, and which tuples of integers are in its set.
+//! The words that an automaton accepts, and the tuples of integers in its set.
 
 ghost use Rattle.std.specs.Prelude.{◌≤◌, IsTrue};
 ghost use Rattle.track_word.specs.Word.{IsWord};
@@ -42,7 +42,7 @@ fn has_member(alloc: Global, a: &Auto, text: &str) -> Result<bool, RowError>
     Ok(a.member(values.as_slice()))
 }
 
-/// `accepts WORDS A`: which words are accepted. Words are parted by `/`, and the letters of a word by commas.
+/// Runs `accepts WORDS A`: which words are accepted. Words are separated by `/`, and the letters of a word by commas.
 pub fn write_words(row: &mut Row, a: &Auto, words: &str) -> Result<(), RowError> {
     for (place, word) in words.split('/').enumerate() {
         row.separate(place, ' ');
@@ -51,7 +51,8 @@ pub fn write_words(row: &mut Row, a: &Auto, words: &str) -> Result<(), RowError>
     Ok(())
 }
 
-/// `member TUPLES A`: which tuples of integers are in the set. Tuples are parted by `/`, and the integers of a tuple by commas.
+/// Runs `member TUPLES A`: which tuples of integers are in the set. Tuples are separated by `/`, and the integers of a
+/// tuple by commas.
 pub fn write_tuples(row: &mut Row, a: &Auto, tuples: &str) -> Result<(), RowError> {
     check_stable(row.alloc, a)?;
     for (place, tuple) in tuples.split('/').enumerate() {

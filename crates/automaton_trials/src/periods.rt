@@ -1,4 +1,4 @@
-//! Sets of numbers, as they are described.
+//! Descriptions of sets of numbers.
 
 ghost use Rattle.std.specs.Prelude.{◌≡◌, [], ◌∷◌};
 ghost use Rattle.auto_core.specs.Integers.{DecidesIntegers};
@@ -44,7 +44,7 @@ fn describe(row: &mut Row, a: &Auto, budget: Budget) -> Result<(), RowError>
     Ok(())
 }
 
-/// `periods BUDGET A`: from where on the set of an automaton of one track repeats, and what is in it.
+/// Runs `periods BUDGET A`: from where on the set of an automaton of one track is periodic, and its elements.
 pub fn write_periods(row: &mut Row, a: &Auto, budget: &str) -> Result<(), RowError>
     requires { IsReduced a.now }
 {

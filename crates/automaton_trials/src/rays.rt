@@ -147,7 +147,7 @@ fn reserved(alloc: Global, states: &str, a: &Auto) -> Result<Search, RowError>
     Ok(Search::reserve(alloc, states)?)
 }
 
-/// `rays STATES A QUESTION ..`: the answers of one search, which has room for so many states.
+/// Runs `rays STATES A QUESTION ..`: the results of one search, which has room for `STATES` states.
 pub fn write_rays(row: &mut Row, a: &Auto, states: &str) -> Result<(), RowError> {
     let mut search = reserved(row.alloc, states, a)?;
     ask_all(&mut search, a, row)

@@ -1,4 +1,4 @@
-//! Automata with no state too many.
+//! Minimal automata.
 
 ghost use Rattle.std.specs.Prelude.{◌≡◌, ◌≤◌, IfOk, IsTrue, length};
 ghost use Rattle.track_word.specs.Atom.{IsAtom};
@@ -17,7 +17,7 @@ use std::marker::Model;
 use track_word::{Rel, Var};
 use trial_rows::RowError;
 
-/// An automaton with no state too many.
+/// A minimal automaton.
 pub struct ReducedAuto {
     auto: Auto,
 }
@@ -40,6 +40,7 @@ impl Model for ReducedAuto {
 }
 
 impl ReducedAuto {
+    /// Returns the automaton.
     pub fn auto(&self) -> &Auto
         ensures is { result.now ≡ self.now }
         ensures reduced { IsReduced result.now }
@@ -47,6 +48,7 @@ impl ReducedAuto {
         &self.auto
     }
 
+    /// Returns a copy.
     pub fn copy(&self) -> Result<ReducedAuto, RowError> {
         match self.auto.copy() {
             Ok(auto) => Ok(ReducedAuto { auto }),
@@ -63,7 +65,7 @@ fn reduced(alloc: Global, a: &Auto) -> Result<ReducedAuto, RowError> {
     }
 }
 
-/// What an automaton is, reduced, where memory sufficed.
+/// Reduces an automaton, if memory sufficed for it.
 pub fn made(alloc: Global, answer: Result<Auto, AllocError>) -> Result<ReducedAuto, RowError> {
     match answer {
         Ok(auto) => reduced(alloc, &auto),
@@ -71,7 +73,7 @@ pub fn made(alloc: Global, answer: Result<Auto, AllocError>) -> Result<ReducedAu
     }
 }
 
-/// What a larger automaton is, reduced, where the budget and memory sufficed.
+/// Reduces an automaton, if the budget and memory sufficed for it.
 pub fn grown(alloc: Global, answer: Result<Auto, Grown>) -> Result<ReducedAuto, RowError> {
     match answer {
         Ok(auto) => reduced(alloc, &auto),
@@ -80,7 +82,8 @@ pub fn grown(alloc: Global, answer: Result<Auto, Grown>) -> Result<ReducedAuto, 
     }
 }
 
-/// Refuses an automaton to which a repeated first letter may matter, so that it decides no set of tuples of integers.
+/// Returns an error if repeating the first letter may change acceptance: then the automaton does not decide a set of
+/// tuples of integers.
 pub fn check_stable(alloc: Global, a: &Auto) -> Result<(), RowError>
     ensures { IfOk result (λ _. DecidesIntegers a.now) }
 {
@@ -91,7 +94,7 @@ pub fn check_stable(alloc: Global, a: &Auto) -> Result<(), RowError>
     }
 }
 
-/// Refuses a comparison whose parts are not such as may be.
+/// Returns an error if the parts of a comparison are not allowed.
 pub fn check_atom(alloc: Global, terms: &[(i8, Var)], rel: Rel, bound: i32) -> Result<(), RowError>
     ensures { IfOk result (λ _. IsAtom terms.now bound) }
 {
@@ -122,7 +125,7 @@ fn are_few_together(a: &Auto, b: &Auto) -> bool
     true
 }
 
-/// The words that both accept, or one of them at least, or the first alone.
+/// Returns the automaton of the intersection, the union or the difference.
 pub fn joined(
     alloc: Global,
     connective: Connective,
@@ -143,7 +146,7 @@ pub fn joined(
     grown(alloc, answer)
 }
 
-/// The other words.
+/// Returns the automaton of the complement.
 pub fn others(alloc: Global, a: &ReducedAuto) -> Result<ReducedAuto, RowError> {
     match not(alloc, a.auto()) {
         Ok(auto) => Ok(ReducedAuto { auto }),

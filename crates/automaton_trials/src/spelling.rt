@@ -11,7 +11,7 @@ use std::alloc::Global;
 use track_word::{Rel, Var};
 use trial_rows::{Named, Row, RowError};
 
-/// How deeply automata may be nested.
+/// The greatest depth of nested automata.
 pub const MOST_DEPTH: u8 = 60;
 
 /// The terms of a comparison, behind their number: coefficients and their variables.
@@ -93,7 +93,7 @@ fn plain_automaton(
     }
 }
 
-/// An automaton, nested so deeply at most, whose text may name earlier ones.
+/// Parses an automaton, whose depth is at most the given one, and whose text may name earlier automata.
 #[cycle(automaton)]
 pub fn automaton(
     named: &Named<ReducedAuto>,

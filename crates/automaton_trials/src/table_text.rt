@@ -1,4 +1,4 @@
-//! The table of an automaton, as it is written.
+//! The text of an automaton's table.
 
 ghost use Rattle.std.specs.Prelude.{◌≡◌, ◌<◌, ◌^◌, length};
 
@@ -44,7 +44,7 @@ fn write_flags(row: &mut Row, a: &Auto) {
     }
 }
 
-/// `table A`: the first row, the rows of the states, and their flags.
+/// Runs `table A`: the first row, the rows of the states, and their flags.
 pub fn write_table(row: &mut Row, a: &Auto) {
     let width = width_of(a.tracks().len()) as u32;
     row.write("first ");

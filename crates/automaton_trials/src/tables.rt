@@ -27,7 +27,7 @@ fn are_ascending(tracks: &[Var]) -> bool
     are_ascending(rest)
 }
 
-/// How many letters there are over so many tracks.
+/// Returns the number of letters over `tracks` tracks.
 pub fn width_of(tracks: usize) -> usize
     requires { tracks ≤ MOST_TRACKS }
     ensures { result ≡ 2 ^ tracks }
@@ -35,7 +35,7 @@ pub fn width_of(tracks: usize) -> usize
     1 << tracks
 }
 
-/// Whether each number is below a bound.
+/// Returns whether each number is below a bound.
 pub fn are_below(numbers: &[u32], bound: usize) -> bool
     ensures { IsTrue result → All (λ number. number < bound) numbers.now }
 {
@@ -67,7 +67,7 @@ fn are_tables(tables: &Tables) -> bool
         && are_below(tables.next.as_slice(), states)
 }
 
-/// The automaton of some tables, where they are such as may be.
+/// Returns the automaton of some tables, if they are valid.
 pub fn tabled(alloc: Global, tables: Tables) -> Result<ReducedAuto, RowError> {
     if !are_tables(&tables) {
         return Err(RowError::Condition);

@@ -1,4 +1,4 @@
-//! Steps that ask about nodes and numbers.
+//! Steps that query nodes and numbers.
 
 ghost use Rattle.std.specs.Prelude.{◌<◌, IsTrue, IfOk, length};
 ghost use Rattle.std.specs.List.Sorted.{IsStrictlyIncreasing};
@@ -8,7 +8,7 @@ use crate::writing::{write_node, write_numbers, write_values};
 use letter_diagram::{Diagrams, Node, NumberingError, Shape};
 use trial_rows::{Row, RowError};
 
-/// Writes what the step of this word answers.
+/// Performs a step that queries, and writes its result.
 pub fn ask(bench: &mut Bench, word: &str, row: &mut Row) -> Result<(), RowError> {
     match word {
         "empty" => empty(bench, row),

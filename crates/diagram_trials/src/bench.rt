@@ -1,4 +1,4 @@
-//! What the steps of a row have made.
+//! The values that the steps of a row have made.
 
 ghost use Rattle.std.specs.Prelude.{◌<◌, IfOk, length};
 
@@ -8,7 +8,7 @@ use limits::MOST_TRACKS;
 use std::alloc::Global;
 use trial_rows::{Row, RowError};
 
-/// The nodes that the steps of a row have made, in their order, and what is numbered.
+/// The nodes that the steps of a row have made, in order, and the numbered values.
 #[derive(Drop)]
 pub struct Bench {
     pub diagrams: Diagrams,
@@ -18,6 +18,7 @@ pub struct Bench {
 }
 
 impl Bench {
+    /// Creates a state without nodes.
     pub fn new(alloc: Global) -> Self {
         Bench {
             diagrams: Diagrams::new(alloc),
@@ -27,7 +28,7 @@ impl Bench {
         }
     }
 
-    /// The node of the number that the next field has, counted from 0.
+    /// Returns the node whose number, counted from 0, is the next field.
     pub fn node(&self, row: &mut Row) -> Result<Node, RowError>
         ensures { IfOk result (λ node. node < length self.now.diagrams) }
     {
@@ -39,7 +40,7 @@ impl Bench {
         }
     }
 
-    /// The nodes of the numbers that the next two fields have.
+    /// Returns the nodes whose numbers are the next two fields.
     pub fn two_nodes(&self, row: &mut Row) -> Result<(Node, Node), RowError>
         ensures { IfOk result (λ nodes. (nodes.0 < length self.now.diagrams) × (nodes.1 < length self.now.diagrams)) }
     {
@@ -47,7 +48,7 @@ impl Bench {
     }
 }
 
-/// The track of the next field.
+/// Parses a track from the next field.
 pub fn track(row: &mut Row) -> Result<u8, RowError>
     ensures { IfOk result (λ track. track < MOST_TRACKS) }
 {

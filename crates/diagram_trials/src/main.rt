@@ -1,5 +1,7 @@
-//! The program `diagram_trials`: reads a script of rows from the standard input, makes the diagrams that each row describes step by step,
-//! and writes what the steps answer that ask about them. `docs/CALLS.md` says how rows are written.
+//! The test program `diagram_trials`: performs a script of rows from the standard input and writes the result of each
+//! row.
+//!
+//! A row builds diagrams step by step; steps that query them have results. `docs/CALLS.md` describes the rows.
 #![tactic(auto)]
 
 mod asking;

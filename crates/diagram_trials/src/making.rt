@@ -13,7 +13,7 @@ use trial_rows::{Row, RowError};
 /// The most pairs or sets that a row may number.
 const MOST_NUMBERED: usize = 1000000;
 
-/// The node that the step of this word makes, if it is one that makes a node.
+/// Performs a step that makes a node and returns the node. Returns `None` for any other step.
 pub fn make(bench: &mut Bench, word: &str, row: &mut Row) -> Result<Option<Node>, RowError> {
     match word {
         "leaf" => leaf(bench, row),

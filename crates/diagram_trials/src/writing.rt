@@ -1,4 +1,4 @@
-//! What answers are written of.
+//! Writes results.
 
 ghost use Rattle.std.specs.Prelude.{◌<◌, length};
 
@@ -6,7 +6,7 @@ use crate::bench::Bench;
 use letter_diagram::{Diagrams, Node};
 use trial_rows::{Row, RowError};
 
-/// Writes numbers, parted by commas, or `-` where there are none.
+/// Writes numbers separated by commas, or `-` if there are none.
 pub fn write_numbers(row: &mut Row, numbers: &[u32]) {
     if numbers.is_empty() {
         row.write("-");
@@ -26,7 +26,7 @@ pub fn write_values(row: &mut Row, diagrams: &Diagrams, node: Node) -> Result<()
     Ok(())
 }
 
-/// Writes the number of a node, or `?` where no step has made it.
+/// Writes the number of a node, or `?` if no step has made it.
 pub fn write_node(row: &mut Row, bench: &Bench, node: Node) {
     for (place, known) in bench.nodes.as_slice().iter().enumerate() {
         if *known == node {

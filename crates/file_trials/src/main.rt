@@ -1,5 +1,6 @@
-//! The program `file_trials`: reads a script of rows from the standard input, reads and writes the strategy file that each row names, and
-//! writes what comes of it. `docs/FILES.md` says how rows are written.
+//! The test program `file_trials`: performs a script of rows from the standard input and writes the result of each row.
+//!
+//! A row reads or writes the strategy file that it names. `docs/FILES.md` describes the rows.
 #![tactic(auto)]
 
 mod outcome;

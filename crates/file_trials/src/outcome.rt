@@ -1,4 +1,4 @@
-//! What comes of a file, as words.
+//! The outcome of reading a file, in words.
 
 use chess_game::{Position, Side};
 use strategy_file::{ByteWhy, Claim, FileError, read_file};
@@ -67,7 +67,7 @@ fn write_error(row: &mut Row, error: FileError) -> Result<(), RowError> {
     Ok(())
 }
 
-/// Writes what comes of bytes that are read.
+/// Writes the outcome of reading bytes.
 pub fn write_read(row: &mut Row, bytes: &[u8]) -> Result<(), RowError> {
     match read_file(row.alloc, bytes) {
         Ok(claim) => {

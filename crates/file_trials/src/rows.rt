@@ -15,14 +15,14 @@ use strategy_writer::{WriteFileError, write_claim, write_file, write_file_1};
 use trial_rows::{Named, Row, RowError};
 use winning_sets::{SolveError, Solved, solve};
 
-/// `file NAME WORDS`: names a file.
+/// Runs `file NAME WORDS`: names a file.
 pub fn file_row(files: &mut Named<Vec<u8>>, row: &mut Row) -> Result<(), RowError> {
     let name = row.word()?;
     let bytes = spelled(row.alloc, row.rest())?;
     files.put(row.alloc, name, bytes)
 }
 
-/// `KIND NAME ..`: writes what a row of this kind asks the file of a name.
+/// Runs `KIND NAME ..`: writes the result of a row of this kind for the file of a name.
 pub fn of_file(files: &Named<Vec<u8>>, kind: &str, row: &mut Row) -> Result<(), RowError> {
     let bytes = files.next(row)?.as_slice();
     match kind {
@@ -226,8 +226,8 @@ fn push_noise(bytes: &mut Vec<u8>, states: u32, letters: u32, seed: u64) -> Resu
     Ok(())
 }
 
-/// `noise NAME STATES LETTERS SEED WORDS`: names the file of the words and behind them so many states, each a flag 0 and a row of entries that
-/// are drawn.
+/// Runs `noise NAME STATES LETTERS SEED WORDS`: names a file: the bytes of the words, followed by this number of
+/// states, each a flag 0 and a row of entries that are drawn.
 pub fn noise_row(files: &mut Named<Vec<u8>>, row: &mut Row) -> Result<(), RowError> {
     let name = row.word()?;
     let (states, letters, seed) = row.three_numbers::<u32, u32, u64>()?;

@@ -53,7 +53,7 @@ fn push_part(alloc: Global, out: &mut Vec<u8>, part: &str) -> Result<(), RowErro
     }
 }
 
-/// The bytes that words spell, one after another.
+/// Returns the bytes that the words spell, in order.
 pub fn spelled(alloc: Global, words: &str) -> Result<Vec<u8>, RowError> {
     let mut out = Vec::new(alloc);
     for part in words.split(' ') {

@@ -1,6 +1,7 @@
-//! The program `game_trials`: reads a script of rows from the standard input, makes the call of a library that each row names, and
-//! writes what it answers. The rows ask positions, moves and replies, ports in memory, solvers and games, by calls that no command of the
-//! program `mate` makes. `docs/CALLS.md` says how rows are written.
+//! The test program `game_trials`: performs a script of rows from the standard input and writes the result of each row.
+//!
+//! The rows call positions, moves, replies, in-memory ports, solvers and games, by calls that no command of the program
+//! `mate` makes. `docs/CALLS.md` describes the rows.
 #![tactic(auto)]
 
 mod ports;

@@ -1,4 +1,4 @@
-//! RowInterpreter that write to a sink in memory, and that keep and fetch files of a store in memory.
+//! Rows that write to a sink in memory, and that store and fetch files of a store in memory.
 
 ghost use Rattle.std.specs.Prelude.{◌<◌, IfOk};
 
@@ -26,7 +26,7 @@ fn put_pieces(sink: &mut MemSink, row: &mut Row) {
     }
 }
 
-/// `sink FAIL MOST ROOM PIECES`: what each call of `put` answers, and what is written.
+/// Runs `sink FAIL MOST ROOM PIECES`: the result of each call of `put`, and the bytes written.
 pub fn sink_row(row: &mut Row) -> Result<(), RowError> {
     let mut sink = sink_of(row)?;
     put_pieces(&mut sink, row);
@@ -35,7 +35,7 @@ pub fn sink_row(row: &mut Row) -> Result<(), RowError> {
     Ok(())
 }
 
-/// `put FAIL MOST ROOM TEXT`: whether all of a text is written, and what is.
+/// Runs `put FAIL MOST ROOM TEXT`: whether all of a text is written, and the bytes written.
 pub fn put_row(row: &mut Row) -> Result<(), RowError> {
     let mut sink = sink_of(row)?;
     let text = row.rest();
@@ -104,7 +104,8 @@ impl RowInterpreter for Store {
     }
 }
 
-/// `shelf FAIL STEP/STEP ..`: what the steps answer, over a store in memory that begins without files, parted by `/`.
+/// Runs `shelf FAIL STEP/STEP ..`: the results of the steps, separated by `/`, over a store in memory that begins
+/// without files.
 pub fn shelf_row(row: &mut Row) -> Result<(), RowError> {
     let fail = row.numbers::<u32>()?;
     let shelf = MemShelf::new(row.alloc, fail);

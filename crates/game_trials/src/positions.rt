@@ -1,5 +1,5 @@
-//! Rows that ask positions. A position is named first: `position NAME turn W/W K 0 -2/B K 0 0`, the lines of its text without the
-//! first and the last, parted by `/`.
+//! Rows that query positions. A position is named first: `position NAME turn W/W K 0 -2/B K 0 0`, the lines of its text
+//! without the first and the last, separated by `/`.
 
 ghost use Rattle.std.specs.Prelude.{◌≡◌};
 ghost use Rattle.game_rules.specs.Game.{Sound};
@@ -14,7 +14,7 @@ use chess_text::{MoveText, MoveWhy, PositionReader, Typed, read_move};
 use rule_formula::{Opt, masks, options};
 use trial_rows::{Named, Row, RowError, numbers};
 
-/// The side of the next field.
+/// Parses a side from the next field.
 pub fn side(row: &mut Row) -> Result<Side, RowError> {
     match row.word()? {
         "W" => Ok(Side::White),
@@ -23,6 +23,7 @@ pub fn side(row: &mut Row) -> Result<Side, RowError> {
     }
 }
 
+/// Returns the symbol of a side.
 pub fn side_letter(side: Side) -> char {
     match side {
         Side::White => 'W',
@@ -63,14 +64,14 @@ fn position_of(lines: &str) -> Result<Position, RowError> {
     }
 }
 
-/// `position NAME LINES`: names a position.
+/// Runs `position NAME LINES`: names a position.
 pub fn position_row(positions: &mut Named<Position>, row: &mut Row) -> Result<(), RowError> {
     let name = row.word()?;
     let position = position_of(row.rest())?;
     positions.put(row.alloc, name, position)
 }
 
-/// `KIND NAME ..`: writes what a row of this kind asks the position of a name.
+/// Runs `KIND NAME ..`: writes the result of a row of this kind for the position of a name.
 pub fn of_position(positions: &Named<Position>, kind: &str, row: &mut Row) -> Result<(), RowError> {
     let position = positions.next(row)?;
     match kind {
@@ -129,6 +130,7 @@ fn write_unsound(row: &mut Row, why: Unsound) {
     }
 }
 
+/// Returns the words for a refused move.
 pub fn illegal_words(why: Illegal) -> &'static str {
     match why {
         Illegal::NoSuchMan => "no such man",
@@ -140,7 +142,7 @@ pub fn illegal_words(why: Illegal) -> &'static str {
     }
 }
 
-/// The move of the next three fields: the man's number, and the square.
+/// Parses a move from the next three fields: the man's number, and the square.
 pub fn move_of(row: &mut Row) -> Result<Move, RowError> {
     let (man, x, y) = row.three_numbers()?;
     Ok(Move { man, x, y })
@@ -195,7 +197,7 @@ fn attacked_row(position: &Position, row: &mut Row) -> Result<(), RowError> {
     Ok(())
 }
 
-/// `ray KIND SIDE NUMBER`: the step of a ray, and whether it may be repeated.
+/// Runs `ray KIND SIDE NUMBER`: the step of a ray, and whether it may be repeated.
 pub fn ray_row(row: &mut Row) -> Result<(), RowError> {
     let kind = kind_of(row.word()?)?;
     let side = side(row)?;
@@ -209,7 +211,7 @@ pub fn ray_row(row: &mut Row) -> Result<(), RowError> {
     Ok(())
 }
 
-/// A frame: `whole`, or its least and greatest x and y.
+/// Parses a frame: `whole`, or its least and greatest x and y.
 pub fn frame(row: &mut Row) -> Result<Frame, RowError> {
     match row.word()? {
         "whole" => Ok(Frame::whole()),
@@ -256,7 +258,7 @@ fn way_row(position: &Position, row: &mut Row) -> Result<(), RowError> {
     Ok(())
 }
 
-/// `reply TEXT`: the move that a line spells, as it is spelled, or why it spells none.
+/// Runs `reply TEXT`: the move that a line spells, or why it spells none.
 pub fn reply_row(row: &mut Row) -> Result<(), RowError> {
     match read_move(row.rest().as_bytes()) {
         Ok(Typed::Move(mv)) => return write_move(row, mv),

@@ -1,4 +1,4 @@
-//! RowInterpreter that play games: the winner by a session, and the other side by moves that stand in the row.
+//! Rows that play games: the winner's moves come from a session, and the loser's from the row.
 
 ghost use Rattle.std.specs.Prelude.{◌≤◌, ◌≡◌};
 ghost use Rattle.game_rules.specs.Game.{Sound};
@@ -119,7 +119,7 @@ impl RowInterpreter for Game {
     }
 }
 
-/// `game NAME WINNER MOVES BUDGET FRAME STEP/STEP ..`: what the steps answer, parted by `/`.
+/// Runs `game NAME WINNER MOVES BUDGET FRAME STEP/STEP ..`: the results of the steps, separated by `/`.
 pub fn game_row(position: &Position, row: &mut Row) -> Result<(), RowError>
     requires { Sound position.now }
 {

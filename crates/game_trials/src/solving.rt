@@ -1,4 +1,4 @@
-//! RowInterpreter that solve positions for one number of moves after another, and ask for the sets.
+//! Rows that solve positions for one number of moves after another, and query the sets.
 
 ghost use Rattle.std.specs.Prelude.{◌≤◌};
 ghost use Rattle.game_rules.specs.Game.{Sound};
@@ -125,7 +125,7 @@ impl<'a> RowInterpreter for Bench<'a> {
     }
 }
 
-/// `solver NAME WINNER BUDGET STEP/STEP ..`: what the steps answer.
+/// Runs `solver NAME WINNER BUDGET STEP/STEP ..`: the results of the steps.
 pub fn solver_row(
     positions: &Named<Position>,
     position: &Position,

@@ -1,5 +1,5 @@
-//! The program `mate`: does what its words say with the standard input and the files of the working folder, and writes
-//! the answer to the standard output.
+//! The program `mate`: executes the command that its arguments name, on the standard input, the standard output and the
+//! files of the working folder.
 #![tactic(auto)]
 
 use mate_ports::{FolderShelf, StdSink, StdSource, WordsError, exit_of, perform};

@@ -10,7 +10,7 @@ use Rattle.mate_ports.specs.declared.program.Ran.{Ran}
 use Rattle.mate_ports.specs.declared.program.WordsError.{WordsError}
 use Rattle.mate_ports.specs.declared.program.WordsError.TheVariants as words_error
 
--- the status where there are no words, and what is written then
+-- the status without arguments, and the text written then
 abbrev pub status_without : WordsError → Status
 status_without words_error.Memory = is.Memory
 status_without words_error.Untold = is.Usage
@@ -19,18 +19,18 @@ abbrev pub line_without : WordsError → List ℕ
 line_without words_error.Memory = []
 line_without words_error.Untold = usage_line Unknown
 
--- A run without words writes why, if that is to be written, reads nothing, and leaves the files alone.
+-- A run without arguments writes why, if that is to be written, reads nothing, and leaves the files unchanged.
 pub record RefusesExactly (why : WordsError) (status : Status) (old new : Held) : Type 0 where
   pub refused : status ≡ status_without why
   pub input : new.input ≡ old.input
   pub output : new.output ≡ old.output ++ line_without why
   pub files : new.files ≡ old.files
 
--- what the three hold after a run
+-- the state of the three ports after a run
 abbrev pub ran_held : Ran → Held
 ran_held ran = held ran.rest.now ran.output.items ran.files
 
--- how the program ends, by its words or by why there are none
+-- how the program ends, given its arguments or why there are none
 abbrev pub ProgramEndsExactly : Result (Vec (String Global) Global) WordsError → Held → Ran → Type 0
 ProgramEndsExactly words old ran =
     MatchResult words (λ given. EndsExactly (texts given.items) ran.status old (ran_held ran))

@@ -1,4 +1,4 @@
--- How the program ends where there are no words.
+-- How the program ends, also if there are no arguments.
 use Rattle.std.specs.Prelude.{◌≡◌, ℕ, List, [], MatchResult, Option, Result, String, Vec}
 use Rattle.std.specs.declared.alloc.Global.{Global}
 use Rattle.desk_base.specs.Lent.{Lent, all_new, all_old}
@@ -15,13 +15,13 @@ use Rattle.mate_desk.specs.Run.{RunEnds}
 use Rattle.mate_ports.specs.declared.program.WordsError.{WordsError}
 use Rattle.mate_ports.specs.declared.program.WordsError.TheVariants.{Memory, Untold}
 
--- Where there is no memory for the words nothing is written. Where they are no text, they are refused as an unknown
--- command is.
+-- If memory for the arguments runs out, nothing is written. If they are not text, they are refused like an unknown
+-- command.
 abbrev pub RefusesWords : WordsError → Status → (old new : Option (List ℕ)) → (failed : Type 0) → Type 0
 RefusesWords Memory status old new failed = (status ≡ is.Memory) × (new ≡ old)
 RefusesWords Untold status old new failed = (status ≡ is.Usage) × Writes [] (usage_line usage.Unknown) old new failed
 
--- A run without words reads nothing, and leaves the files alone.
+-- A run without arguments reads nothing and leaves the files unchanged.
 pub record EndsWithoutWords (why : WordsError) (status : Status) (old new : Seen) : Type 0 where
   pub refused : RefusesWords why status old.written new.written (WriteFailed old new)
   pub left : new.left ≡ old.left
@@ -29,12 +29,12 @@ pub record EndsWithoutWords (why : WordsError) (status : Status) (old new : Seen
   pub files : new.files ≡ old.files
   pub shelf_faults : new.shelf_faults ≡ old.shelf_faults
 
--- How the program ends, by its words or by why there are none.
+-- How the program ends, given its arguments or why there are none.
 abbrev pub ProgramEnds : Result (Vec (String Global) Global) WordsError → Status → (old new : Seen) → Type 0
 ProgramEnds words status old new =
     MatchResult words (λ given. RunEnds (texts given.items) status old new) (λ why. EndsWithoutWords why status old new)
 
--- How it ends on a source, a sink and a shelf that it is lent.
+-- How it ends with a source, a sink and a shelf.
 abbrev pub ProgramEndsOn : {S K H : Type 0} → SourceModel S → SinkModel K → ShelfModel H
     → Result (Vec (String Global) Global) WordsError → Status → (ports : Lent S × Lent K × Lent H) → Type 0
 ProgramEndsOn s k h words status ports =

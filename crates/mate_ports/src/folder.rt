@@ -10,8 +10,8 @@ use std::fs::{Files, OpenFile};
 use std::io::{ErrorKind, Read, Write};
 use std::{fs, io};
 
-/// The files of the working folder as a store: a file has the name under which it is kept. It tells nothing of what is
-/// in them. An error of the system is a fault, but for a file that is missing and for want of memory.
+/// The files of the working folder as a store; a file is stored under its name. The store does not expose their
+/// contents. Each error of the system is a fault, except a missing file and running out of memory.
 #[derive(Drop)]
 pub struct FolderShelf<'a, R: Files> {
     system: &'a R,
@@ -19,6 +19,7 @@ pub struct FolderShelf<'a, R: Files> {
 }
 
 impl<'a, R: Files> FolderShelf<'a, R> {
+    /// Creates a store over the file system.
     pub fn new(system: &'a R) -> Self
         ensures { result.faults ≡ 0 }
     {
@@ -73,7 +74,7 @@ fn read_file<R: Files>(
     }
 }
 
-/// All bytes of the reader, where they are at most so many.
+/// Returns all bytes of the reader if there are at most `limit`.
 pub fn read_whole<F: Read + Drop>(
     alloc: Global,
     reader: F,

@@ -1,5 +1,7 @@
-//! What the program `mate` does with its words and its ports, and its ports: a reader and a writer of the library as a source and a sink, and the files
-//! of the working folder as a store. The same over bytes in memory, of which none of the ports fails.
+//! Connects `mate_desk::run` to the standard library: readers, writers and the working folder.
+//!
+//! A reader becomes a source, a writer a sink, and the files of the working folder a store. `perform_in_memory` does
+//! the same over bytes in memory, where no port fails.
 #![tactic(auto)]
 
 mod folder;

@@ -1,4 +1,4 @@
-//! What the program does with its words and its ports.
+//! The body of the program, for given arguments and ports.
 
 ghost use Rattle.std.specs.Prelude.{◌≡◌, IfOk};
 ghost use Rattle.std.specs.Process.{exit_status};
@@ -15,7 +15,7 @@ use std::alloc::{AllocError, Global};
 use std::io;
 use std::process::ExitCode;
 
-/// Why there are no words.
+/// Why there are no arguments.
 #[derive(Clone, Copy, PartialEq, Eq)]
 pub enum WordsError {
     /// There is no memory for them.
@@ -41,7 +41,7 @@ impl From<io::Error> for WordsError {
     ghost use Rattle.std.specs.declared.io.ErrorKind.TheVariants.{OutOfMemory};
     ghost use Rattle.mate_ports.specs.declared.program.WordsError.TheVariants.{Memory};
 
-    // Memory is what is wanting exactly where the system says so.
+    // The error is out of memory if and only if the system says so.
     ghost from_gives = { λ error why. (why ≡ Memory) ↔ (error_kind error ≡ OutOfMemory) };
 
     fn from(error: io::Error) -> Self {
@@ -53,7 +53,7 @@ impl From<io::Error> for WordsError {
     }
 }
 
-/// The body of the program: does what the words say. Where there are none, nothing is read.
+/// Executes the command that the arguments name, and returns the status. If there are no arguments, nothing is read.
 pub fn perform<S: Source, K: Sink, H: Shelf>(
     words: Result<Vec<String>, WordsError>,
     source: &mut S,
@@ -82,20 +82,20 @@ fn refuse_words<K: Sink>(why: WordsError, sink: &mut K) -> Status
     }
 }
 
-/// What became of a run over bytes in memory.
+/// The result of a run over bytes in memory.
 #[derive(Drop)]
 pub struct Ran<'a> {
     pub status: Status,
-    /// What was not taken of the input.
+    /// The bytes of the input that were not taken.
     pub rest: &'a [u8],
-    /// The output, behind what it had before.
+    /// The output, after what it had before.
     pub output: Vec<u8>,
-    /// The files that it leaves.
+    /// The files after the run.
     pub files: MemFiles,
 }
 
-/// The body of the program over a slice as its input, a vector as its output and files in memory. None of the three fails but the vector, for want of
-/// memory for the output, and then there is no answer.
+/// Runs the body of the program with a slice as input, a vector as output and files in memory. The only port that can
+/// fail is the vector, if memory for the output runs out; then the result is an error.
 pub fn perform_in_memory<'a>(
     words: Result<Vec<String>, WordsError>,
     input: &'a [u8],
@@ -120,7 +120,7 @@ pub fn perform_in_memory<'a>(
     })
 }
 
-/// The status that the process ends with.
+/// Returns the exit code of the process.
 pub fn exit_of(status: Status) -> ExitCode
     ensures { exit_status result ≡ code_of status }
 {

@@ -1,4 +1,5 @@
-//! A reader and a writer of the library as a source and a sink. They tell what the reader and the writer tell, and count their faults.
+//! A reader and a writer of the standard library as a source and a sink. They expose what the reader and the writer
+//! expose, and count their faults.
 
 ghost use Rattle.std.specs.Prelude.{◌≡◌, ℕ};
 
@@ -13,6 +14,7 @@ pub struct StdSource<R: Read + Drop> {
 }
 
 impl<R: Read + Drop> StdSource<R> {
+    /// Creates a source over the reader.
     pub fn new(reader: R) -> Self
         ensures reader { result.reader ≡ reader }
         ensures faults { result.faults ≡ 0 }
@@ -20,7 +22,7 @@ impl<R: Read + Drop> StdSource<R> {
         StdSource { reader, faults: 0 }
     }
 
-    /// The reader, and how often it has failed.
+    /// Returns the reader and the number of its failures.
     pub fn into_parts(self) -> (R, u64)
         ensures reader { result.0 ≡ self.reader }
         ensures faults { result.1 ≡ self.faults }
@@ -53,6 +55,7 @@ pub struct StdSink<W: Write + Drop> {
 }
 
 impl<W: Write + Drop> StdSink<W> {
+    /// Creates a sink over the writer.
     pub fn new(writer: W) -> Self
         ensures writer { result.writer ≡ writer }
         ensures faults { result.faults ≡ 0 }
@@ -60,7 +63,7 @@ impl<W: Write + Drop> StdSink<W> {
         StdSink { writer, faults: 0 }
     }
 
-    /// The writer, and how often it has failed.
+    /// Returns the writer and the number of its failures.
     pub fn into_parts(self) -> (W, u64)
         ensures writer { result.0 ≡ self.writer }
         ensures faults { result.1 ≡ self.faults }

@@ -10,14 +10,14 @@ use trial_rows::{Row, RowError};
 /// The most lines that a row reads.
 const MOST_LINES: u32 = 100;
 
-/// Writes bytes, each as a character, but LF as `/`.
+/// Writes bytes, each as a character, and LF as `/`.
 pub fn write_lines(row: &mut Row, bytes: &[u8]) {
     for byte in bytes {
         row.write_mark(if *byte == b'\n' { '/' } else { *byte as char });
     }
 }
 
-/// `keep NAME TEXT`: whether the folder keeps the text.
+/// Runs `keep NAME TEXT`: whether the folder stores the text.
 pub fn keep_row<R: Files>(system: &R, row: &mut Row) -> Result<(), RowError> {
     let name = row.word()?;
     let text = row.rest();
@@ -30,7 +30,7 @@ pub fn keep_row<R: Files>(system: &R, row: &mut Row) -> Result<(), RowError> {
     Ok(())
 }
 
-/// `fetch NAME LIMIT`: what the folder has under the name, or why it gives nothing.
+/// Runs `fetch NAME LIMIT`: the contents of a file of the folder, or why there are none.
 pub fn fetch_row<R: Files>(system: &R, row: &mut Row) -> Result<(), RowError> {
     let name = row.word()?;
     let limit = row.number::<usize>()?;
@@ -75,7 +75,7 @@ fn write_source<S: Source>(source: &mut S, row: &mut Row) -> Result<(), RowError
     Err(RowError::Condition)
 }
 
-/// `read NAME`: the lines of a file, how they end, and the count of faults of its source.
+/// Runs `read NAME`: the lines of a file, how they end, and the count of faults of its source.
 pub fn read_row<R: Files>(system: &R, row: &mut Row) -> Result<(), RowError> {
     let Ok(file) = fs::open(system, row.word()?) else {
         return Err(RowError::Name);
@@ -98,7 +98,7 @@ fn put_text<W: Write + Drop>(file: W, text: &str, row: &mut Row) {
     row.write_labelled(" ", faults);
 }
 
-/// `write NAME TEXT`: whether all of a text is written to a new file.
+/// Runs `write NAME TEXT`: whether all of a text is written to a new file.
 pub fn write_row<R: Files>(system: &R, row: &mut Row) -> Result<(), RowError> {
     match fs::create(system, row.word()?) {
         Ok(file) => put_text(file, row.rest(), row),
@@ -107,7 +107,7 @@ pub fn write_row<R: Files>(system: &R, row: &mut Row) -> Result<(), RowError> {
     Ok(())
 }
 
-/// `refused NAME TEXT`: the same of a file that is open for reading alone.
+/// Runs `refused NAME TEXT`: the same for a file that is open for reading only.
 pub fn refused_row<R: Files>(system: &R, row: &mut Row) -> Result<(), RowError> {
     match fs::open(system, row.word()?) {
         Ok(file) => put_text(file, row.rest(), row),

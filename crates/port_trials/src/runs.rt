@@ -60,7 +60,8 @@ fn performed<R: Files>(
     Ok(perform(Ok(words), &mut source, &mut sink, &mut shelf, alloc))
 }
 
-/// `run INPUT WORDS`: the status of a run on a file of the working folder and all files that it has, and what it wrote to a file.
+/// Runs `run INPUT WORDS`: the status of a run with a file of the working folder as input and the folder's files, and
+/// its output.
 pub fn run_row<R: Files>(system: &R, row: &mut Row) -> Result<(), RowError> {
     let input = row.word()?;
     let words = words_of(row.alloc, row.rest())?;
@@ -70,7 +71,8 @@ pub fn run_row<R: Files>(system: &R, row: &mut Row) -> Result<(), RowError> {
     Ok(())
 }
 
-/// `memory INPUT WORDS`: the same over the bytes of the file, a vector and the files in memory, and how many bytes of the input were not taken.
+/// Runs `memory INPUT WORDS`: the same over the bytes of the file, a vector and the files in memory, and the number of
+/// bytes of the input that were not taken.
 pub fn memory_row<R: Files>(
     system: &R,
     files: &mut MemFiles,

@@ -3,7 +3,7 @@ use Rattle.std.specs.Prelude.{ℕ, ◌<◌, ◌≤◌, List, [], ◌∷◌, ◌+
 use Rattle.run_trials.specs.declared.change.Change.{Change}
 use Rattle.run_trials.specs.declared.change.Change.TheVariants.{Cut, Byte, Append}
 
--- the bytes have what is to be changed
+-- the change can be made to the bytes
 abbrev pub Fits : Change → List ℕ → Type 0
 Fits (Cut size) bytes = size ≤ length bytes
 Fits (Byte at value) bytes = at < length bytes

@@ -7,7 +7,7 @@ IsDigit digit value =
     ((value < 10) × (digit ≡ 48 + value))
     ⊎ ((10 ≤ value) × (value < 16) × (digit ≡ 87 + value))
 
--- Two digits are the number of the byte.
+-- The two digits are those of the byte.
 abbrev pub AreDigits : (high low byte : ℕ) → Type 0
 AreDigits high low byte = (h l : ℕ) × IsDigit high h × IsDigit low l × (byte ≡ 16 * h + l)
 
@@ -15,7 +15,7 @@ AreDigits high low byte = (h l : ℕ) × IsDigit high h × IsDigit low l × (byt
 abbrev pub BeginsWithDigits : (text : List ℕ) (byte : ℕ) (rest : List ℕ) → Type 0
 BeginsWithDigits text byte rest = (high low : ℕ) × (text ≡ high ∷ (low ∷ rest)) × AreDigits high low byte
 
--- Behind a backslash the text begins with the letters for the byte: a backslash, n for LF, r for CR, or x and two
+-- The text after a backslash begins with the characters for the byte: a backslash, n for LF, r for CR, or x and two
 -- digits.
 abbrev pub Escapes : (text : List ℕ) (byte : ℕ) (rest : List ℕ) → Type 0
 Escapes text byte rest =

@@ -1,4 +1,4 @@
-//! Runs in one case.
+//! The settings of a run.
 
 use crate::change::{change_bytes, read_change};
 use crate::fault::ScriptWhy;
@@ -15,9 +15,9 @@ use trial_rows::Answer;
 /// How many bytes a sink holds where no setting says it.
 const ROOM: usize = 10_000;
 
-/// A run in one case.
+/// The settings of one run.
 pub struct Case {
-    /// The words and the settings, as the script spells them.
+    /// The arguments and the settings, as the script spells them.
     pub title: Answer,
     pub words: Vec<String>,
     input: Vec<u8>,
@@ -41,6 +41,7 @@ impl Drop for Case {
 }
 
 impl Case {
+    /// Creates the default settings.
     pub fn new(alloc: Global) -> Self {
         Case {
             title: Answer::new(alloc),
@@ -52,7 +53,7 @@ impl Case {
         }
     }
 
-    /// Does what a line says: bytes come behind those of the input, or a setting is made.
+    /// Applies a line of the script: it appends bytes to the input, or makes a setting.
     pub fn add(
         &mut self,
         alloc: Global,
@@ -111,13 +112,13 @@ impl Case {
         Ok(())
     }
 
-    /// The source of the input, which leaves the case without it.
+    /// Returns the source of the input, and leaves the case without it.
     pub fn source(&mut self, alloc: Global) -> MemSource {
         let input = mem::replace(&mut self.input, Vec::new(alloc));
         MemSource::new(input, self.reads.failing(alloc), self.reads.most())
     }
 
-    /// The sink of the run.
+    /// Returns the sink of the run.
     pub fn sink(&mut self, alloc: Global) -> Result<MemSink, AllocError> {
         let fail = self.writes.failing(alloc);
         MemSink::new(alloc, fail, self.writes.most(), self.room)

@@ -7,7 +7,7 @@ use crate::fault::ScriptWhy;
 use crate::number::read_number;
 use std::alloc::AllocError;
 
-/// A change of some bytes. An input takes it, and a file that is kept from run to run takes the same.
+/// A change of the bytes of an input, or of a file that stays from run to run.
 #[derive(Clone, Copy)]
 pub enum Change {
     /// Only the first so many bytes stay.
@@ -19,7 +19,7 @@ pub enum Change {
 }
 
 impl Change {
-    /// Whether the bytes have what is to be changed: the byte, or as many as are to stay.
+    /// Returns whether the change can be made: the bytes have the byte, or at least as many bytes as remain.
     pub fn fits(self, bytes: &[u8]) -> bool
         ensures { IsTrue result ↔ Fits self bytes.now }
     {
@@ -45,7 +45,7 @@ impl Change {
     }
 }
 
-/// Changes the bytes, where they have what is to be changed.
+/// Changes the bytes if the change can be made.
 pub fn change_bytes(change: Change, bytes: &mut Vec<u8>) -> Result<(), ScriptWhy>
     ensures ok { OnOk result (Fits change bytes.old.items × (bytes.new.items ≡ changed change bytes.old.items)) }
     ensures err { OnErr result (bytes.new.items ≡ bytes.old.items) }
@@ -57,7 +57,7 @@ pub fn change_bytes(change: Change, bytes: &mut Vec<u8>) -> Result<(), ScriptWhy
     Ok(())
 }
 
-/// The change that a text says: `cut at K`, `byte K is V` or `append V`.
+/// Parses a change: `cut at K`, `byte K is V` or `append V`.
 pub fn read_change(text: &str) -> Result<Change, ScriptWhy> {
     if let Some(length) = text.strip_prefix("cut at ") {
         let length = read_number(length)?;

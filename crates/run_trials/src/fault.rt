@@ -3,7 +3,7 @@
 use std::alloc::{AllocError, AllocFailed};
 use trial_rows::RowError;
 
-/// Why a line of a script cannot be read, or not be done.
+/// Why a line of a script cannot be read or performed.
 #[derive(Clone, Copy)]
 pub enum ScriptWhy {
     /// It has more than 200 bytes.
@@ -35,7 +35,7 @@ pub enum ScriptWhy {
 }
 
 impl ScriptWhy {
-    /// The words for it in the line that names it.
+    /// Returns the words for it in the line that reports it.
     pub fn words(self) -> &'static str {
         match self {
             ScriptWhy::Long => "long",

@@ -1,5 +1,5 @@
-//! The program `run_trials`: performs the runs of a script that it reads from the standard input, and writes what comes of each to the
-//! standard output. docs/TRIALS.md says how a script is written.
+//! The test program `run_trials`: performs the runs of a script from the standard input and writes what they did to the
+//! standard output. docs/TRIALS.md describes the script.
 #![tactic(auto)]
 
 mod case;

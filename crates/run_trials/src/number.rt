@@ -3,7 +3,7 @@
 use crate::fault::ScriptWhy;
 use std::str::FromStr;
 
-/// The number that the word is, if its type holds it.
+/// Parses a number that fits its type.
 pub fn read_number<N: FromStr>(word: &str) -> Result<N, ScriptWhy>
 where
     N::Err: Drop,

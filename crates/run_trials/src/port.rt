@@ -1,4 +1,4 @@
-//! How the calls of a source or a sink go.
+//! The behaviour of the calls of a source or a sink.
 
 ghost use Rattle.std.specs.Prelude.{◌<◌};
 
@@ -7,7 +7,7 @@ use crate::number::read_number;
 use std::alloc::Global;
 use std::mem;
 
-/// How the calls of a source or a sink go.
+/// The behaviour of the calls of a source or a sink.
 #[derive(Drop)]
 pub struct Port {
     /// How many bytes a call moves at most.
@@ -19,7 +19,7 @@ pub struct Port {
 }
 
 impl Port {
-    /// Calls that do not fail and move all that they are given.
+    /// Creates calls that do not fail and move all that they can.
     pub fn new(alloc: Global) -> Self {
         Port {
             most: usize::MAX,
@@ -27,19 +27,19 @@ impl Port {
         }
     }
 
-    /// How many bytes a call moves at most.
+    /// Returns the greatest number of bytes that one call moves.
     pub fn most(&self) -> usize
         ensures { 0 < result }
     {
         self.most
     }
 
-    /// The numbers of the calls that fail, which leaves none.
+    /// Returns the numbers of the calls that fail, and leaves none.
     pub fn failing(&mut self, alloc: Global) -> Vec<u32> {
         mem::replace(&mut self.fail, Vec::new(alloc))
     }
 
-    /// `of at most N`: a call moves at most so many bytes.
+    /// Parses `of at most N`: one call moves at most N bytes.
     pub fn set_most(&mut self, rest: &str) -> Result<(), ScriptWhy> {
         let Some(most) = rest.strip_prefix("of at most ") else {
             return Err(ScriptWhy::Unknown);
@@ -52,7 +52,7 @@ impl Port {
         Ok(())
     }
 
-    /// `N fails`: the call of this number, counted from 1, fails.
+    /// Parses `N fails`: the call of this number, counted from 1, fails.
     pub fn add_failing(&mut self, rest: &str) -> Result<(), ScriptWhy> {
         let Some(call) = rest.strip_suffix(" fails") else {
             return Err(ScriptWhy::Unknown);

@@ -1,11 +1,11 @@
-//! Ranges of numbers, for each of which a run is done once.
+//! Ranges of numbers; a run is made once for each number.
 
 use crate::fault::ScriptWhy;
 use crate::number::read_number;
 use std::alloc::Global;
 use trial_rows::Answer;
 
-/// Numbers in a row.
+/// Consecutive numbers.
 #[derive(Clone, Copy)]
 pub struct Range {
     pub first: u32,
@@ -34,7 +34,7 @@ fn split_at_range(text: &str) -> Option<Ranged<'_>> {
     })
 }
 
-/// The range of a line, if it has one. Bytes have none.
+/// Returns the range in a line, if it has one. Bytes have none.
 pub fn range_of(text: &str) -> Result<Option<Range>, ScriptWhy> {
     if text.starts_with('|') {
         return Ok(None);
@@ -50,7 +50,7 @@ pub fn range_of(text: &str) -> Result<Option<Range>, ScriptWhy> {
     Ok(Some(Range { first, last }))
 }
 
-/// The line of one case: its number stands in the place of the range.
+/// Returns the line of one case, with the number in place of the range.
 pub fn spelled_at(alloc: Global, text: &str, number: u32) -> Answer {
     let text = text.trim_end();
     let mut line = Answer::new(alloc);

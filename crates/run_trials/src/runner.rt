@@ -1,4 +1,4 @@
-//! Performing the texts and the runs of a script.
+//! Performs the texts and the runs of a script.
 
 use crate::case::Case;
 use crate::fault::ScriptWhy;
@@ -10,12 +10,12 @@ use mate_desk::run;
 use std::alloc::Global;
 use trial_rows::Answer;
 
-/// Performs the blocks of a script, and writes what comes of each run.
+/// Performs the blocks of a script, and writes what each run did.
 pub struct Runner {
     pub alloc: Global,
-    /// What is written so far.
+    /// The output so far.
     pub report: Answer,
-    /// The number of the line that is read.
+    /// The number of the current line.
     pub line: u64,
     stock: Stock,
     runs: u64,
@@ -34,6 +34,7 @@ impl Drop for Runner {
 }
 
 impl Runner {
+    /// Creates a runner without texts and files.
     pub fn new(alloc: Global) -> Self {
         Runner {
             alloc,
@@ -44,7 +45,7 @@ impl Runner {
         }
     }
 
-    /// Writes how many runs there were.
+    /// Writes the number of runs.
     pub fn finish(&mut self) {
         self.report.write_number(self.runs);
         self.report.write(" runs\n");
@@ -59,7 +60,7 @@ impl Runner {
         self.report.write("\n");
     }
 
-    /// Keeps a text, or does a run, with what stands under it.
+    /// Stores a text, or performs a run, with the lines under it.
     pub fn perform_block(&mut self, block: &[ScriptLine]) -> Result<(), ScriptWhy> {
         let Some((head, body)) = block.split_first() else {
             return Ok(());

@@ -1,4 +1,4 @@
-//! The lines of a script, and the blocks that they make: a text, or a run, with what stands under it.
+//! The lines of a script, and their blocks: a text or a run, with the lines under it.
 
 use crate::fault::ScriptWhy;
 use crate::runner::Runner;
@@ -61,7 +61,8 @@ fn check_end(runner: &mut Runner, script: &str) -> Result<(), ScriptWhy> {
     Err(ScriptWhy::Cut)
 }
 
-/// Performs the runs of a script, and writes what comes of them: last the number of runs, or which line is refused. Says whether none is.
+/// Performs the runs of a script and writes what they did, and at last the number of runs, or which line is refused.
+/// Returns whether no line is refused.
 pub fn perform(runner: &mut Runner, script: &str) -> bool {
     let mut done = perform_blocks(runner, script);
     if done.is_ok() {

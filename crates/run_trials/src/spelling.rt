@@ -7,8 +7,8 @@ use crate::fault::ScriptWhy;
 use crate::number::read_number;
 use std::alloc::Global;
 
-/// The bytes that the text spells. Each byte is spelled by itself, but a backslash by `\\`; `\n` is LF, `\r` is CR, and `\xHH` is the
-/// byte of these two hexadecimal digits.
+/// Returns the bytes that the text spells. A byte stands for itself, except the backslash: `\\` is a backslash, `\n` is
+/// LF, `\r` is CR, and `\xHH` is the byte of these two hexadecimal digits.
 pub fn read_bytes(alloc: Global, text: &str) -> Result<Vec<u8>, ScriptWhy>
     ensures { IfOk result (λ bytes. Spells text.now bytes.items) }
 {
@@ -78,7 +78,7 @@ fn read_digit(digit: u8) -> Result<u8, ScriptWhy>
     }
 }
 
-/// Adds the bytes behind a bar: a line with its LF; behind `-`, a text as it is; behind `* N`, a text N times.
+/// Appends the bytes after a bar: a line with its LF; after `-`, a text without LF; after `* N`, a text N times.
 pub fn push_piece(alloc: Global, out: &mut Vec<u8>, piece: &str) -> Result<(), ScriptWhy> {
     if let Some(text) = piece.strip_prefix("- ") {
         return push_bytes(alloc, out, text, 1);
@@ -112,7 +112,7 @@ fn push_bytes(alloc: Global, out: &mut Vec<u8>, text: &str, count: u16) -> Resul
     Ok(())
 }
 
-/// Reads the words behind `run`. The empty word is spelled `""`, and an odd byte by its escape.
+/// Parses the arguments after `run`. `""` is the empty argument, and unusual bytes are escaped.
 pub fn read_words(alloc: Global, words: &mut Vec<String>, line: &str) -> Result<(), ScriptWhy> {
     for word in line.split_whitespace() {
         words.push(read_word(alloc, word)?)?;

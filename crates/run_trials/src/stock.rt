@@ -1,4 +1,4 @@
-//! What stays from run to run: the texts that the script has named, and the store of files.
+//! State that stays from run to run: the texts that the script has named, and the file store.
 
 use crate::change::{change_bytes, read_change};
 use crate::fault::ScriptWhy;
@@ -7,16 +7,16 @@ use desk_base::MemShelf;
 use std::alloc::Global;
 use trial_rows::{Answer, Named};
 
-/// What stays from run to run.
+/// State that stays from run to run.
 #[derive(Drop)]
 pub struct Stock {
     texts: Named<Vec<u8>>,
-    /// The store of files. What a run keeps is there for those behind it.
+    /// The file store. Files that a run stores are there for later runs.
     pub shelf: MemShelf,
 }
 
 impl Stock {
-    /// No texts, and a store without files.
+    /// Creates a state without texts and files.
     pub fn new(alloc: Global) -> Self {
         Stock {
             texts: Named::new(alloc),
@@ -24,7 +24,7 @@ impl Stock {
         }
     }
 
-    /// Whether a text has this name.
+    /// Returns whether a text has this name.
     pub fn has_text(&self, name: &str) -> bool {
         self.texts.get(name).is_ok()
     }
@@ -39,7 +39,7 @@ impl Stock {
         Ok(self.texts.put(alloc, name, bytes)?)
     }
 
-    /// The bytes of the text of this name.
+    /// Returns the bytes of the text of this name.
     pub fn text(&self, name: &str) -> Result<&[u8], ScriptWhy> {
         match self.texts.get(name) {
             Ok(bytes) => Ok(bytes.as_slice()),
@@ -55,7 +55,8 @@ impl Stock {
         }
     }
 
-    /// `new store` or `new store failing at N ..`: a store without files, whose calls of these numbers, counted from 1, fail.
+    /// Parses `new store` or `new store failing at N ..`: a store without files, whose calls of these numbers, counted
+    /// from 1, fail.
     pub fn empty_shelf(&mut self, alloc: Global, rest: &str) -> Result<(), ScriptWhy> {
         if rest == "store" {
             self.shelf = MemShelf::new(alloc, Vec::new(alloc));
@@ -68,7 +69,7 @@ impl Stock {
         Ok(())
     }
 
-    /// `file NAME holds TEXT`, `file NAME as OTHER` or `file NAME CHANGE`: sets or changes a file.
+    /// Parses `file NAME holds TEXT`, `file NAME as OTHER` or `file NAME CHANGE`: sets or changes a file.
     pub fn set_file(&mut self, alloc: Global, rest: &str) -> Result<(), ScriptWhy> {
         let Some((name, edit)) = rest.split_once(' ') else {
             return Err(ScriptWhy::Unknown);
@@ -102,7 +103,7 @@ fn read_numbers(alloc: Global, words: &str) -> Result<Vec<u32>, ScriptWhy> {
     Ok(numbers)
 }
 
-/// Writes what `tell NAME` or `tell NAME at A for N` asks of a file.
+/// Writes the bytes of a file that `tell NAME` or `tell NAME at A for N` asks for.
 pub fn write_told(out: &mut Answer, shelf: &MemShelf, line: &str) -> Result<(), ScriptWhy> {
     let Some(question) = line.strip_prefix("tell ") else {
         return Err(ScriptWhy::Unknown);

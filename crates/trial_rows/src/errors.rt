@@ -1,11 +1,11 @@
-//! Why a row has no answer.
+//! Why a row has no result.
 
 ghost use Rattle.std.specs.Prelude.{◌≡◌};
 ghost use Rattle.trial_rows.specs.declared.errors.RowError.TheVariants.{Memory};
 
 use std::alloc::{AllocError, AllocFailed};
 
-/// Why a row has no answer.
+/// Why a row has no result.
 #[derive(Clone, Copy)]
 pub enum RowError {
     /// The leading word names no kind of row.
@@ -31,7 +31,7 @@ pub enum RowError {
 }
 
 impl RowError {
-    /// The word for it in the line that tells it.
+    /// Returns the word for it in the line that reports it.
     pub fn word(self) -> &'static str {
         match self {
             RowError::Kind => "kind",

@@ -9,7 +9,7 @@ use std::marker::Model;
 use std::num::ParseIntError;
 use std::str::FromStr;
 
-/// The fields that are still to be read, parted by one space each.
+/// The fields that are not read yet, separated by one space each.
 #[derive(Drop)]
 pub struct Fields<'a> {
     rest: Option<&'a str>,
@@ -24,13 +24,14 @@ impl<'a> Model for Fields<'a> {
 }
 
 impl<'a> Fields<'a> {
+    /// Creates the fields of a row.
     pub fn new(row: &'a str) -> Self
         ensures { result ≡ Some row.now }
     {
         Fields { rest: Some(row) }
     }
 
-    /// The next field.
+    /// Returns the next field. The error is that there is none.
     pub fn word(&mut self) -> Result<&'a str, RowError>
         ensures missing { IfNone self.old ((result ≡ Err RowError.Missing) × (self.new ≡ None)) }
         ensures next { IfSome self.old (λ text. IsOkAnd result (λ field. IsNextField text field.now self.new)) }
@@ -50,7 +51,7 @@ impl<'a> Fields<'a> {
         }
     }
 
-    /// What is left, as it stands.
+    /// Returns the remaining text unchanged, and leaves no field.
     pub fn rest(&mut self) -> &'a str
         ensures text { result.now ≡ unwrap_or self.old [] }
         ensures done { self.new ≡ None }
@@ -58,14 +59,14 @@ impl<'a> Fields<'a> {
         self.rest.take().unwrap_or("")
     }
 
-    /// Whether no field is left.
+    /// Returns whether no field is left.
     pub fn is_done(&self) -> bool
         ensures { IsTrue result ↔ (self.now ≡ None) }
     {
         self.rest.is_none()
     }
 
-    /// Refuses fields that are left.
+    /// Returns an error if fields are left.
     pub fn end(&self) -> Result<(), RowError>
         ensures { MatchOption self.now (IsOk result) (λ _. result ≡ Err RowError.Rest) }
     {
@@ -76,7 +77,7 @@ impl<'a> Fields<'a> {
     }
 }
 
-/// The number that a field spells.
+/// Parses the number that a field spells.
 pub fn number<T: FromStr<Err = ParseIntError>>(field: &str) -> Result<T, RowError>
     ensures ok { IfOk result (λ number. T.from_str_gives field.now (Ok number)) }
     ensures refused { OnErr result ((error : ParseIntError) × T.from_str_gives field.now (Err error)) }
@@ -88,7 +89,7 @@ pub fn number<T: FromStr<Err = ParseIntError>>(field: &str) -> Result<T, RowErro
     }
 }
 
-/// The numbers of a text, parted by commas. The text `-` has none.
+/// Parses numbers separated by commas. The text `-` has none.
 pub fn numbers<T: FromStr<Err = ParseIntError> + Drop>(
     alloc: Global,
     text: &str,

@@ -1,5 +1,7 @@
-//! What programs of trials have in common: they read a script of rows from the standard input, make the call that each row names, and write
-//! what it answers. A row is a word for its kind, and fields, parted by one space each.
+//! Shared code of the test programs that read a script of rows.
+//!
+//! A row is a test case: a word for its kind, and fields, separated by one space each. A program reads the rows from
+//! the standard input, makes the call that each row names, and writes the result.
 #![tactic(auto)]
 
 mod answer;

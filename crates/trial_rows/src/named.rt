@@ -1,4 +1,4 @@
-//! What rows have named.
+//! Values that rows have named.
 
 ghost use Rattle.std.specs.Prelude.{◌≡◌};
 
@@ -13,20 +13,21 @@ struct Entry<T: Drop> {
     thing: T,
 }
 
-/// Things by their names.
+/// Values by their names.
 #[derive(Drop)]
 pub struct Named<T: Drop> {
     entries: Vec<Entry<T>>,
 }
 
 impl<T: Drop> Named<T> {
+    /// Creates an empty list of names.
     pub fn new(alloc: Global) -> Self {
         Named {
             entries: Vec::new(alloc),
         }
     }
 
-    /// The thing of a name, the last where several have it.
+    /// Returns the value of a name, the last one if several values have it.
     pub fn get(&self, name: &str) -> Result<&T, RowError> {
         let mut found = Err(RowError::Name);
         for entry in self.entries.as_slice() {
@@ -37,12 +38,12 @@ impl<T: Drop> Named<T> {
         found
     }
 
-    /// The thing of the name that the next field is.
+    /// Returns the value whose name is the next field.
     pub fn next(&self, row: &mut Row) -> Result<&T, RowError> {
         self.get(row.word()?)
     }
 
-    /// Names a thing.
+    /// Adds a named value.
     pub fn put(&mut self, alloc: Global, name: &str, thing: T) -> Result<(), RowError> {
         let name = String::from_str(alloc, name)?;
         self.entries.push(Entry { name, thing })?;

@@ -1,4 +1,4 @@
-//! A row: its fields, and what it is answered.
+//! A row: its fields, and its output.
 
 ghost use Rattle.std.specs.Prelude.{◌≡◌, ◌↔◌, [], None, Err, IsTrue, IsOkAnd, IfNone, IfSome, unwrap_or};
 ghost use Rattle.trial_rows.specs.Fields.{IsNextField};
@@ -12,7 +12,7 @@ use std::fmt::Display;
 use std::num::ParseIntError;
 use std::str::FromStr;
 
-/// A row, as far as its fields are read and its answer is written.
+/// A row, with the fields that are not read yet and the output so far.
 #[derive(Drop)]
 pub struct Row<'a> {
     pub alloc: Global,
@@ -21,6 +21,7 @@ pub struct Row<'a> {
 }
 
 impl<'a> Row<'a> {
+    /// Creates a row with an empty output.
     pub fn new(alloc: Global, text: &'a str) -> Self {
         Row {
             alloc,
@@ -29,7 +30,7 @@ impl<'a> Row<'a> {
         }
     }
 
-    /// The next field.
+    /// Returns the next field.
     pub fn word(&mut self) -> Result<&'a str, RowError>
         ensures missing { IfNone self.old.fields ((result ≡ Err RowError.Missing) × (self.new.fields ≡ None)) }
         ensures next { IfSome self.old.fields (λ text. IsOkAnd result (λ field. IsNextField text field.now self.new.fields)) }
@@ -37,7 +38,7 @@ impl<'a> Row<'a> {
         self.fields.word()
     }
 
-    /// What is left, as it stands.
+    /// Returns the remaining text unchanged, and leaves no field.
     pub fn rest(&mut self) -> &'a str
         ensures text { result.now ≡ unwrap_or self.old.fields [] }
         ensures done { self.new.fields ≡ None }
@@ -45,19 +46,19 @@ impl<'a> Row<'a> {
         self.fields.rest()
     }
 
-    /// Whether no field is left.
+    /// Returns whether no field is left.
     pub fn is_done(&self) -> bool
         ensures { IsTrue result ↔ (self.now.fields ≡ None) }
     {
         self.fields.is_done()
     }
 
-    /// The number of the next field.
+    /// Parses the next field as a number.
     pub fn number<T: FromStr<Err = ParseIntError>>(&mut self) -> Result<T, RowError> {
         number(self.fields.word()?)
     }
 
-    /// The numbers of the next two fields.
+    /// Parses the next two fields as numbers.
     pub fn two_numbers<A, B>(&mut self) -> Result<(A, B), RowError>
     where
         A: FromStr<Err = ParseIntError> + Drop,
@@ -67,7 +68,7 @@ impl<'a> Row<'a> {
         Ok((first, self.number()?))
     }
 
-    /// The numbers of the next three fields.
+    /// Parses the next three fields as numbers.
     pub fn three_numbers<A, B, C>(&mut self) -> Result<(A, B, C), RowError>
     where
         A: FromStr<Err = ParseIntError> + Drop,
@@ -78,7 +79,7 @@ impl<'a> Row<'a> {
         Ok((first, second, self.number()?))
     }
 
-    /// The numbers of the next field, parted by commas. The field `-` has none.
+    /// Parses the next field as numbers separated by commas. The field `-` has none.
     pub fn numbers<T: FromStr<Err = ParseIntError> + Drop>(&mut self) -> Result<Vec<T>, RowError> {
         numbers(self.alloc, self.fields.word()?)
     }
@@ -88,44 +89,47 @@ impl<'a> Row<'a> {
         Budget::checked(self.number()?).ok_or(RowError::Number)
     }
 
+    /// Appends the text to the output.
     pub fn write(&mut self, text: &str) {
         self.answer.write(text);
     }
 
+    /// Appends the character to the output.
     pub fn write_mark(&mut self, mark: char) {
         self.answer.write_mark(mark);
     }
 
+    /// Appends the number in decimal to the output.
     pub fn write_number<N: Display + Copy>(&mut self, number: N) {
         self.answer.write_number(number);
     }
 
-    /// Writes a number behind a label.
+    /// Appends a label and a number.
     pub fn write_labelled<N: Display + Copy>(&mut self, label: &str, number: N) {
         self.answer.write(label);
         self.answer.write_number(number);
     }
 
-    /// Writes `yes` or `no`.
+    /// Appends `yes` or `no`.
     pub fn write_truth(&mut self, truth: bool) {
         self.answer.write(if truth { "yes" } else { "no" });
     }
 
-    /// Writes a mark before each part but the first.
+    /// Appends the mark, unless `place` is 0: the separator before each part but the first.
     pub fn separate(&mut self, place: usize, mark: char) {
         if place > 0 {
             self.answer.write_mark(mark);
         }
     }
 
-    /// Writes a mark, unless nothing is written so far.
+    /// Appends the mark, unless the output is empty.
     pub fn part(&mut self, mark: char) {
         if !self.answer.is_empty() {
             self.answer.write_mark(mark);
         }
     }
 
-    /// Writes numbers, with a mark between any two.
+    /// Appends numbers, with the mark between any two.
     pub fn write_numbers<N: Display + Copy>(&mut self, numbers: &[N], mark: char) {
         for (place, number) in numbers.iter().enumerate() {
             self.separate(place, mark);
@@ -133,7 +137,7 @@ impl<'a> Row<'a> {
         }
     }
 
-    /// Writes bytes, each as a character.
+    /// Appends bytes, each as a character.
     pub fn write_bytes(&mut self, bytes: &[u8]) {
         for byte in bytes {
             self.answer.write_mark(*byte as char);

@@ -1,4 +1,4 @@
-//! A script: rows, and lines that are none.
+//! A script: rows, and lines that are not rows.
 
 use crate::answer::Answer;
 use crate::errors::RowError;
@@ -9,7 +9,7 @@ use std::io;
 use std::io::Write;
 use std::process::ExitCode;
 
-/// What a program's rows ask, and what they have named.
+/// Makes the calls of a program's rows, and keeps what they have named.
 pub trait RowInterpreter {
     /// Writes what the call of a row of this kind answers, which is nothing where the row names something.
     fn answer(&mut self, kind: &str, row: &mut Row) -> Result<(), RowError>;
@@ -22,7 +22,8 @@ fn answer_row<R: RowInterpreter>(rows: &mut R, row: &mut Row) -> Result<(), RowE
     row.fields.end()
 }
 
-/// Writes what the steps that are left answer, which are parted by `/` and spelled as rows are, with a mark between any two answers.
+/// Makes the calls of the remaining steps, which are separated by `/` and spelled like rows, and writes their results,
+/// with a mark between any two.
 pub fn answer_steps<R: RowInterpreter>(
     rows: &mut R,
     row: &mut Row,
@@ -97,7 +98,7 @@ fn write_rows<R: RowInterpreter>(
     all_read
 }
 
-/// Writes all answers to the standard output, and says whether that could be done.
+/// Writes the whole output to the standard output, and returns whether that succeeded.
 pub fn is_told(rt: &HostRuntime, out: &Answer) -> bool {
     match out.text() {
         Ok(text) => io::writer(rt).write_all(text.as_bytes()).is_ok(),
@@ -105,7 +106,8 @@ pub fn is_told(rt: &HostRuntime, out: &Answer) -> bool {
     }
 }
 
-/// Answers the script on the standard input. The status is 1 where a row can't be read, and 2 where the script can't, or the answers not be written.
+/// Runs the script on the standard input. The exit code is 1 if a row cannot be read, and 2 if the script cannot be
+/// read or the output cannot be written.
 pub fn answer_script<R: RowInterpreter>(rt: &HostRuntime, rows: &mut R) -> ExitCode {
     let Ok(script) = io::read_to_string(rt.alloc(), rt.reader()) else {
         return ExitCode::from(2);
