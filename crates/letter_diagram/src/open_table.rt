@@ -1,13 +1,13 @@
-//! What the open tables of this crate have in common: slots with the numbers of items, each where its item is looked for.
+//! The common part of this crate's open-addressing hash tables: slots with the numbers of items.
 ghost use Rattle.std.specs.Prelude.{IfSome};
 ghost use Rattle.letter_diagram.specs.OpenTable.{IsFirstFree};
 
 use crate::probing::place;
 
-/// What stands in a slot that is free.
+/// The entry of a free slot.
 pub(crate) const FREE: u32 = u32::MAX;
 
-/// The first free slot that is met from a start.
+/// Returns the first free slot of the probe sequence of a hash.
 pub(crate) fn first_free(slots: &[u32], start: usize) -> Option<usize>
     ensures { IfSome result (IsFirstFree slots.now start) }
 {

@@ -1,4 +1,4 @@
-//! Sets of numbers, numbered in the order in which they were first seen.
+//! Sets of numbers, numbered in the order of their first occurrence.
 ghost use Rattle.std.specs.Prelude.{◌≡◌, ◌≢◌, ◌≤◌, ◌<◌, ◌^◌, ◌+◌, ◌-◌, [], ◌∷◌, ◌++◌, List, ℕ, length, map, slice_get, Some, None, Contains, IfOk, IfSome, OnOk, OnErr, IsSome, IsTrue, All, AllPairs, ◌↔◌};
 ghost use Rattle.std.specs.List.Sorted.{IsStrictlyIncreasing};
 ghost use Rattle.letter_diagram.specs.Numbering.{HasNoNumberLeft};
@@ -11,7 +11,7 @@ use crate::probing::{place, scatter, slots_for};
 use std::alloc::{AllocError, AllocFailed, Global};
 use std::marker::Model;
 
-/// The elements of either of two lists, in ascending order and without repeats.
+/// Returns the union of two lists as an ascending list without repeats.
 fn union(alloc: Global, a: &[u32], b: &[u32]) -> Result<Vec<u32>, AllocError>
     ensures ascends { IfOk result (λ both. IsStrictlyIncreasing both.items) }
     ensures members { IfOk result (λ both. HasElementsOfEither a.now b.now both.items) }
@@ -23,7 +23,7 @@ fn union(alloc: Global, a: &[u32], b: &[u32]) -> Result<Vec<u32>, AllocError>
     Ok(both)
 }
 
-/// The number from which a set is looked for.
+/// Returns the hash of a set.
 fn start(set: &[u32]) -> usize
     ensures { result ≡ start_of set.now }
 {
@@ -34,7 +34,7 @@ fn start(set: &[u32]) -> usize
     start
 }
 
-/// The number of a set, where it has one.
+/// Returns the number of a set, if it has one.
 fn find(slots: &[u32], sets: &[Vec<u32>], set: &[u32]) -> Option<u32>
     requires { IsHashed start_of slots.now (map (λ s. s.items) sets.now) }
     ensures some { IfSome result (λ number. slice_get (map (λ s. s.items) sets.now) number ≡ Some set.now) }
@@ -54,7 +54,7 @@ fn find(slots: &[u32], sets: &[Vec<u32>], set: &[u32]) -> Option<u32>
     None
 }
 
-/// Adds a new set, whose number is put into the first free slot that is met where it is looked for.
+/// Appends a new set, and writes its number into the first free slot of its probe sequence.
 fn add(
     sets: &mut Vec<Vec<u32>>,
     slots: &mut [u32],
@@ -75,14 +75,15 @@ fn add(
     Ok(number as u32)
 }
 
-/// Sets of numbers with a number each. The numbers stand in an open table, where the sets are looked for.
+/// Distinct sets of numbers, each an ascending list. The number of a set is its index; an open-addressing hash table finds it.
+/// There are at most 2^32 - 1.
 pub struct Sets {
     sets: Vec<Vec<u32>>,
     slots: Vec<u32>,
 }
 
 impl Drop for Sets {
-    /// Lets the sets go. Written out, so that a body that lets sets go has a call here in place of their fields' drops.
+    /// Drops the sets. Written by hand, so that a function that drops a `Sets` calls this instead of dropping each field.
     fn drop(self) {
         let Sets { sets: _, slots: _ } = self;
     }
@@ -99,6 +100,7 @@ impl Model for Sets {
 }
 
 impl Sets {
+    /// Returns an empty list of sets.
     pub fn new(alloc: Global) -> Self
         ensures { result ≡ [] }
     {
@@ -108,7 +110,7 @@ impl Sets {
         }
     }
 
-    /// How many sets are numbered.
+    /// Returns the number of sets.
     pub fn len(&self) -> usize
         ensures len { result ≡ length self.now }
         ensures small { length self.now < 2 ^ 32 }
@@ -118,14 +120,14 @@ impl Sets {
         self.sets.len()
     }
 
-    /// Whether no set is numbered.
+    /// Returns whether there are no sets.
     pub fn is_empty(&self) -> bool
         ensures { IsTrue result ↔ (self.now ≡ []) }
     {
         self.sets.is_empty()
     }
 
-    /// The set of a number, in ascending order.
+    /// Returns the set with a number, in ascending order, if there is one.
     pub fn get(&self, number: u32) -> Option<&[u32]>
         ensures known { IsSome result ↔ (number < length self.now) }
         ensures set { IfSome result (λ set. slice_get self.now number ≡ Some set.now) }
@@ -134,7 +136,8 @@ impl Sets {
         Some(set.as_slice())
     }
 
-    /// The number of a set, which is added where it is new.
+    /// Returns the number of a set, and adds the set if it is new. Errors: `Full` if it is new and all numbers are in use, `Memory`
+    /// if an allocation fails.
     pub fn number(&mut self, set: &[u32]) -> Result<u32, NumberingError>
         requires { IsStrictlyIncreasing set.now }
         ensures number { IfOk result (λ number. slice_get self.new number ≡ Some set.now) }
@@ -152,7 +155,7 @@ impl Sets {
         Ok(self.push(set)?)
     }
 
-    /// The number of a set, where there is room for one more.
+    /// Returns the number of a set, and adds the set if it is new; a number is known to be free.
     fn add(&mut self, set: Vec<u32>) -> Result<u32, AllocError>
         requires ascends { IsStrictlyIncreasing set.items }
         requires room { length self.old < 2 ^ 32 - 1 }
@@ -169,7 +172,7 @@ impl Sets {
         Ok(number)
     }
 
-    /// The number of a set that is new, where there is room for one more.
+    /// Adds a new set, and returns its number; a number is known to be free.
     fn push(&mut self, set: Vec<u32>) -> Result<u32, AllocError>
         requires ascends { IsStrictlyIncreasing set.items }
         requires absent { ¬ Contains self.old set.items }
@@ -187,7 +190,7 @@ impl Sets {
         Ok(number)
     }
 
-    /// Sees that less than half of the slots are taken.
+    /// Doubles the slots if half of them are used.
     fn make_room(&mut self) -> Result<(), AllocError>
         ensures { self.new ≡ self.old }
     {
@@ -198,7 +201,7 @@ impl Sets {
         Ok(())
     }
 
-    /// Twice as many slots, with the same numbers.
+    /// Returns twice as many slots with the same numbers.
     fn grown(&self) -> Result<Vec<u32>, AllocError>
         ensures { IfOk result (λ slots. IsHashed start_of slots.items self.now) }
     {
@@ -214,7 +217,7 @@ impl Sets {
         Ok(slots)
     }
 
-    /// The number of the union of two numbered sets, where there is room for one more.
+    /// Returns the number of the union of two numbered sets, and adds the union if it is new; a number is known to be free.
     pub fn unite(&mut self, a: u32, b: u32) -> Result<u32, AllocError>
         requires a_known { a < length self.old }
         requires b_known { b < length self.old }

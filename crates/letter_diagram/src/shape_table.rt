@@ -1,4 +1,4 @@
-//! Shapes, numbered in the order in which they were first seen.
+//! Shapes, numbered in the order of their first occurrence.
 ghost use Rattle.std.specs.Prelude.{◌≡◌, [], ◌∷◌, ◌++◌, slice_get, Some, IfOk, IfSome, OnOk, OnErr};
 ghost use Rattle.letter_diagram.specs.OpenTable.{IsHashed, IsFirstFree};
 ghost use Rattle.letter_diagram.specs.ShapeTable.{start_of, IsFound, AddsShape};
@@ -9,19 +9,18 @@ use crate::probing::{place, scatter, slots_for};
 use std::alloc::{AllocError, Global};
 use std::marker::Model;
 
-/// What is found of a shape.
+/// The result of a search for a shape.
 #[derive(Clone, Copy)]
 enum Found {
-    /// Its number.
+    /// The number of the shape.
     Number(u32),
-    /// No number, but the place of a slot for it.
+    /// The index of a free slot for the shape.
     Free(usize),
-    /// Neither.
+    /// Neither: the table has no free slot.
     Nothing,
 }
 
-/// The number from which a shape is looked for. Of a test both sides count and not the track: few tests have the same sides and
-/// look at another track.
+/// Returns the hash of a shape. The track of a test is not hashed: few tests have the same branches on different tracks.
 fn start(shape: &Shape) -> usize
     ensures { result ≡ start_of shape.now }
 {
@@ -31,7 +30,7 @@ fn start(shape: &Shape) -> usize
     }
 }
 
-/// The number of a shape, or the first free slot that is met where it is looked for.
+/// Returns the number of a shape, or the first free slot of its probe sequence.
 fn find(slots: &[u32], shapes: &[Shape], shape: &Shape) -> Found
     requires { IsHashed start_of slots.now shapes.now }
     ensures { IsFound slots.now shapes.now shape.now result }
@@ -50,7 +49,7 @@ fn find(slots: &[u32], shapes: &[Shape], shape: &Shape) -> Found
     Found::Nothing
 }
 
-/// Adds a new shape, whose number is put into the first free slot that is met where it is looked for.
+/// Appends a new shape, and writes its number into the first free slot of its probe sequence.
 fn add(
     shapes: &mut Vec<Shape>,
     slots: &mut [u32],
@@ -73,8 +72,7 @@ fn add(
     Ok(number as u32)
 }
 
-/// Shapes without repeats, and their numbers in an open table: they stand where the shapes are looked for. There are at most
-/// 2^32 - 1.
+/// Distinct shapes, and their numbers in an open-addressing hash table. There are at most 2^32 - 1.
 #[derive(Drop)]
 pub(crate) struct ShapeTable {
     shapes: Vec<Shape>,
@@ -114,19 +112,19 @@ impl ShapeTable {
         })
     }
 
-    /// The allocator that the shapes are kept in.
+    /// Returns the allocator of the shapes.
     pub(crate) fn alloc(&self) -> Global {
         *self.shapes.allocator()
     }
 
-    /// The shapes, in the order of their numbers.
+    /// Returns the shapes, in the order of their numbers.
     pub(crate) fn as_slice(&self) -> &[Shape]
         ensures { result.now ≡ self.now }
     {
         self.shapes.as_slice()
     }
 
-    /// The same shapes, with the same numbers.
+    /// Copies the table; shapes keep their numbers.
     pub(crate) fn copy(&self) -> Result<Self, AllocError>
         ensures { IfOk result (λ copy. copy ≡ self.now) }
     {
@@ -136,7 +134,8 @@ impl ShapeTable {
         })
     }
 
-    /// The number of a shape, which is added where it is new. One shape more than there may be is refused as want of memory.
+    /// Returns the number of a shape, and adds it if it is new. If all 2^32 - 1 numbers are in use, a new shape is refused as an
+    /// allocation failure.
     pub(crate) fn number(&mut self, shape: Shape) -> Result<u32, AllocError>
         ensures number { IfOk result (λ number. slice_get self.new number ≡ Some shape) }
         ensures adds { AddsShape self.old self.new shape }
@@ -147,7 +146,7 @@ impl ShapeTable {
         Ok(number)
     }
 
-    /// Sees that less than half of the slots are taken.
+    /// Doubles the slots if half of them are used.
     fn make_room(&mut self) -> Result<(), AllocError>
         ensures { self.new ≡ self.old }
     {
@@ -158,7 +157,7 @@ impl ShapeTable {
         Ok(())
     }
 
-    /// Twice as many slots, with the same numbers.
+    /// Returns twice as many slots with the same numbers.
     fn grown(&self) -> Result<Vec<u32>, AllocError>
         ensures { IfOk result (λ slots. IsHashed start_of slots.items self.now) }
     {
@@ -173,7 +172,7 @@ impl ShapeTable {
         Ok(slots)
     }
 
-    /// The number of a shape, where a slot is free.
+    /// Returns the number of a shape, and adds it if it is new, in a table with a free slot.
     fn find_or_add(&mut self, shape: Shape) -> Result<u32, AllocError>
         ensures number { IfOk result (λ number. slice_get self.new number ≡ Some shape) }
         ensures adds { AddsShape self.old self.new shape }
