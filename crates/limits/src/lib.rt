@@ -1,4 +1,4 @@
-//! Defines the limits of the program, each once: a type for budgets, and constants for the others.
+//! Defines the program's limits: a type for budgets, and a constant for each other limit.
 #![tactic(auto)]
 
 mod budget;

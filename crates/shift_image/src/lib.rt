@@ -1,6 +1,7 @@
-//! Where a step leads from the members of a set: some of a tuple's values change by numbers, and what comes out is told by a formula that
-//! binds the old values. Its automaton is the set's, with tracks moved, in place of products and projections, wherever that shows that no
-//! step of the formula exceeds the budget; elsewhere the formula is compiled as it stands.
+//! Compiles images of sets under changes of some values by constants.
+//! The formula of an image binds the old values; a step along a near ray is of this form. Its automaton is that of the set with
+//! shifted tracks, without products and projections, if that shows that no step of the formula exceeds the budget. Otherwise the
+//! formula is compiled as any other.
 #![tactic(auto)]
 
 mod compiling;
