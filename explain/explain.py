@@ -1,10 +1,10 @@
 #!/usr/bin/env python3
-"""usage: explain/explain.py CODE TOLD WORDS.. < TEXT
+"""usage: explain/explain.py CODE OUTPUT ARGUMENTS.. < TEXT
 
-Says in a sentence why a run of `mate` ended as it did. CODE is its code, TOLD what it wrote on standard output or the last line of it, WORDS are its
-words, and the standard input is what it had; that is read only where it is a file, and looked at in the folder of the run. What is said comes from
-sentences.txt, by the reason that the program told and by what is seen of the text beside it; where the text does not show what the program told, only the
-program's reason is explained. Nothing here is proved. trial.py tries the rows of rows.txt.
+Says in a sentence why a run of `mate` ended as it did. CODE is its exit code, OUTPUT its standard output or the last line of it, ARGUMENTS are its arguments, and
+standard input is its input, which is read only if it is a file. Call it in the folder of the run. The sentence comes from sentences.txt, by the reason that the
+program printed and by what is found in the text; if the text does not show that reason, only the reason is explained. Nothing here is proved. trial.py tests it
+by the rows of rows.txt.
 """
 import collections
 import difflib

@@ -1,8 +1,8 @@
 #!/usr/bin/env python3
 """usage: explain/trial.py [PROGRAM]
 
-Tries the rows of rows.txt: the sentences of explain.py and, where a program is named, the code and the last line of each run. A reason of sentences.txt that
-no row has is told too. The code is 0 where nothing differs, and else 1.
+Tests explain.py by the rows of rows.txt: the sentences and, if a program is given, the code and the last line of each run. Also lists the reasons of
+sentences.txt that have no row. The exit code is 0 if nothing differs, otherwise 1.
 """
 import os
 import re

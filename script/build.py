@@ -28,7 +28,7 @@ from words import refuse
 
 # Seconds between two lines that tell how far a build is.
 BETWEEN = 60
-HOW_LONG = "that takes about half an hour on four processors; ./mate unproved COMMAND.. takes two or three minutes, and is not proved"
+HOW_LONG = "this takes about half an hour on four processors; ./mate unproved COMMAND.. takes two or three minutes but is not proved"
 
 
 @dataclass
@@ -80,7 +80,7 @@ class Build:
     def greet(self):
         new = self.to_prove()
         kept = f"; {len(self.kept)} of {counted(len(self.crates), 'crate')} kept of an earlier build" if self.kept else ", none kept of an earlier build"
-        say(f"building the program first, with its proofs: {self.all_size(new)} lines of code in {counted(len(new), 'crate')}{kept}")
+        say(f"building the program with its proofs first: {self.all_size(new)} lines of code in {counted(len(new), 'crate')}{kept}")
         if not self.kept:
             say(HOW_LONG)
 
@@ -248,7 +248,7 @@ def see_to_unproved(words):
     if is_unproved_built(kit, sources_of(TOP)):
         say("this run is not proved")
         return True
-    say("this run is not proved: its program is made without proofs now, which takes two or three minutes; later runs begin at once")
+    say("this run is not proved: its program is now built without proofs, which takes two or three minutes; later runs start at once")
     return in_builder(lambda: build_unproved(kit))
 
 

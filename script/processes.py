@@ -43,7 +43,7 @@ def in_builder(make):
         except (Ended, BrokenPipeError):
             pass
         except Exception as why:
-            say(f"the build ends, since {why}")
+            say(f"the build ends because {why}")
         finally:
             os._exit(code)
     caught = []
@@ -59,7 +59,7 @@ def in_builder(make):
     _, status = os.waitpid(builder, 0)
     if caught:
         if caught[0] != signal.SIGPIPE:
-            say("stopped; what was made by now is kept for the next time")
+            say("stopped; what was built so far is kept for the next time")
         signal.signal(caught[0], signal.SIG_DFL)
         os.kill(os.getpid(), caught[0])
     return status == 0

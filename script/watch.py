@@ -97,7 +97,7 @@ class Run:
         if command in explain.GAMES:
             has_text = command == "resume" or not os.isatty(0)
             awaited = MOVES if command == "defend" else REPLIES
-            say([f"reading {awaited}" if has_text else f"reading a position, up to its line `end`, and then {awaited}"])
+            say([f"reading {awaited}" if has_text else f"reading a position up to its line `end`, then {awaited}"])
         elif command in TYPED and os.isatty(0):
             say([f"reading {TYPED[command]}"])
 
