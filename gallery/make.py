@@ -307,7 +307,7 @@ def outcome(engine, words, text, most_seconds):
 
 def tried_lines(engine):
     """Returns the section on what passes every budget, with the step that the engine names."""
-    lines = ["Asked for with the greatest budget. The step that passes it is named by the engine; docs/FORMATS.md says how to read its line.", ""]
+    lines = ["Decided with the greatest budget. The engine names the step that exceeds it; see [FORMATS](FORMATS.md#exit-codes).", ""]
     lines += ["| White / Black | command | outcome |", "|---|---|---|"]
     numbers = {"mate in": [], "over budget": [], "no answer": []}
     for number, tried in enumerate(TRIED, 1):
@@ -317,8 +317,8 @@ def tried_lines(engine):
         next(its for part, its in numbers.items() if part in told).append(f"{number}")
     said = {
         "mate in": "Decided: position {}.",
-        "over budget": "Past every budget: position {}. Whether White mates there within this number of moves, the engine cannot say.",
-        "no answer": "Ended for want of time: position {}. It is not known whether the budget is enough there.",
+        "over budget": "Over every budget: position {}. The engine cannot decide whether White mates there within this number of moves.",
+        "no answer": "Out of time: position {}. It is not known whether the budget is enough there.",
     }
     return [*lines, "", *[said[part].format(", ".join(its)) for part, its in numbers.items() if its], ""]
 
@@ -332,7 +332,7 @@ def search_lines(engine):
         told = outcome(engine, words, text_of(men, "W"), SEARCH.most_seconds)
         longest = max(longest, int(told.split()[1]) if told.startswith("least ") else 0)
         lines.append(f"| {men} | `{told}` |")
-    end = f"The longest least number found among these {len(SEARCH.positions)} is {longest}. Others were not searched, so a longer one may stand elsewhere."
+    end = f"The longest least number found among these {len(SEARCH.positions)} is {longest}. Others were not searched, so there may be longer ones."
     return [SEARCH.sentence, "", f"Command: `{words}`, for at most {SEARCH.most_seconds} s each.", "", *lines, "", end, ""]
 
 
@@ -382,8 +382,8 @@ def whose(engine):
     """Returns the sentence on the programs that gave the answers."""
     others = sum(it.get("by") != OWN for it in engine.answers.values())
     if not others:
-        return "All answers here are those of the proved program, `./mate`."
-    return f"Of the {len(engine.answers)} answers, {others} are those of a build of the same sources without their proofs."
+        return "All answers are those of the proved program, `./mate`."
+    return f"Of the {len(engine.answers)} answers, {others} are those of a build of the same sources without proofs."
 
 
 def page_of(engine, sections, left_out):
@@ -392,7 +392,7 @@ def page_of(engine, sections, left_out):
     with open(f"{HERE}/by-hand.md", encoding="utf-8") as it:
         hand = it.read()
     head += f"\n{whose(engine)}\n"
-    head += f"\nLeft out here, since their answers were not kept: {', '.join(left_out)}.\n" * bool(left_out)
+    head += f"\nLeft out, because their answers were not kept: {', '.join(left_out)}.\n" * bool(left_out)
     parts = [line for title, lines in sections.items() if lines for line in (f"## {title}", "", *lines)]
     return "\n".join([head, *parts, hand])
 
