@@ -1,11 +1,11 @@
-"""Claims of a hemmed king, whose rule `stale` has to tell more words apart than any step before it.
+"""Claims of a hemmed king, whose rule `stale` needs more states than any step before it.
 
-Black's king on 0 0 has no square: his pawn stands on 0 1, and White's king on 2 1 and his amazon on -3 -1 hold the others. White's pawns on files
-1 and -1 and his knight on file -2 stand on any even rank. Black has a move where a pawn stands on rank 0, since his pawn takes it, and where the
-knight stands there, since he is in the amazon's way to -1 1; else there is stalemate. So the set of ply 0 knows nothing of how far a rank may
-still become 0, but for the common number of letters, and each option of Black looks at one of the three men. What all of them reach has to tell
-apart which of the three may still stand on rank 0, and the difference does so beside what is claimed. All ranks are greater by a height,
-which makes the words longer. White answers by the king's step to 3 1. The sets of ply 2 are those that he leads to.
+Black's king on 0 0 has no square: his pawn is on 0 1, and White's king on 2 1 and his amazon on -3 -1 have the others. White's pawns on files
+1 and -1 and his knight on file -2 are on any even rank. Black has a move if a pawn is on rank 0, since his pawn takes it, and if the knight is
+there, since he blocks the amazon's way to -1 1; otherwise it is stalemate. So the set of ply 0 does not depend on how far a rank may still become
+0, except for the common number of letters, and each option of Black tests one of the three men. The union of what they reach distinguishes
+which of the three may still be on rank 0, and the difference also what is claimed. All ranks are increased by a height, which makes the words
+longer. White answers by the king's step to 3 1. The sets of ply 2 contain what he reaches.
 """
 import struct
 

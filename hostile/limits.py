@@ -1,16 +1,16 @@
 #!/usr/bin/env python3
 """usage: limits.py [PROGRAM] [PART ..]
 
-Runs the program `mate` at the limits of a machine, and prints each run with its end. The parts are
+Runs the program `mate` at the limits of a machine, and prints how each run ends. The parts are
 
-  memory   `decide 20` on five men, with the address space limited: the end is a code with its cause, no kill
+  memory   `decide 20` on five men with a limited address space: it must end with a code, not be killed
   slow     the input comes byte by byte, or in pieces between which the process is stopped; a slow reader of the output
   closed   the output is closed before or after its first byte, or full; the input is closed, or a folder
   store    the files of the folder cannot be opened, written, synced or renamed
-  signals  `keep` and `migrate` are ended by SIGTERM and SIGKILL at many moments, and before each call that they make for a file: the old file or
-           the new one is then there whole, and beside it at most NAME.new; and commands that keep no file, which leave the folder as it was
+  signals  `keep` and `migrate` are ended by SIGTERM and SIGKILL at many moments, and before each of their file calls: the old file or the new one
+           must be complete, with at most NAME.new next to it; and commands that keep no file, which must leave the folder as it was
 
-PROGRAM is ../crates/mate_main/out/mate_main if left out. The code is 0 where each run ended as it has to, and else 1.
+PROGRAM is by default ../crates/mate_main/out/mate_main. The exit code is 0 if each run ended as it must, otherwise 1.
 """
 import os
 import pathlib

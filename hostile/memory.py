@@ -1,12 +1,12 @@
 #!/usr/bin/env python3
 """usage: memory.py [PROGRAM] [--stride N] [--all-from] [COMMAND ..]
 
-Runs commands of the program `mate` with the allocation of each number in turn failing, or each N-th, and prints each number whose end is
-neither code 10 nor the answer of the run with none failing. With --all-from each later allocation fails as well. A run that ends with code
-10 may write `memory` alone (nothing, where it is the words that have no room), and has to leave the files of its folder as they were.
+Runs commands of the program `mate` and lets each allocation in turn fail, or each N-th, and prints each number whose end is neither code 10 nor the
+answer of the run without a failure. With --all-from all later allocations fail too. A run that ends with code 10 may print only `memory` (or
+nothing, if there is no room for the arguments), and must leave the files of its folder as they were.
 
-A run is not begun anew for each number: memory.c, which `cc` makes into a library for this, doubles the process at the allocation and lets
-it fail in the copy. PROGRAM is ../crates/mate_main/out/mate_main if left out. The code is 0 where nothing was found, and else 1.
+A run does not start again for each number: memory.c, which `cc` makes into a library for this, forks the process at the allocation and lets it fail
+in the copy. PROGRAM is by default ../crates/mate_main/out/mate_main. The exit code is 0 if nothing was found, otherwise 1.
 """
 import argparse
 import os

@@ -1,11 +1,11 @@
 #!/usr/bin/env python3
 """usage: random_runs.py [PROGRAM] [--seed S] [--count N]
 
-Runs the program `mate` N times, with words, texts, formulas, replies and files drawn from the seed: changes of good ones, and new ones put together of
-the pieces that the formats know. Each run has to end within 60 seconds of the processor with a code of docs/FORMATS.md, without a byte on standard error, with the
-output that belongs to the command and the code, and with the files that it has to leave: where a reader of this folder's own (reader.py) says what
-has to come, with just that. Each run that ends otherwise is printed. Then the codes are counted, and the commands; so it is behind SIGTERM, too. PROGRAM is
-../crates/mate_main/out/mate_main if left out; the code is 0 where nothing was found.
+Runs the program `mate` N times, with arguments, texts, formulas, replies and files drawn from the seed: changes of good ones, and new ones combined from
+the pieces of the formats. Each run must end within 60 seconds of processor time with a code of docs/FORMATS.md, with nothing on standard error, with the
+output of the command and the code, and with the files that it has to leave; if reader.py knows the answer, with exactly that. Other runs are printed.
+Then the codes and commands are counted; so it is after SIGTERM. PROGRAM is by default ../crates/mate_main/out/mate_main; the exit code is 0 if nothing was
+found.
 """
 import argparse
 import collections

@@ -1,6 +1,7 @@
-"""A reader of words, texts, formulas and replies, and a referee of mates, written from docs/FORMATS.md; it shares nothing with the program. Files are read, and attacks found,
-by ../crates/file_trials/random_files.py, which is such a reader too. A man is (side, kind, place): side 0 White, 1 Black; the kinds
-king, queen, rook, bishop, knight, pawn, chancellor, archbishop, amazon, nightrider are 0 to 9; the place of a captured man is None."""
+"""A reader of arguments, texts, formulas and replies, and a referee of mates, written from docs/FORMATS.md; it shares nothing with the program. Files are
+read, and attacks found, by ../crates/file_trials/random_files.py, which is such a reader too. A man is (side, kind, place): side 0 White, 1 Black; the kinds
+king, queen, rook, bishop, knight, pawn, chancellor, archbishop, amazon, nightrider are 0 to 9; the place of a captured man is None.
+"""
 import collections
 import math
 import pathlib

@@ -1,11 +1,11 @@
 #!/usr/bin/env python3
 """usage: spread_runs.py [PROGRAM] [--seed S] [--count N] [--most M]
 
-Which step is named over a budget, against a second count. N times a position, a claim or a formula is drawn from the seed; spreads.cpp counts the
-spread of each of its steps from the written rules, in another language and by other means, up to M classes; and the program is run at each
-record of the spreads, with the budget that is one less and with that budget: it has to name that step, and then the next one, or to answer.
-First come a position and a claim that name steps which nothing drawn does. The claims that are drawn are the files that the program keeps, and such files with tuples put in and taken out, with other sets, or with another position.
-Each run that ends otherwise is printed; so is what was counted, behind SIGTERM too. PROGRAM is ../crates/mate_main/out/mate_main if left out; the code is 0 where nothing was found.
+Compares the step that is named over a budget with a second count. N times a position, a claim or a formula is drawn from the seed; spreads.cpp computes from
+the definitions how many states each of its steps needs, up to M, in another language and by other means. The program runs at each record of these numbers,
+with that budget and one less: it must name that step, and then the next one, or answer. First come a position and a claim for steps that nothing drawn names. The
+claims are files that the program keeps, also with tuples added and removed, with other sets, or with another position. Runs that end otherwise are printed, and
+what was counted, also after SIGTERM. PROGRAM is by default ../crates/mate_main/out/mate_main; the exit code is 0 if nothing was found.
 """
 import argparse
 import collections

@@ -1,11 +1,11 @@
 #!/usr/bin/env python3
 """usage: two_engines.py [PROGRAM] [--seed S] [--count N] [--seconds T]
 
-Draws positions of two to eight men from the seed, asks each of `decide` and, as a crowd's text, of `crowd`, and compares what they write. The two
-computations share little: the one goes by the squares of all men, the other by the distances of the moves. It ends when N positions were answered by
-both; each other run ended past the budget, for want of memory, or after T seconds of the processor, and is counted. Most positions have the loser's
-king near strong men, and where `crowd` finds no mate, `decide` is asked only while less than three in four answers are that. PROGRAM is ../crates/mate_main/out/mate_main if left out; the code is 0 where no
-answer differs.
+Draws positions of two to eight men from the seed, decides each by `decide` and, as a crowd's text, by `crowd`, and compares the output. The two computations
+share little: the first uses the squares of all men, the second the distances of the moves. It ends when N positions were answered by both; other runs exceeded
+the budget, the memory or T seconds of processor time, and are counted. In most positions the loser's king is near strong men, and if `crowd` finds no mate,
+`decide` is called only while fewer than three in four answers are that. PROGRAM is by default ../crates/mate_main/out/mate_main; the exit code is 0 if no answer
+differs.
 """
 import argparse
 import collections

@@ -1,4 +1,4 @@
-"""Makes random files, and random changes of good ones, and compares what the program answers with a reader of its own.
+"""Makes random files, and random changes of good ones, and compares the program's answers with a reader of its own.
 
     python3 random_files.py SEED COUNT PROGRAM
 

@@ -1,10 +1,10 @@
 #!/usr/bin/env python3
-"""Makes what `run_trials` has to write of a script, from the answers that stand in the script.
+"""Makes the expected output of a script of `run_trials` from the answers in the script.
 
-usage: answers.py SCRIPT > stdout        the whole output, from the lines that begin with `#=` alone
-       answers.py SCRIPT --count         how many runs stand under each heading, a line that begins with `##`
+usage: answers.py SCRIPT > stdout        the whole output, from the lines that begin with `#=` only
+       answers.py SCRIPT --count         how many runs are under each heading, a line that begins with `##`
 
-No program is run. docs/TRIALS.md says how a script and its answers are written.
+No program is run. docs/TESTING.md describes a script and its answers.
 """
 import re, sys
 

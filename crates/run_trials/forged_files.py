@@ -1,10 +1,10 @@
 #!/usr/bin/env python3
 """usage: forged_files.py PROGRAM [SEED]
 
-Writes strategy files that the program did not write, in a folder of its own, and compares what `check` says of each with what chess says.
-First come strategies that are written otherwise: with states in another order, and with more states than the words need, drawn from the
-seed. They have to be accepted. Then come claims that are no strategy, each with the first rule that it does not keep, by docs/FORMATS.md.
-Each is written in both versions. The automata are made here, from the format alone. The code is 0 where all is as it should be, and else 1.
+Writes strategy files that the program did not write, in a folder of its own, and compares the answer of `check` for each with chess. First come
+strategies that are written otherwise: with states in another order, drawn from the seed, and more states than needed. They must be accepted. Then
+come claims that are no strategy, each with the first rule that it breaks, by docs/FORMATS.md. Each is written in both versions. The automata are
+made here, from the format alone. The exit code is 0 if all answers are right, otherwise 1.
 """
 import random
 import struct

@@ -1,8 +1,8 @@
-"""Makes `stdout` of a program of trials from the answers that stand in its script beside the rows.
+"""Makes `stdout` of a test program from the answers next to the rows of its script.
 
     python3 crates/trial_rows/answers.py crates/diagram_trials
 
-Each row of `stdin` but one that names something is followed by a line `#= ANSWER`, or by several. Nothing is run.
+Each row of `stdin`, except those that only name something, is followed by one or more lines `#= ANSWER`. Nothing is run.
 """
 
 import pathlib
