@@ -189,7 +189,7 @@ def of_name(word):
 def due_at(number, men, grammar):
     """Returns what is due on a line of a text."""
     if number < 3:
-        return [f"`{grammar.header}`", "who is to move, `turn W` or `turn B`"][number - 1]
+        return [f"`{grammar.header}`", "the side to move, `turn W` or `turn B`"][number - 1]
     return "a man's line" if men < chess.FEWEST_MEN else "`end`" if men == grammar.most_men else "a man's line or `end`"
 
 
@@ -376,16 +376,16 @@ class Formula:
         if word in ("le", "eq"):
             return self.comparison(scope)
         if word in ("ex", "all"):
-            letter = self.next("a letter from `a` to `p` that no quantifier around it has", lambda it: re.fullmatch("[a-p]", it) and it not in scope)
+            letter = self.next("a letter from `a` to `p` that no outer quantifier has", lambda it: re.fullmatch("[a-p]", it) and it not in scope)
             return self.formula([*scope, letter])
         for _ in range(1 if word == "not" else 2):
             self.formula(scope)
 
     def comparison(self, scope):
         used = []
-        around = "a letter that a quantifier around it has, and each stands once"
-        for _ in range(int(self.number("how many products follow, 1 to 8", 1, 8))):
-            self.next("a number from -64 to 64 and not 0", lambda it: len(it) < 4 and chess.NUMBER.fullmatch(it) and 0 < abs(int(it)) <= 64)
+        around = "a letter of an outer quantifier, each at most once"
+        for _ in range(int(self.number("the number of products, 1 to 8", 1, 8))):
+            self.next("a number from -64 to 64 except 0", lambda it: len(it) < 4 and chess.NUMBER.fullmatch(it) and 0 < abs(int(it)) <= 64)
             used.append(self.next(around, lambda it: it in scope and it not in used))
         self.number("the bound, a number from -1000 to 1000", -1000, 1000)
 
