@@ -1,4 +1,4 @@
-//! The spelling of an automaton: fields in prefix form, as `docs/CALLS.md` has them.
+//! The spelling of an automaton: fields in prefix form, as `docs/TESTING.md` has them.
 
 use crate::letters::{var, vars};
 use crate::reduced_auto::{ReducedAuto, check_atom, grown, joined, made, others};

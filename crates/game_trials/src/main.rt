@@ -1,7 +1,7 @@
 //! The test program `game_trials`: performs a script of rows from the standard input and writes the result of each row.
 //!
 //! The rows call positions, moves, replies, in-memory ports, solvers and games, by calls that no command of the program
-//! `mate` makes. `docs/CALLS.md` describes the rows.
+//! `mate` makes. `docs/TESTING.md` describes the rows.
 #![tactic(auto)]
 
 mod ports;

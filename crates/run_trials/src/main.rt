@@ -1,5 +1,5 @@
 //! The test program `run_trials`: performs the runs of a script from the standard input and writes what they did to the
-//! standard output. docs/TRIALS.md describes the script.
+//! standard output. docs/TESTING.md describes the script.
 #![tactic(auto)]
 
 mod case;
