@@ -110,13 +110,13 @@ fn class_flags<R: RowSource>(
 #[derive(Drop)]
 struct Once {
     auto: Auto,
-    /// Whether a way through other places led back to a place, so that some places may be alike that have classes of their own.
+    /// Whether a path through other places led back to a place, so that some equivalent places may have different classes.
     is_looped: bool,
-    /// Whether at most half of the places stayed, so that the table may have many nodes that are of no row any more.
+    /// Whether at most half of the places remained, so that the table may have many unreachable nodes.
     is_halved: bool,
 }
 
-/// The automaton over the classes of all places that rows lead to.
+/// Returns the automaton over the classes of all places that rows reach.
 fn merged<R: RowSource>(alloc: Global, rows: &R) -> Result<Once, Grown>
     ensures ok { IfOk result (λ once. IsMerged (R.graph rows.now) once.auto) }
     ensures over { result ≡ Err Grown.Over → MoreThan (R.graph rows.now).walker (R.graph rows.now).most }
@@ -136,7 +136,7 @@ fn merged<R: RowSource>(alloc: Global, rows: &R) -> Result<Once, Grown>
     })
 }
 
-/// What is left to merge is found by refinement. Nodes of no row are let go where they are many.
+/// Minimizes the automaton if equivalent states may remain, and removes unreachable nodes if they are many.
 fn settled(alloc: Global, once: Once) -> Result<Auto, AllocError>
     ensures tracks { IfOk result (λ m. m.tracks ≡ once.auto.tracks) }
     ensures words { IfOk result (HasSameWords once.auto) }
@@ -154,10 +154,11 @@ fn settled(alloc: Global, once: Once) -> Result<Auto, AllocError>
     Ok(once.auto)
 }
 
-/// The automaton of the words that lead to accepting places, with at most as many states as places that words lead to: places with one
-/// flag whose rows lead to the same states, or each to itself where the other leads to itself, become one. Where a way through other
-/// places leads back to a place, what that left is reduced. `Over` where words lead to more places than may be.
-/// Costs the spots of the rows, and once more those that lead to the place whose row they are in; and then the reduction.
+/// Returns an automaton of the words that reach accepting places, with at most as many states as places that words reach. Places
+/// with one flag whose rows lead to the same states, or each to itself where the other leads to itself, are merged.
+/// If a path through other places leads back to a place, the result is minimized. Costs the spots of the rows, a second time those
+/// that lead to their own place, and the minimization. Errors: `Over` if words reach more places than the limit, `Memory` if an
+/// allocation fails.
 pub fn merge_rows<R: RowSource>(alloc: Global, rows: &R) -> Result<Auto, Grown>
     ensures ok { IfOk result (IsMerged (R.graph rows.now)) }
     ensures over { result ≡ Err Grown.Over → MoreThan (R.graph rows.now).walker (R.graph rows.now).most }

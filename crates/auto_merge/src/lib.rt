@@ -1,11 +1,9 @@
-//! Fewer states in one pass: states that lead to the same states are merged, in place of the refinement that finds all that
-//! nothing tells apart.
-//! What one pass leaves where ways lead back through several states is reduced.
-//! It goes over the rows of an automaton, or over any rows that lead letters to places: they are merged as the places are found.
-//! `rows` says where rows come from, and `keys` what they are led to: the classes of places. `merging` gives classes by these, and `joining`
-//! says which may be shared. `visits` leads rows, and visits the places on the way that have no class yet, each within the visit of the one
-//! before; `walk` goes on where that would be too deep. `class_states` has the automaton over the classes, `state_rows` the rows of an
-//! automaton.
+//! Merges equivalent states in one pass over the rows: states with equal successor classes.
+//! If cycles through several states remain, the result is minimized. The rows are those of an automaton, or of any source that maps
+//! letters to places; places are merged as they are discovered.
+//! `rows` defines sources of rows, and `keys` rows mapped to classes. `merging` assigns classes by keys, and `joining` decides
+//! which may be shared. `visits` maps rows, and visits places without a class in nested visits; `walk` continues iteratively if the
+//! nesting is too deep. `class_states` builds the automaton over the classes, and `state_rows` has the rows of an automaton.
 #![tactic(auto)]
 
 mod class_states;

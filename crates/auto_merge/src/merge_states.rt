@@ -10,10 +10,10 @@ use auto_core::Auto;
 use auto_walk::Grown;
 use std::alloc::{AllocError, Global};
 
-/// An automaton of the same words with at most as many states: states with one flag whose rows lead to the same states, or each to itself
-/// where the other leads to itself, become one. Where a way through other states leads back to a state, what that left is reduced.
-/// States to which no row leads from the first one on are not looked at.
-/// Costs the nodes of the rows, and once more those that lead to the state whose row they are in; and then the reduction.
+/// Returns an automaton of the same words with at most as many states. States with one flag whose rows lead to the same states, or
+/// each to itself where the other leads to itself, are merged. Unreachable states are not visited.
+/// If a path through other states leads back to a state, the result is minimized. Costs the nodes of the rows, a second time those
+/// that lead to their own state, and the minimization. Errors: an allocation failed.
 pub fn merge(alloc: Global, a: &Auto) -> Result<Auto, AllocError>
     ensures tracks { IfOk result (λ m. m.tracks ≡ a.now.tracks) }
     ensures words { IfOk result (HasSameWords a.now) }
