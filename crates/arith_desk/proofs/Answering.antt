@@ -13,11 +13,12 @@ use Rattle.formula_auto.specs.Step.{FirstOver}
 use Rattle.formula_auto.specs.Compiled.{IsCompileError}
 use Rattle.formula_auto.specs.declared.errors.CompileError.{CompileError}
 use Rattle.formula_auto.specs.declared.errors.CompileError.TheVariants as compile_error
+use Rattle.auto_reduce.specs.Tables.{AcceptsNoWord}
 use Rattle.arith_desk.specs.declared.deciding.Truth.{Truth}
 use Rattle.arith_desk.specs.declared.deciding.Truth.TheVariants as truths
 use Rattle.arith_desk.specs.Question.{IsQuestion}
 use Rattle.arith_desk.specs.Truth.{Asks, HoldsWith, IsNearest, IsNearestFound, IsOver, IsTrueFormula, IsTruth, IsWithin, no_sets, with_zero}
-use Rattle.arith_desk.proofs.TruthLemmas.{HasNoWord, hit_holds, holds_hit, same_or_not, some_holds, some_word}
+use Rattle.arith_desk.proofs.TruthLemmas.{hit_holds, holds_hit, same_or_not, some_holds, some_word}
 
 nearest_along : {P : ℤ → Type 0} (Q : ℤ → Type 0) {w : ℤ} → ((n : ℤ) → P n → Q n) → ((n : ℤ) → Q n → P n) → IsNearest P w → IsNearest Q w
 nearest_along {P = P} Q {w} forth back is = record {
@@ -34,7 +35,7 @@ module _ (x : Var) (g : Tree) (question : IsQuestion (Ex x g)) (free : IsFree x 
   seek_near w found =
       (x, g, asks, nearest_along (HoldsWith x g) (hit_holds x g question free a decides) (holds_hit x g question free a decides) found.0, found.1)
 
-  pub seek_wide : IsReduced a → IsAutomaton a → (HasNoWord a → ⊥) → IsNearestFound (λ n. IsAccepted a (n ∷ pos 0 ∷ [])) None → IsTruth (Ex x g) truths.WitnessWide
+  pub seek_wide : IsReduced a → IsAutomaton a → (AcceptsNoWord a → ⊥) → IsNearestFound (λ n. IsAccepted a (n ∷ pos 0 ∷ [])) None → IsTruth (Ex x g) truths.WitnessWide
   seek_wide reduced valid some none =
       (x, g, asks, record { some = some_holds x g question free a decides (some_word reduced valid some); far = λ n h. none n (holds_hit x g question free a decides n h) })
 
@@ -45,10 +46,6 @@ AsksNothing f = (x : Var) (g : Tree) → ¬ Asks f x g
 -- the formula holds or not, and that is what the truth says
 abbrev pub IsPlainTruth : Tree → Truth → Type 0
 IsPlainTruth f truth = ((truth ≡ truths.True) × IsTrueFormula f) ⊎ ((truth ≡ truths.False) × (¬ IsTrueFormula f))
-
-pub plain_truth : (f : Tree) (truth : Truth) → AsksNothing f → IsPlainTruth f truth → IsTruth f truth
-plain_truth f truth nothing (inl (is, holds)) = subst (IsTruth f) (sym is) (holds, nothing)
-plain_truth f truth nothing (inr (is, fails)) = subst (IsTruth f) (sym is) fails
 
 pub plain_within : (f : Tree) (budget : ℕ) → AsksNothing f → FirstOver (steps f) no_sets budget 1 None → IsWithin f budget
 plain_within f budget nothing h = (f, inr (nothing, refl), h)
@@ -68,9 +65,6 @@ bound_asks_nothing x g bound y h asks =
     let var : x ≡ y = let is = asks.is in cc in
     let body : g ≡ h = let is = asks.is in cc in
     bound (subst (λ z. IsFree z g) (sym var) (subst (IsFree y) (sym body) asks.free))
-
-pub other_asks_nothing : (f : Tree) → ((x : Var) (g : Tree) → f ≡ Ex x g → ⊥) → AsksNothing f
-other_asks_nothing f other x g asks = other x g asks.is
 
 one_or_not : (x : Var) (vars : List Var) → IsOneOf x vars ⊎ (IsOneOf x vars → ⊥)
 one_or_not x [] = inr (λ h. h)

@@ -1,5 +1,4 @@
 pub mod Signed
-pub mod Splitting
 pub mod ReadLemmas
 pub mod QuestionLemmas
 pub mod WholeLemmas

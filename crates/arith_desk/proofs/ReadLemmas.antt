@@ -35,10 +35,6 @@ fails_front Is (first ∷ more) field rest e never =
     let same : first ≡ field = cc in
     (λ is. never (subst Is same is), refl)
 
-pub fails_fewer : (P Q : List ℕ → Type 0) (fields : List (List ℕ)) (left : ℕ) → ((field : List ℕ) → Q field → P field) → Fails P fields left → Fails Q fields left
-fails_fewer P Q [] left fewer h = h
-fails_fewer P Q (field ∷ rest) left fewer h = (λ q. h.0 (fewer field q), h.1)
-
 pub stop_along : (P Q : ℕ → Type 0) (why : Stop) → ((left : ℕ) → P left → Q left) → IsStop P why → IsStop Q why
 stop_along P Q (Left left) along h = along left h
 stop_along P Q Memory along h = tt
@@ -57,9 +53,6 @@ no_factor n zero_is h =
     small : (a : ℤ) → negsuc 63 ≤ℤ a → a ≤ℤ pos 64 → mag a < 2 ^ 63
     small (pos n) low high = omega (arith, ints)
     small (negsuc n) low high = omega (arith, ints)
-
-pub factor_between : (field : List ℕ) → IsFactorField field → IsNumberBetween (negsuc 63) (pos 64) field
-factor_between field h = (h.0, h.1.1, h.1.2, h.2)
 
 pub read_not : (scope : List Var) (fields rest more : List (List ℕ)) (f made : Tree) → fields ≡ word_text Not ∷ rest
     → IsRead scope rest f more → made ≡ tree.Not f → IsRead scope fields made more
@@ -97,27 +90,6 @@ read_comparison {rel} fields front r = record {
   means = r.means;
 }
 
-pub joined_reads : (connective : BinaryOp) (scope : List Var) (fields mid rest : List (List ℕ)) (f g made : Tree) → IsRead scope fields f mid → IsRead scope mid g rest
-    → made ≡ join connective f g → IsReadJoined connective scope fields made rest
-joined_reads connective scope fields mid rest f g made a b is = record {
-  first = a.typed;
-  second = b.typed;
-  first_proper = a.proper;
-  second_proper = b.proper;
-  fields_are = a.fields_are ∙ ap (λ l. spelled a.typed ++ l) b.fields_are;
-  means = is ∙ (ap (λ t. join connective t g) a.means ∙ ap (λ t. join connective (meaning a.typed) t) b.means);
-}
-
-pub bound_reads : (quantifier : Quantifier) (scope : List Var) (fields mid rest : List (List ℕ)) (x : Var) (f made : Tree) → x.0 < 16 → ¬ IsOneOf x scope
-    → fields ≡ letter x ∷ mid → IsRead (x ∷ scope) mid f rest → made ≡ bind quantifier x f → IsReadBound quantifier scope fields made rest
-bound_reads quantifier scope fields mid rest x f made low fresh front r is = record {
-  var = x;
-  body = r.typed;
-  proper = (low, fresh, r.proper);
-  fields_are = front ∙ ap (λ l. letter x ∷ l) r.fields_are;
-  means = is ∙ ap (λ t. bind quantifier x t) r.means;
-}
-
 -- one or more, and at most eight, different terms and a bound are an atom
 pub atom_of : {scope : List Var} {due : ℕ} {fields rest : List (List ℕ)} {new : List (ℤ × Var)} {bound : ℤ} → 1 ≤ due → due ≤ 8
     → IsReadTerms scope [] due fields new bound rest → IsAtom new bound
@@ -140,19 +112,6 @@ comparison_reads rel scope due fields mid rest new bound made low high front r i
           (r.fields_are ∙ (ap (λ ts. term_fields ts ++ signed_decimal bound ∷ rest) (sym r.after) ∙ sym (append_assoc (term_fields new) (signed_decimal bound ∷ []) rest))));
       means = is;
     }
-
-pub no_terms : (scope : List Var) (old : List (ℤ × Var)) (fields rest : List (List ℕ)) (bound : ℤ) → negsuc 999 ≤ℤ bound → bound ≤ℤ pos 1000
-    → fields ≡ signed_decimal bound ∷ rest → IsReadTerms scope old 0 fields old bound rest
-no_terms scope old fields rest bound low high is = record {
-  added = [];
-  count = refl;
-  after = sym (append-nil old);
-  coefficients = All-nil IsCoefficient;
-  known = All-nil (λ t. IsOneOf t.1 scope);
-  distinct = λ d. d;
-  is_bound = (low, high);
-  fields_are = is;
-}
 
 distinct_push : (old : List (ℤ × Var)) (t : ℤ × Var) → IsDistinct old → All (λ u. u.1 ≢ t.1) old → IsDistinct (old ++ t ∷ [])
 distinct_push [] t d unused = (All-nil (λ u. u.1 ≢ t.1), tt)

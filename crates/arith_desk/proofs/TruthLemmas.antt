@@ -12,6 +12,7 @@ use Rattle.auto_core.specs.Automaton.{Automaton, Accepts, IsAutomaton, is_final,
 use Rattle.auto_core.specs.Integers.{IsAccepted}
 use Rattle.auto_core.specs.Reduced.{IsReduced}
 use Rattle.auto_core.proofs.Orders.{same-var}
+use Rattle.auto_reduce.specs.Tables.{AcceptsNoWord}
 use Rattle.auto_reduce.proofs.Empties.{no_word}
 use Rattle.lin_formula.specs.Tree.{Tree, Ex, free_vars, memberships, steps, vars_of}
 use Rattle.lin_formula.specs.Holds.{Holds, with_value}
@@ -29,10 +30,6 @@ use Rattle.arith_desk.proofs.Counts.{few_vars}
 -- the further variable
 abbrev pub spare : Var
 spare = record { 0 = 16 }
-
--- no word is accepted
-abbrev pub HasNoWord : Automaton → Type 0
-HasNoWord a = (word : List ℕ) → IsWord (length a.tracks) word → ¬ Accepts a word
 
 -- a word that is accepted
 pub record HasWord (a : Automaton) : Type 0 where
@@ -53,7 +50,7 @@ flag_or_none (false ∷ flags) = elim (flag_or_none flags) [
     later none (suc k) h = none k (omega arith)
 
 -- a reduced automaton that does not accept nothing accepts a word
-pub some_word : {a : Automaton} → IsReduced a → IsAutomaton a → (HasNoWord a → ⊥) → HasWord a
+pub some_word : {a : Automaton} → IsReduced a → IsAutomaton a → (AcceptsNoWord a → ⊥) → HasWord a
 some_word {a} reduced valid some = elim (flag_or_none a.accept) [
   | inl found ↦
       let reached = reduced.reached found.0 found.1 in
@@ -83,10 +80,10 @@ module _ (f : Tree) (a : Automaton) (decides : Decides a f no_sets) (closed : fr
   on_tracks : {word : List ℕ} → IsWord (length (free_vars f)) word → IsWord (length a.tracks) word
   on_tracks {word} is = subst (λ (t : List Var). IsWord (length t) word) (sym decides.tracks) is
 
-  pub closed_false : HasNoWord a → ¬ IsTrueFormula f
+  pub closed_false : AcceptsNoWord a → ¬ IsTrueFormula f
   closed_false none h = none one (on_tracks one_is) ((decides.words one one_is).1 (at one h))
 
-  pub closed_true : (HasNoWord a → ⊥) → IsTrueFormula f
+  pub closed_true : (AcceptsNoWord a → ⊥) → IsTrueFormula f
   closed_true some = elim (cases_Bool (is_final a (state_of a one))) [
     | inl accepts ↦ from one ((decides.words one one_is).0 accepts)
     | inr never ↦ absurd (some (λ word is accepts.
@@ -245,5 +242,5 @@ module _ (x : Var) (g : Tree) (question : IsQuestion (Ex x g)) (free : IsFree x 
           accepts = (decides.words word (word_on is)).1 (subst (λ (t : List Var). Holds (with_zero g) no_sets (word_values t word)) (sym free_is) there);
         }
 
-    pub seek_false : HasNoWord a → ¬ IsTrueFormula (Ex x g)
+    pub seek_false : AcceptsNoWord a → ¬ IsTrueFormula (Ex x g)
     seek_false none h = let hit = holds_hit h.0 h.1 in none hit.word hit.is_word hit.accepts

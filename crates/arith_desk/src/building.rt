@@ -11,7 +11,7 @@ use std::alloc::{AllocError, Global};
 use track_word::{Rel, Var};
 
 /// Returns the comparison of the sum of the terms with the bound.
-pub fn compared(
+pub(crate) fn compared(
     alloc: Global,
     terms: &[(i8, Var)],
     rel: Rel,
@@ -28,7 +28,7 @@ pub fn compared(
 }
 
 /// Returns the negation.
-pub fn denied(alloc: Global, f: Formula) -> Result<Formula, AllocError>
+pub(crate) fn denied(alloc: Global, f: Formula) -> Result<Formula, AllocError>
     ensures { IfOk result (λ made. tree_of made ≡ tree.Not (tree_of f)) }
 {
     match lin_formula::not(alloc, f) {
@@ -38,7 +38,7 @@ pub fn denied(alloc: Global, f: Formula) -> Result<Formula, AllocError>
 }
 
 /// Returns the conjunction or disjunction.
-pub fn joined(
+pub(crate) fn joined(
     alloc: Global,
     connective: BinaryOp,
     f: Formula,
@@ -76,7 +76,7 @@ fn every(alloc: Global, var: Var, f: Formula) -> Result<Formula, AllocError>
 }
 
 /// Returns the quantification of a variable.
-pub fn bound(
+pub(crate) fn bound(
     alloc: Global,
     quantifier: Quantifier,
     var: Var,

@@ -6,7 +6,7 @@ use std::alloc::AllocError;
 use text_fields::split_at_blank;
 
 /// Appends the fields of a line. Errors: an allocation failed.
-pub fn push_fields<'a>(fields: &mut Vec<&'a [u8]>, line: &'a [u8]) -> Result<(), AllocError>
+pub(crate) fn push_fields<'a>(fields: &mut Vec<&'a [u8]>, line: &'a [u8]) -> Result<(), AllocError>
     ensures { OnOk result (AddsFields line.now (texts fields.old.items) (texts fields.new.items)) }
 {
     match split_at_blank(line) {

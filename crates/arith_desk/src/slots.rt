@@ -16,7 +16,7 @@ use track_word::Var;
 pub type Fields<'a> = &'a [&'a [u8]];
 
 /// Returns the first field and the others.
-pub fn front<'a>(fields: Fields<'a>) -> Option<(&'a [u8], Fields<'a>)>
+pub(crate) fn front<'a>(fields: Fields<'a>) -> Option<(&'a [u8], Fields<'a>)>
     ensures some { IfSome result (λ front. texts fields.now ≡ front.0.now ∷ texts front.1.now) }
     ensures none { IfNone result (texts fields.now ≡ []) }
 {
@@ -27,14 +27,14 @@ pub fn front<'a>(fields: Fields<'a>) -> Option<(&'a [u8], Fields<'a>)>
 }
 
 /// Returns the error that the first field is not allowed or missing.
-pub fn stop_at(fields: Fields) -> Stop
+pub(crate) fn stop_at(fields: Fields) -> Stop
     ensures { result ≡ Stop.Left (length (texts fields.now)) }
 {
     Stop::Left(fields.len())
 }
 
 /// Parses a number between two others. Returns it with the fields after it.
-pub fn number<'a>(fields: Fields<'a>, low: i32, high: i32) -> Result<(i32, Fields<'a>), Stop>
+pub(crate) fn number<'a>(fields: Fields<'a>, low: i32, high: i32) -> Result<(i32, Fields<'a>), Stop>
     ensures low { IfOk result (λ taken. low ≤ℤ taken.0) }
     ensures high { IfOk result (λ taken. taken.0 ≤ℤ high) }
     ensures ok { IfOk result (λ taken. texts fields.now ≡ signed_decimal taken.0 ∷ texts taken.1.now) }
@@ -50,7 +50,7 @@ pub fn number<'a>(fields: Fields<'a>, low: i32, high: i32) -> Result<(i32, Field
 }
 
 /// Parses the number of terms. Returns it with the fields after it.
-pub fn count<'a>(fields: Fields<'a>) -> Result<(u8, Fields<'a>), Stop>
+pub(crate) fn count<'a>(fields: Fields<'a>) -> Result<(u8, Fields<'a>), Stop>
     ensures low { IfOk result (λ taken. 1 ≤ taken.0) }
     ensures high { IfOk result (λ taken. taken.0 ≤ 8) }
     ensures ok { IfOk result (λ taken. texts fields.now ≡ signed_decimal (pos taken.0) ∷ texts taken.1.now) }
@@ -61,7 +61,7 @@ pub fn count<'a>(fields: Fields<'a>) -> Result<(u8, Fields<'a>), Stop>
 }
 
 /// Parses a coefficient. Returns it with the fields after it.
-pub fn factor<'a>(fields: Fields<'a>) -> Result<(i8, Fields<'a>), Stop>
+pub(crate) fn factor<'a>(fields: Fields<'a>) -> Result<(i8, Fields<'a>), Stop>
     ensures factor { IfOk result (λ taken. IsFactor taken.0) }
     ensures ok { IfOk result (λ taken. texts fields.now ≡ signed_decimal taken.0 ∷ texts taken.1.now) }
     ensures err { IfErr result (IsStop (Fails IsFactorField (texts fields.now))) }
@@ -74,7 +74,7 @@ pub fn factor<'a>(fields: Fields<'a>) -> Result<(i8, Fields<'a>), Stop>
 }
 
 /// Parses a letter that is not in the scope. Returns its variable with the fields after it.
-pub fn fresh_letter<'a>(fields: Fields<'a>, scope: &[Var]) -> Result<(Var, Fields<'a>), Stop>
+pub(crate) fn fresh_letter<'a>(fields: Fields<'a>, scope: &[Var]) -> Result<(Var, Fields<'a>), Stop>
     ensures low { IfOk result (λ taken. taken.0.0 < 16) }
     ensures fresh { IfOk result (λ taken. ¬ IsOneOf taken.0 scope.now) }
     ensures ok { IfOk result (λ taken. texts fields.now ≡ letter taken.0 ∷ texts taken.1.now) }
@@ -93,7 +93,7 @@ pub fn fresh_letter<'a>(fields: Fields<'a>, scope: &[Var]) -> Result<(Var, Field
 }
 
 /// Parses a letter that is in the scope and not in the terms. Returns its variable with the fields after it.
-pub fn known_letter<'a>(
+pub(crate) fn known_letter<'a>(
     fields: Fields<'a>,
     scope: &[Var],
     terms: &[(i8, Var)],
@@ -119,7 +119,7 @@ pub fn known_letter<'a>(
 }
 
 /// Returns whether the variable is in a list.
-pub fn is_one_of(var: Var, vars: &[Var]) -> bool
+pub(crate) fn is_one_of(var: Var, vars: &[Var]) -> bool
     ensures { IsTrue result ↔ IsOneOf var vars.now }
 {
     match vars {

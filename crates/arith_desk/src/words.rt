@@ -33,7 +33,7 @@ pub enum Word {
 }
 
 /// Returns the keyword that the field is.
-pub fn word_of(field: &[u8]) -> Option<Word>
+pub(crate) fn word_of(field: &[u8]) -> Option<Word>
     ensures { IsNamed field.now result }
 {
     if field == b"not".as_slice() {
@@ -61,7 +61,7 @@ pub fn word_of(field: &[u8]) -> Option<Word>
 }
 
 /// Returns the variable whose letter the field is.
-pub fn letter_of(field: &[u8]) -> Option<Var>
+pub(crate) fn letter_of(field: &[u8]) -> Option<Var>
     ensures some { IfSome result (λ x. (x.0 < 16) × (field.now ≡ letter x)) }
     ensures none { IfNone result ((x : Var) → x.0 < 16 → field.now ≢ letter x) }
 {
@@ -75,7 +75,7 @@ pub fn letter_of(field: &[u8]) -> Option<Var>
 }
 
 /// Returns the number that the field spells, if it is between two others.
-pub fn number_between(field: &[u8], low: i32, high: i32) -> Option<i32>
+pub(crate) fn number_between(field: &[u8], low: i32, high: i32) -> Option<i32>
     ensures low { IfSome result (λ n. low ≤ℤ n) }
     ensures high { IfSome result (λ n. n ≤ℤ high) }
     ensures some { IfSome result (λ n. field.now ≡ signed_decimal n) }

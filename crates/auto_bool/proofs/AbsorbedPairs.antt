@@ -19,7 +19,7 @@ use Rattle.auto_bool.specs.Absorbed.{left_deciding, right_deciding, AreSinks, ne
 nat_eq-true : (x y : ℕ) → nat_eq x y ≡ true → x ≡ y
 nat_eq-true x y e = grind (arith, common_steps, e)
 
-absorbs-is : (o : Option ℕ) (x : ℕ) → absorbs o x ≡ true → o ≡ Some x
+pub absorbs-is : (o : Option ℕ) (x : ℕ) → absorbs o x ≡ true → o ≡ Some x
 absorbs-is None x e = absurd (true≢false (sym e))
 absorbs-is (Some v) x e = ap Some (sym (nat_eq-true x v e))
 
@@ -48,20 +48,12 @@ absorbed-stands g x y = by (absorbs g.left x) (absorbs g.right y) refl refl
     by false true e f = one (absorbed-right g x y f) (inr (absorbs-is g.right y f))
     by false false e f = let same = absorbed-neither g x y e f in inl (ap (λ (p : ℕ × ℕ). p.0) same, ap (λ (p : ℕ × ℕ). p.1) same)
 
--- the flag that a deciding flag makes
-deciding : Connective → Bool
-deciding And = false
-deciding Or = true
-deciding AndNot = false
-
-left_decides : (connective : Connective) (other : Bool) → combined connective (left_deciding connective) other ≡ deciding connective
-unfolding deciding
+left_decides : (connective : Connective) (other : Bool) → combined connective (left_deciding connective) other ≡ left_deciding connective
 left_decides And other = refl
 left_decides Or other = refl
 left_decides AndNot other = refl
 
-right_decides : (connective : Connective) (other : Bool) → combined connective other (right_deciding connective) ≡ deciding connective
-unfolding deciding
+right_decides : (connective : Connective) (other : Bool) → combined connective other (right_deciding connective) ≡ left_deciding connective
 right_decides And true = refl
 right_decides And false = refl
 right_decides Or true = refl
@@ -70,7 +62,7 @@ right_decides AndNot true = refl
 right_decides AndNot false = refl
 
 module _ (g : Absorbing) (tracks : List Var) (a b : Automaton) (connective : Connective) (deciding_states : AreSinks a b connective g) where
-  decided : (p q : ℕ) → Absorbs g p q → combined connective (is_final a p) (is_final b q) ≡ deciding connective
+  decided : (p q : ℕ) → Absorbs g p q → combined connective (is_final a p) (is_final b q) ≡ left_deciding connective
   decided p q (inl e) = ap (λ f. combined connective f (is_final b q)) (deciding_states.left p e).accepts ∙ left_decides connective (is_final b q)
   decided p q (inr e) = ap (λ f. combined connective (is_final a p) f) (deciding_states.right q e).accepts ∙ right_decides connective (is_final a p)
 

@@ -11,10 +11,11 @@ use Rattle.std.proofs.lemmas.List.Elements.{All-nil, All-cons, All-head, All-tai
 use Rattle.std.proofs.lemmas.Bool.{cases_order, cases_eq}
 use Rattle.track_word.specs.declared.tracks.Var.{Var}
 use Rattle.track_word.specs.Tracks.{IsAscending, with_var, with_vars, place, restrict, part_of}
+use Rattle.auto_core.proofs.Orders.{same-var}
 use Rattle.auto_bool.specs.Sides.{AreAmong}
 
 -- the three ways of putting a track before, at or after the first of some
-before-is : (x y : Var) (ys : List Var) → x.0 < y.0 → with_var x (y ∷ ys) ≡ x ∷ y ∷ ys
+pub before-is : (x y : Var) (ys : List Var) → x.0 < y.0 → with_var x (y ∷ ys) ≡ x ∷ y ∷ ys
 before-is x y ys h = grind (arith, common_steps, nat_tests)
 
 at-is : (x y : Var) (ys : List Var) → x.0 ≡ y.0 → with_var x (y ∷ ys) ≡ y ∷ ys
@@ -219,9 +220,6 @@ among-later x xs (y ∷ ys) rising among =
     let here : place (x ∷ xs) y < length (x ∷ xs) = All-head (λ track. track < length (x ∷ xs)) (place (x ∷ xs) y) (map (place (x ∷ xs)) ys) among in
     All-cons (λ track. track < length xs) (place xs y) (map (place xs) ys) (grind (arith, common_steps, nat_tests, other, here))
     (among-later x xs ys (rising-lower (y.0 + 1) (x.0 + 1) ys (omega (arith, above)) rising.1) (All-tail (λ track. track < length (x ∷ xs)) (place (x ∷ xs) y) (map (place (x ∷ xs)) ys) among))
-
-same-var : (x y : Var) → x.0 ≡ y.0 → x ≡ y
-same-var x y e = grind (arith, e)
 
 with_vars-own : (bound : ℕ) (xs ys : List Var) → Rising bound xs → Rising bound ys → All (λ track. track < length xs) (map (place xs) ys) → with_vars xs ys ≡ xs
 unfolding Rising

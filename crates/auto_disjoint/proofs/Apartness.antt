@@ -12,17 +12,11 @@ use Rattle.diagram_product.proofs.Absorptions.{absorbed-neither}
 use Rattle.auto_core.specs.Automaton.{Automaton, run, is_final, Accepts}
 use Rattle.auto_core.proofs.Restricted.{restrict-below}
 use Rattle.auto_bool.specs.Absorbed.{IsSink}
+use Rattle.auto_bool.proofs.AbsorbedPairs.{absorbs-is}
 use Rattle.auto_disjoint.specs.declared.meeting.Meeting.{Meeting}
 use Rattle.auto_disjoint.specs.Apart.{AreApart}
 use Rattle.auto_disjoint.specs.Met.{IsMetIn}
 use Rattle.auto_disjoint.specs.Meetings.{states_at, AreFirstNodes, AreStatesSettled, AreSettled}
-
-nat_eq-true : (x y : ℕ) → nat_eq x y ≡ true → x ≡ y
-nat_eq-true x y e = grind (arith, common_steps, e)
-
-absorbs-is : (o : Option ℕ) (x : ℕ) → absorbs o x ≡ true → o ≡ Some x
-absorbs-is None x e = absurd (true≢false (sym e))
-absorbs-is (Some v) x e = ap Some (sym (nat_eq-true x v e))
 
 -- a pair stands for itself, unless one of its values is absorbing
 absorbed-cases : (g : Absorbing) (x y : ℕ) → (absorbed g x y ≡ (x, y)) ⊎ ((g.left ≡ Some x) ⊎ (g.right ≡ Some y))

@@ -88,10 +88,6 @@ module _ {m : Meeting} {nodes : ℕ × ℕ} (test : PairTest) (met : IsMet m nod
       by true e = inr (record { smaller = test.low; there = low; same = sym e; less = low_less })
       by false e = inr (record { smaller = test.high; there = high; same = sym e; less = high_less })
 
--- nodes that lead letters to one pair of states
-pub AreSettled-pair : {m : Meeting} {seen : List (ℕ × ℕ)} {nodes states : ℕ × ℕ} → ((letter : ℕ) → states_at m nodes letter ≡ states) → AreStatesSettled m seen states → AreSettled m seen nodes
-AreSettled-pair {m} {seen} same settled letter = inl (subst (AreStatesSettled m seen) (sym (same letter)) settled)
-
 pub IsReached-pair : {m : Meeting} {nodes states : ℕ × ℕ} → IsMet m nodes → ((letter : ℕ) → states_at m nodes letter ≡ states) → IsReached (walker_of m) (place_of_pair states)
 IsReached-pair {m} met same = subst (λ (p : ℕ × ℕ). IsReached (walker_of m) (place_of_pair p)) (same 0) (met.reached 0)
 

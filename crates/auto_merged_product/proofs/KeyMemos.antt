@@ -61,10 +61,6 @@ not_free : {o : Option ℕ} {row : ℕ} → IsRowOf o row → row ≡ 4294967295
 not_free {o = None} one e = let is = one.is in omega (arith, is, e)
 not_free {o = Some n} one e = let is = one.is in let low = one.low n refl in omega (arith, is, low, e)
 
--- slots that are free answer nothing
-pub AnswersNothing-free : {slots : List KeySlot} → ((slot : KeySlot) → Contains slots slot → slot.row ≡ 4294967295) → AnswersNothing (AnswersKey slots)
-AnswersNothing-free free = λ own spot node answers. not_free answers.row_is (free _ answers.held)
-
 -- slots that learn one key answer it alone
 pub AddsKey-slot : {old new : List KeySlot} {own : Option ℕ} {left right node row : ℕ} → IsRowOf own row → LearnsSlot old new (record { left = left; right = right; node = node; row = row })
     → AddsKey (AnswersKey old) (AnswersKey new) own (left, right) node
@@ -79,7 +75,3 @@ AddsKey-slot {own} {left} {right} {node} is learns = record {
         inr (same_mark answers.row_is (subst (IsRowOf own) (sym same_row) is), (λ i. (l i, r i)), ap (λ (s : KeySlot). s.node) now)
   ];
 }
-
--- slots that learn nothing
-pub AddsKey-nothing : {slots : List KeySlot} {own : Option ℕ} {spot : ℕ × ℕ} {node : ℕ} → AddsKey (AnswersKey slots) (AnswersKey slots) own spot node
-AddsKey-nothing = record { only = λ o s n answers. inl answers }

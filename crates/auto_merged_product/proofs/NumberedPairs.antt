@@ -50,12 +50,3 @@ MoreThan-new w budget places place reached different many here absent =
       reached = All-push (IsReached w) places place reached here;
       different = unrepeated_still places (places ++ place ∷ []) place (inr (refl, absent)) different;
     }) (omega (arith, size, many))
-
--- no place is numbered
-pub AreSeen-nothing : {Spot : Type 0} {g : Graph Spot} {pairs : List (ℕ × ℕ)} → pairs ≡ [] → g.most < 2 ^ 31 → AreSeen g (map place_of_pair pairs)
-AreSeen-nothing {g} none few = subst (λ (l : List (ℕ × ℕ)). AreSeen g (map place_of_pair l)) (sym none) (record {
-  are_places = λ k d within. absurd (let no : k < 0 = within in omega (arith, no));
-  different = λ i j d less within. absurd (let no : j < 0 = within in omega (arith, no));
-  few = omega arith;
-  most_few = few;
-})

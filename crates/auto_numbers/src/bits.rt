@@ -8,7 +8,7 @@ pub const MOST_BITS: u8 = 101;
 pub const GREATEST_BITS: u8 = 100;
 
 /// Returns 2 to the power of `exponent`.
-pub fn power(exponent: u8) -> u128
+pub(crate) fn power(exponent: u8) -> u128
     requires { exponent ≤ MOST_BITS }
     ensures is { result ≡ 2 ^ exponent }
     ensures small { result ≤ 2 ^ MOST_BITS }

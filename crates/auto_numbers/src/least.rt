@@ -13,7 +13,7 @@ use track_word::laws::{
 };
 
 /// Returns the least number from `low` on that is in the set, or that is not, by the outlook's flag. Reads each bit at most twice.
-pub fn next(outlook: &Outlook, low: u128) -> Option<u128>
+pub(crate) fn next(outlook: &Outlook, low: u128) -> Option<u128>
     requires decides { DecidesIntegers outlook.now.auto.now }
     requires low { low < 2 ^ MOST_BITS }
     ensures { IsNextFound (IsSide outlook.now.auto.now outlook.now.flag) low result }

@@ -27,7 +27,7 @@ pub enum Length {
 
 /// Returns the lengths of all states of a minimal automaton. Iterates over the states until no length is found, at most once more
 /// than the longest chain of states with lengths. Errors: an allocation failed.
-pub fn lengths(alloc: Global, a: &Auto) -> Result<Vec<Length>, AllocError>
+pub(crate) fn lengths(alloc: Global, a: &Auto) -> Result<Vec<Length>, AllocError>
     requires one { length a.now.tracks ≡ 1 }
     requires reduced { IsReduced a.now }
     ensures are { IfOk result (λ made. AreLengths a.now made.items) }
@@ -58,7 +58,7 @@ fn first_length(a: &Auto, state: u32) -> Length
 }
 
 /// Returns the length of a state from a list of all.
-pub fn length_at(lengths: &[Length], state: u32) -> Length
+pub(crate) fn length_at(lengths: &[Length], state: u32) -> Length
     requires { state < length lengths.now }
     ensures { result ≡ slice_index_or lengths.now state Unknown }
 {

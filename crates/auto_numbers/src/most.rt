@@ -7,7 +7,7 @@ use crate::outlook::Outlook;
 use crate::reading::next_states;
 
 /// Returns the greatest number of `bits` bits that leads from the state to the flag.
-pub fn most(outlook: &Outlook, state: u32, bits: u8) -> Option<u128>
+pub(crate) fn most(outlook: &Outlook, state: u32, bits: u8) -> Option<u128>
     requires known { state < length outlook.now.auto.now.accept }
     requires bits { bits ≤ MOST_BITS }
     ensures { LeadsMostOrNone outlook.now.auto.now outlook.now.flag state bits result }

@@ -71,10 +71,6 @@ HasNumber-leaf {shapes} {more} {sets} {sets'} {count} {node} {numbers} grows kep
           (λ k inside. now.within one.0 (get_or (set_of more sets' node one.0) k 0) (Contains-get_or (set_of more sets' node one.0) k 0 inside));
     })
 
-pub HasRowsSoFar-none : {shapes : List Shape} (sets : List (List ℕ)) (rows numbers table : List ℕ) → All (λ row. row < length shapes) table
-    → HasRowsSoFar shapes sets rows numbers table 0
-HasRowsSoFar-none sets rows numbers table known = record { known = known; union = λ k h. absurd (omega arith) }
-
 -- one more row
 pub HasRowsSoFar-step : {shapes more : List Shape} {sets sets' : List (List ℕ)} {rows numbers table : List ℕ} {count : ℕ} (row : ℕ) → Grows shapes more → SetsKept sets sets'
     → All (HasSets shapes sets) rows → ((k : ℕ) → k < length numbers → HasNumber sets (length rows) (slice_index numbers k)) → count < length numbers

@@ -9,7 +9,7 @@ use letter_diagram::{Diagrams, Merger, Node, Sets};
 use std::alloc::{AllocError, Global};
 
 /// Returns a merger for unions only. Its track is arbitrary, since no node is merged at it.
-pub fn uniter(diagrams: Diagrams, sets: Sets) -> Merger
+pub(crate) fn uniter(diagrams: Diagrams, sets: Sets) -> Merger
     ensures shapes { result.shapes ≡ diagrams }
     ensures sets { result.sets ≡ sets }
 {
@@ -18,7 +18,7 @@ pub fn uniter(diagrams: Diagrams, sets: Sets) -> Merger
 
 /// Returns the node that maps each letter to the union of the sets of both nodes. Errors: an allocation failed, or there are 2^31
 /// sets.
-pub fn unite(merger: &mut Merger, a: Node, b: Node) -> Result<Node, AllocError>
+pub(crate) fn unite(merger: &mut Merger, a: Node, b: Node) -> Result<Node, AllocError>
     requires a_sets { HasSets merger.old.shapes merger.old.sets a }
     requires b_sets { HasSets merger.old.shapes merger.old.sets b }
     ensures united { IfOk result (λ node. IsUnited merger.new.shapes merger.new.sets a b node) }
@@ -34,7 +34,7 @@ pub fn unite(merger: &mut Merger, a: Node, b: Node) -> Result<Node, AllocError>
 
 /// Returns the node that maps each letter to the union of the sets of several nodes. Unites them in halves, so that each set is
 /// read at most as often as the list is halved.
-pub fn united(merger: &mut Merger, nodes: &[Node]) -> Result<Node, AllocError>
+pub(crate) fn united(merger: &mut Merger, nodes: &[Node]) -> Result<Node, AllocError>
     requires some { nodes.now ≢ [] }
     requires sets { All (HasSets merger.old.shapes merger.old.sets) nodes.now }
     ensures united { IfOk result (λ node. IsUnionOf merger.new.shapes merger.new.sets nodes.now node) }
@@ -64,7 +64,11 @@ fn rows_of(alloc: Global, rows: &[Node], set: &[u32]) -> Result<Vec<Node>, Alloc
 }
 
 /// Returns the node that maps each letter to the set of the states that follow the states of a set.
-pub fn united_rows(merger: &mut Merger, rows: &[Node], set: &[u32]) -> Result<Node, AllocError>
+pub(crate) fn united_rows(
+    merger: &mut Merger,
+    rows: &[Node],
+    set: &[u32],
+) -> Result<Node, AllocError>
     requires some { set.now ≢ [] }
     requires rows { All (HasSets merger.old.shapes merger.old.sets) rows.now }
     requires set { All (λ state. state < length rows.now) set.now }

@@ -110,7 +110,12 @@ fn without_track(
 
 /// Returns the rows over the remaining tracks: each letter is mapped to the set of the states that follow by the letters that
 /// restrict to it.
-pub fn set_rows(alloc: Global, a: &Auto, var: Var, tracks: &[Var]) -> Result<SetRows, AllocError>
+pub(crate) fn set_rows(
+    alloc: Global,
+    a: &Auto,
+    var: Var,
+    tracks: &[Var],
+) -> Result<SetRows, AllocError>
     requires { tracks.now ≡ without_var var a.now.tracks }
     ensures { IfOk result (HasSetRowsOf a.now tracks.now) }
 {

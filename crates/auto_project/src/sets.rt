@@ -8,7 +8,7 @@ use letter_diagram::Sets;
 use std::alloc::{AllocError, Global};
 
 /// Returns the number of a set, and adds the set if it is new. Errors: an allocation failed, or 2^32 - 1 sets are numbered.
-pub fn number_of(sets: &mut Sets, set: &[u32]) -> Result<u32, AllocError>
+pub(crate) fn number_of(sets: &mut Sets, set: &[u32]) -> Result<u32, AllocError>
     requires { IsStrictlyIncreasing set.now }
     ensures number { IfOk result (λ number. slice_get sets.new number ≡ Some set.now) }
     ensures numbers { OnOk result (NumbersSet sets.old sets.new set.now) }
@@ -21,7 +21,7 @@ pub fn number_of(sets: &mut Sets, set: &[u32]) -> Result<u32, AllocError>
 }
 
 /// Returns the sets of one state each; the number of each set is its state.
-pub fn singletons(alloc: Global, states: u32) -> Result<Sets, AllocError>
+pub(crate) fn singletons(alloc: Global, states: u32) -> Result<Sets, AllocError>
     ensures { IfOk result (λ sets. AreSingletons sets states) }
 {
     let mut sets = Sets::new(alloc);
@@ -33,7 +33,7 @@ pub fn singletons(alloc: Global, states: u32) -> Result<Sets, AllocError>
 }
 
 /// Returns a copy of the set with a number.
-pub fn copied_set(alloc: Global, sets: &Sets, number: u32) -> Result<Vec<u32>, AllocError>
+pub(crate) fn copied_set(alloc: Global, sets: &Sets, number: u32) -> Result<Vec<u32>, AllocError>
     requires { number < length sets.now }
     ensures { IfOk result (λ set. slice_get sets.now number ≡ Some set.items) }
 {

@@ -68,15 +68,6 @@ AddsAll-insert old new state h = by (list_any (nat_eq state) old) refl
         (AddsAll-known old state ((is_member-Decides Decides-eqb old state).0 there))
     by false none = subst (λ l. AddsAll old l (state ∷ [])) (sym (h ∙ ap (λ c. if c then old else old ++ state ∷ []) none)) (AddsAll-push old state)
 
-pub AddsAll-none : (old values : List ℕ) → AddsAll old old (take 0 values)
-AddsAll-none old values = record {
-  longer = omega arith;
-  kept = λ place within. refl;
-  has = λ value there. absurd (omega (arith, there.1));
-  added = λ place past within. absurd (omega (arith, past, within));
-  in_order = λ i j past less within. absurd (omega (arith, past, less, within));
-}
-
 pub one_value : (x v : ℕ) → Contains (x ∷ []) v → x ≡ v
 one_value x v there =
     let p = place_in (x ∷ []) v there in

@@ -8,7 +8,7 @@ use std::alloc::{AllocError, Global};
 
 /// Returns for each state a canonical state: one indistinguishable from it, the same for all of its class. Errors: an allocation
 /// failed.
-pub fn canonical(alloc: Global, a: &Auto) -> Result<Vec<u32>, AllocError>
+pub(crate) fn canonical(alloc: Global, a: &Auto) -> Result<Vec<u32>, AllocError>
     ensures { IfOk result (λ canon. IsCanonical a.now canon.items) }
 {
     let partition = coarsest(alloc, a)?;

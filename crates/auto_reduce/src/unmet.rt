@@ -253,7 +253,7 @@ fn add_several(
 
 /// Appends the canonical states that a row maps to and that are not in the order, by their least letters. Builds a diagram only if
 /// there are several. Costs the nodes of the row that are not done.
-pub fn add_row(
+pub(crate) fn add_row(
     alloc: Global,
     rows: &CanonicalRows,
     row: Node,
@@ -286,7 +286,7 @@ pub fn add_row(
 }
 
 /// Returns the canonical states that the first row maps to, by their least letters.
-pub fn first_met(
+pub(crate) fn first_met(
     alloc: Global,
     from: &Diagrams,
     row: Node,

@@ -21,9 +21,6 @@ pub record AreListedTo (old : List (List ℕ)) (states classes : List ℕ) (new 
   pub added : (turn : ℕ) → turn < turns → Contains (get_or new (get_or classes turn 0) []) (get_or states turn 0)
   pub only : (class state : ℕ) → Contains (get_or new class []) state → Contains (get_or old class []) state ⊎ Contains states state
 
-pub AreListedTo-none : (old : List (List ℕ)) (states classes : List ℕ) → AreListedTo old states classes old 0
-AreListedTo-none old states classes = record { size = refl; kept = λ class state there. there; added = λ turn less. absurd (omega (arith, less)); only = λ class state there. inl there }
-
 module _ (lists : List (List ℕ)) (class state : ℕ) (within : class < length lists) where
   abbrev more : List ℕ
   more = get_or lists class [] ++ state ∷ []
@@ -67,10 +64,6 @@ AreListedTo-put {states} {classes} {new} next {turn} class state t within inside
     | inr same ↦ inr (subst (Contains states) (sym state_is ∙ same) (Contains-get_or states turn 0 within))
   ];
 }
-
-pub AreListed-to : (old : List (List ℕ)) (states classes : List ℕ) (new : List (List ℕ)) (turns : ℕ) → turns ≡ length states
-    → AreListedTo old states classes new turns → AreListed old states classes new
-AreListed-to old states classes new turns end t = record { size = t.size; kept = t.kept; added = λ turn less. t.added turn (omega (arith, less, end)); only = t.only }
 
 -- all states in the lists of their classes, which were empty
 pub IsListing-first : {classes : List ℕ} {count : ℕ} {representatives : List ℕ} (states : List ℕ) {lists : List (List ℕ)} → AreMembers classes count representatives → length states ≡ length classes

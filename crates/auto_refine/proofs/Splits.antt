@@ -19,23 +19,6 @@ use Rattle.auto_refine.proofs.Counting.{decided, length_le-below}
 slice_get-last : {A : Type 0} (xs : List A) (x : A) (place : ℕ) → length xs ≡ place → slice_get (xs ++ x ∷ []) place ≡ Some x
 slice_get-last xs x place here = slice_get-get_or (xs ++ x ∷ []) place x (let l = length_push xs x in omega (arith, l, here)) ∙ ap Some (get_or_push xs x x place here)
 
--- ---- states that are found to move
-pub AreMoves-none : (classes representatives nodes : List ℕ) (count : ℕ) (signatures : List (ℕ × ℕ)) (states numbers firsts : List ℕ)
-    → signatures ≡ [] → states ≡ [] → numbers ≡ [] → firsts ≡ []
-    → AreMoves classes representatives nodes count signatures states numbers firsts
-AreMoves-none classes representatives nodes count signatures states numbers firsts no_signatures no_states no_numbers no_firsts =
-    let signed = ap length no_signatures in
-    let stated = ap length no_states in
-    let numbered = ap length no_numbers in
-    let first = ap length no_firsts in
-    record {
-      unrepeated = λ i j e less within. absurd (omega (arith, signed, within));
-      size = omega (arith, stated, numbered);
-      each = λ turn within. absurd (omega (arith, stated, within));
-      firsts_size = omega (arith, first, signed);
-      first = λ place within. absurd (omega (arith, signed, within));
-    }
-
 -- a state of each signature: so there are at most as many as states
 pub signatures_few : {classes representatives nodes : List ℕ} {count : ℕ} {signatures : List (ℕ × ℕ)} {states numbers firsts : List ℕ}
     → AreMoves classes representatives nodes count signatures states numbers firsts → length signatures ≤ length classes

@@ -35,24 +35,6 @@ shared_listed {classes} {lists} {state} l within h =
 abbrev pub IsSorted : List (List ℕ) → List ℕ → List ℕ → ℕ → Type 0
 IsSorted lists classes stale state = 1 < length (get_or lists (get_or classes state 0) []) → Contains stale state
 
-pub IsSorted-push : (lists : List (List ℕ)) (classes stale found : List ℕ) (turn state : ℕ)
-    → state ≡ get_or found turn 0 → ((k : ℕ) → k < turn → IsSorted lists classes stale (get_or found k 0))
-    → (k : ℕ) → k < turn + 1 → IsSorted lists classes (stale ++ state ∷ []) (get_or found k 0)
-IsSorted-push lists classes stale found turn state is before k less more = elim (cases_lt k turn) [
-  | inl low ↦ Contains-append_left stale (state ∷ []) (get_or found k 0) (before k low more)
-  | inr past ↦ let same : turn ≡ k = omega (arith, less, past) in subst (Contains (stale ++ state ∷ [])) (is ∙ ap (λ n. get_or found n 0) same) (Contains-push stale state)
-]
-
-pub IsSorted-skip : (lists : List (List ℕ)) (classes stale found : List ℕ) (turn state : ℕ) → state ≡ get_or found turn 0
-    → (1 < length (get_or lists (get_or classes state 0) []) → ⊥) → ((k : ℕ) → k < turn → IsSorted lists classes stale (get_or found k 0))
-    → (k : ℕ) → k < turn + 1 → IsSorted lists classes stale (get_or found k 0)
-IsSorted-skip lists classes stale found turn state is alone before k less more = elim (cases_lt k turn) [
-  | inl low ↦ before k low more
-  | inr past ↦
-      let same : k ≡ turn = omega (arith, less, past) in
-      absurd (alone (subst (λ s. 1 < length (get_or lists (get_or classes s 0) [])) (ap (λ n. get_or found n 0) same ∙ sym is) more))
-]
-
 pub sorted_all : (found stale classes : List ℕ) (count : ℕ) (representatives : List ℕ) (lists : List (List ℕ))
     → IsListing classes count representatives lists → All (λ state. state < length classes) found
     → ((turn : ℕ) → turn < length found → IsSorted lists classes stale (get_or found turn 0)) → HasSharing classes found stale

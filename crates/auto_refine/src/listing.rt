@@ -24,7 +24,7 @@ impl Drop for Listing {
 }
 
 /// Returns the states below `count` in order.
-pub fn all_states(alloc: Global, count: usize) -> Result<Vec<u32>, AllocError>
+pub(crate) fn all_states(alloc: Global, count: usize) -> Result<Vec<u32>, AllocError>
     requires few { count < 2 ^ 31 }
     ensures size { IfOk result (λ states. length states.items ≡ count) }
     ensures each { IfOk result (λ states. (state : ℕ) → state < count → slice_index states.items state ≡ state) }
@@ -37,7 +37,11 @@ pub fn all_states(alloc: Global, count: usize) -> Result<Vec<u32>, AllocError>
 }
 
 /// Appends `more` empty lists.
-pub fn add_lists(alloc: Global, lists: &mut Vec<Vec<u32>>, more: usize) -> Result<(), AllocError>
+pub(crate) fn add_lists(
+    alloc: Global,
+    lists: &mut Vec<Vec<u32>>,
+    more: usize,
+) -> Result<(), AllocError>
     ensures { OnOk result (lists_of lists.new.items ≡ lists_of lists.old.items ++ replicate more []) }
 {
     for _ in 0..more {
@@ -57,7 +61,7 @@ fn list(lists: &mut Vec<Vec<u32>>, class: usize, state: u32) -> Result<(), Alloc
 }
 
 /// Appends states to the lists of their classes.
-pub fn list_each(
+pub(crate) fn list_each(
     lists: &mut Vec<Vec<u32>>,
     states: &[u32],
     classes: &[u32],
@@ -73,7 +77,7 @@ pub fn list_each(
 }
 
 /// Returns the list of states of each class of a partition, and a representative for each class. Errors: an allocation failed.
-pub fn list_states(alloc: Global, partition: &Partition) -> Result<Listing, AllocError>
+pub(crate) fn list_states(alloc: Global, partition: &Partition) -> Result<Listing, AllocError>
     requires partition { AreClasses partition.now }
     requires few { length partition.now.classes.items < 2 ^ 31 }
     ensures { IfOk result (λ listing. AreLists partition.now listing.representatives.items listing.lists.items) }
@@ -110,7 +114,7 @@ fn still_in(
 
 /// Removes from the list of a class the states that left it, so that iterating over the list costs the states of the class. A state
 /// that moves stays in the list of its old class until that list is pruned.
-pub fn prune(
+pub(crate) fn prune(
     alloc: Global,
     partition: &Partition,
     class: u32,

@@ -66,7 +66,7 @@ fn with_repeats(
 
 /// Returns the states to be examined if some states have new nodes: these, and all states of a class whose representative is one of
 /// them. Prunes the lists of these classes. Costs the result, and a mark for each state.
-pub fn candidates(
+pub(crate) fn candidates(
     alloc: Global,
     partition: &Partition,
     representatives: &[u32],
@@ -117,7 +117,7 @@ fn sort_state(
 }
 
 /// Returns those of `states` whose nodes differ from those of their classes' representatives, with their new classes.
-pub fn find_moves(
+pub(crate) fn find_moves(
     alloc: Global,
     partition: &Partition,
     listing: &Listing,

@@ -42,7 +42,7 @@ fn sharing(
 }
 
 /// Returns the states that share their class.
-pub fn sharing_states(
+pub(crate) fn sharing_states(
     alloc: Global,
     partition: &Partition,
     listing: &Listing,
@@ -59,7 +59,7 @@ pub fn sharing_states(
 }
 
 /// Returns the states that share their class and have one of `moved` as a next state.
-pub fn stale_states(
+pub(crate) fn stale_states(
     alloc: Global,
     a: &Auto,
     ways: &Predecessors,
@@ -79,7 +79,7 @@ pub fn stale_states(
 }
 
 /// Maps the rows of some states to classes again. The other states keep their nodes.
-pub fn remap_rows(
+pub(crate) fn remap_rows(
     diagrams: &mut Diagrams,
     a: &Auto,
     rows: &[Node],
@@ -102,7 +102,7 @@ pub fn remap_rows(
 }
 
 /// Maps all rows to the classes of a partition.
-pub fn lead(
+pub(crate) fn lead(
     diagrams: &mut Diagrams,
     a: &Auto,
     rows: &[Node],

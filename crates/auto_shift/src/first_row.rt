@@ -8,7 +8,7 @@ use letter_diagram::{Diagrams, Node};
 use std::alloc::AllocError;
 
 /// Returns what is read at the bits 0 and 1, given what is read if the carry (or borrow) stops at the bit and if it passes on.
-pub fn by_bit(up: bool, stays: Node, goes_on: Node) -> (Node, Node)
+pub(crate) fn by_bit(up: bool, stays: Node, goes_on: Node) -> (Node, Node)
     ensures { IsByBit up stays goes_on result.0 result.1 }
 {
     if up {
@@ -20,7 +20,7 @@ pub fn by_bit(up: bool, stays: Node, goes_on: Node) -> (Node, Node)
 
 /// Returns the node that maps each sign letter to the shifted state. `turned` has the rows of the states at letters with the bit
 /// flipped.
-pub fn first_moved(
+pub(crate) fn first_moved(
     diagrams: &mut Diagrams,
     auto: &Auto,
     turned: &[Node],

@@ -11,6 +11,7 @@ use Rattle.track_word.specs.Tracks.{IsAscending, Values, with_var, with_vars, pa
 use Rattle.track_word.specs.Atom.{AtomHolds, ValueHolds, atom_tracks}
 use Rattle.auto_core.specs.Automaton.{Automaton, Accepts}
 use Rattle.auto_core.specs.Integers.{DecidesIntegers, IsAccepted}
+use Rattle.auto_bool.proofs.TrackLemmas.{before-is}
 use Rattle.lin_formula.specs.Tree.{Lin, Value, Among}
 use Rattle.lin_formula.specs.Holds.{Sets}
 use Rattle.lin_formula.specs.SetOf.{SetOf, Table, Member, members}
@@ -122,9 +123,6 @@ Decides-Among e number vars {a} r is integers apart size tracks words = record {
         λ h. w.1 (accepted.1 (subst (IsAccepted a) (sym same) (subst (λ s. Member s (values_at vars (word_values (with_vars vars []) word))) is h))),
       );
 }
-
-before-is : (x y : Var) (ys : List Var) → x.0 < y.0 → with_var x (y ∷ ys) ≡ x ∷ y ∷ ys
-before-is x y ys h = grind (arith, common_steps, nat_tests)
 
 later-ascend : (x : Var) (xs : List Var) → IsAscending (x ∷ xs) → IsAscending xs
 later-ascend x xs all k h =

@@ -41,8 +41,5 @@ ex_exceeds {a = a} {c = c} x budget same h =
 pub both_of_same : (connective : Connective) {a b c d m : Automaton} → AcceptSame a c → AcceptSame b d → DecidesBoth connective c d m → DecidesBoth connective a b m
 both_of_same connective left right decides f g e one other = decides f g e (still_decides left one) (still_decides right other)
 
-pub both_to_same : (connective : Connective) {a b m n : Automaton} → AcceptSame m n → DecidesBoth connective a b m → DecidesBoth connective a b n
-both_to_same connective same decides f g e one other = still_decides same (decides f g e one other)
-
 pub ex_to_same : (x : Var) {a m n : Automaton} → AcceptSame m n → DecidesEx x a m → DecidesEx x a n
 ex_to_same x same decides f e part = still_decides same (decides f e part)

@@ -21,7 +21,7 @@ pub const STEPS: u32 = 8;
 
 /// Returns the formula that t is positive and exactly one of t and t + q is in the set.
 #[tactic(auto, unfolding(crate::specs::Question::differs))]
-pub fn differs(alloc: Global, q: u8) -> Result<Formula, AllocError>
+pub(crate) fn differs(alloc: Global, q: u8) -> Result<Formula, AllocError>
     requires { q ≤ MOST_PERIOD }
     ensures { IfOk result (λ f. tree_of f ≡ question.differs q) }
 {

@@ -25,7 +25,11 @@ use track_word::laws::{
 };
 
 /// Returns the least period, and the least positive number from which on the set repeats.
-pub fn first_period(alloc: Global, a: &Auto, budget: Budget) -> Result<PeriodStart, PeriodError>
+pub(crate) fn first_period(
+    alloc: Global,
+    a: &Auto,
+    budget: Budget,
+) -> Result<PeriodStart, PeriodError>
     requires reduced { IsReduced a.now }
     requires tracks { a.now.tracks ≡ t_var ∷ [] }
     requires decides { DecidesIntegers a.now }

@@ -9,7 +9,7 @@ use crate::periodic::{MOST_PERIOD, PeriodStart};
 use auto_numbers::NumberSet;
 
 /// Returns the residues of the members from the start on; bit i is 1 if numbers with residue i are in the set.
-pub fn residues_of(set: &NumberSet, start: PeriodStart) -> u64
+pub(crate) fn residues_of(set: &NumberSet, start: PeriodStart) -> u64
     requires { Repeating (Has set.now.auto.now) start }
     ensures { AreRests (Has set.now.auto.now) start.from start.period result }
 {

@@ -13,7 +13,7 @@ use std::alloc::{AllocError, Global};
 
 /// Returns the runs of positive members below the end. Errors: `Many` if there are more than `MOST_RUNS`, `Memory` if an allocation
 /// fails.
-pub fn runs_below(alloc: Global, set: &NumberSet, end: u128) -> Result<Vec<Run>, PeriodError>
+pub(crate) fn runs_below(alloc: Global, set: &NumberSet, end: u128) -> Result<Vec<Run>, PeriodError>
     requires { end ≤ 2 ^ GREATEST_BITS }
     ensures ok { IfOk result (λ runs. AreFewRuns (Has set.now.auto.now) 1 end MOST_RUNS runs.items) }
     ensures err { IfErr result (IsRunsError (Has set.now.auto.now) 1 end MOST_RUNS) }

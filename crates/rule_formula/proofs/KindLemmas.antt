@@ -77,9 +77,6 @@ ray_is s k n r is =
 pub offset_is : (a b : ℤ) (m : ℤ) → b ≡ a +ℤ m → b -ℤ a ≡ m
 offset_is a b m h = omega (arith, ints)
 
-pub offset_to : (a b : ℤ) (m : ℤ) → b -ℤ a ≡ m → b ≡ a +ℤ m
-offset_to a b m h = omega (arith, ints)
-
 -- a man reaches what lies on his ray
 pub reach_along : {s : Side} {k : Kind} {n : ℕ} {r : Ray} {a b : Square} → IsRayOf s k n r → serves_captures k n ≡ true → LiesOn r a b → HasReach s k (b.x -ℤ a.x) (b.y -ℤ a.y)
 reach_along {s} {k} {r} {a} {b} is serves w =

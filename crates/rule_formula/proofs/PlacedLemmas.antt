@@ -46,10 +46,6 @@ from_placed stock live turn f zero q is = absurd (cc)
 from_placed stock live turn f (suc i) q is =
     let w = get_back 1 i (suc i) stock live f q (omega arith) is in record { man = w.0; is_man = w.1; is = w.2 }
 
-pub square_placed : (b : Bool) (z : Square) → place_square (place_at b z) ≡ (if b then Some z else None)
-square_placed true z = refl
-square_placed false z = refl
-
 -- a live man of the stock stands on his square, and on no other
 pub stands_placed : (b : Bool) (z y : Square) → place_square (place_at b z) ≡ Some y → (b ≡ true) × (z ≡ y)
 stands_placed true z y h = let s : Some z ≡ Some y = h in (refl, cc)

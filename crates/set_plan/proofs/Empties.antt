@@ -13,9 +13,6 @@ use Rattle.set_plan.specs.Sets.{IsSetOn}
 pub accepts-none : (a : Automaton) → IsEmpty (Table a) → (word : List ℕ) → IsWord (length a.tracks) word → ¬ Accepts a word
 accepts-none a empty word is h = empty _ (record { word = word; is_word = is; values = refl; accepts = h })
 
-pub is-empty : (a : Automaton) → ((word : List ℕ) → IsWord (length a.tracks) word → ¬ Accepts a word) → IsEmpty (Table a)
-is-empty a none tuple h = none h.word h.is_word h.accepts
-
 pub some-left : (e : ℕ → SetOf) (xs ys : List ℕ) → SomeEmpty (map e xs) → SomeEmpty (map e (xs ++ ys))
 some-left e [] ys h = absurd h
 some-left e (x ∷ xs) ys (inl empty) = inl empty

@@ -20,11 +20,6 @@ Thinned-append is (k ∷ js) (inl (lacks, rest)) same = inl (lacks, Thinned-appe
 Thinned-append is (k ∷ js) {i} (inr (h, rest, e, here, thin)) same =
     inr (h, rest ++ i ∷ [], ap (λ (l : List Item). l ++ i ∷ []) e, here, Thinned-append rest js thin same)
 
-pub Thinned-skip : (is js : List Item) (j : Item) → Thinned is js → IsLacking j → Thinned is (js ++ j ∷ [])
-Thinned-skip is [] j e lacks = inl (lacks, e)
-Thinned-skip is (k ∷ js) j (inl (here, rest)) lacks = inl (here, Thinned-skip is js j rest lacks)
-Thinned-skip is (k ∷ js) j (inr (h, rest, e, here, thin)) lacks = inr (h, rest, e, here, Thinned-skip rest js j thin lacks)
-
 module _ {P : Type 0} (part : P) (budget : ℕ) where
   compute-same : (at : ℕ) (i j : Item) (v : Made) (xs : List (Entry P)) → SameItem i j → Takes (compute part at i) xs (Some v) → Past xs budget None → Ends (compute part at j) budget v
   compute-same at i j v xs same (inl (e, o)) past = none_some o

@@ -32,7 +32,7 @@ pub fn has_no_tuple(a: &Auto) -> bool
 }
 
 /// Returns whether there is no set, or an empty one.
-pub fn is_none_or_empty(set: &Option<Auto>) -> bool
+pub(crate) fn is_none_or_empty(set: &Option<Auto>) -> bool
     requires { IfSome set.now AllReached }
     ensures yes { OnTrue result (IsEmpty (as_set set.now)) }
     ensures none { OnFalse result (¬ IsEmpty (as_set set.now)) }
@@ -45,7 +45,7 @@ pub fn is_none_or_empty(set: &Option<Auto>) -> bool
 
 /// Returns whether one of the sets is empty that the formula names outside of negations and disjunctions. Recurses one call per
 /// level.
-pub fn lacks_a_set(f: &Formula, sets: &SetTable) -> bool
+pub(crate) fn lacks_a_set(f: &Formula, sets: &SetTable) -> bool
     requires { IsReady (tree_of f.now) sets.now }
     ensures yes { OnTrue result (SomeEmpty (map (tables sets.now) (positives (tree_of f.now)))) }
     ensures none { OnFalse result (NoneEmpty (map (tables sets.now) (positives (tree_of f.now)))) }

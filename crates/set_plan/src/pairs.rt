@@ -55,7 +55,7 @@ fn either_reached(
 }
 
 /// Returns the union of two owned sets. If it is known to equal one of them, that one is returned.
-pub fn united(
+pub(crate) fn united(
     alloc: Global,
     tracks: &[Var],
     a: Auto,
@@ -77,7 +77,7 @@ pub fn united(
 }
 
 /// Returns the union as `united` does, of sets that need not be minimal; nor is the result.
-pub fn united_reached(
+pub(crate) fn united_reached(
     alloc: Global,
     tracks: &[Var],
     a: Auto,
@@ -120,7 +120,7 @@ fn either_of_reduced(
 }
 
 /// Returns the same set, minimized. Errors: an allocation failed.
-pub fn reduced_set(alloc: Global, a: &Auto) -> Result<Auto, AllocError>
+pub(crate) fn reduced_set(alloc: Global, a: &Auto) -> Result<Auto, AllocError>
     ensures { IfOk result (IsReductionOf a.now) }
 {
     let r = reduce(alloc, a)?;
@@ -128,7 +128,7 @@ pub fn reduced_set(alloc: Global, a: &Auto) -> Result<Auto, AllocError>
 }
 
 /// Returns the difference of two sets.
-pub fn except(
+pub(crate) fn except(
     alloc: Global,
     tracks: &[Var],
     a: &Auto,

@@ -62,7 +62,7 @@ pub fn make<P: Copy>(
 }
 
 /// Does as `make`, over the sets of a `MeetTable`; the result need not be minimal.
-pub fn make_on<P: Copy>(
+pub(crate) fn make_on<P: Copy>(
     alloc: Global,
     memo: &mut Memo,
     meets: &mut MeetTable,

@@ -26,7 +26,7 @@ pub struct Scope<'a> {
 }
 
 /// Returns the set without the tuples for which one of the formulas is true. `Over` does not mean that a step exceeds the budget.
-pub fn minus_all(
+pub(crate) fn minus_all(
     alloc: Global,
     memo: &mut Memo,
     set: Auto,

@@ -8,7 +8,7 @@ use auto_merge::merge;
 use std::alloc::{AllocError, Global};
 
 /// Returns the automaton of the same words with states merged in one pass. Errors: an allocation failed.
-pub fn merged(alloc: Global, a: &Auto) -> Result<Auto, AllocError>
+pub(crate) fn merged(alloc: Global, a: &Auto) -> Result<Auto, AllocError>
     ensures same { IfOk result (AcceptSame a.now) }
     ensures accessible { IfOk result (λ m. (budget : ℕ) → IsAccessible budget a.now → IsAccessible budget m) }
 {

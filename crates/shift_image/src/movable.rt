@@ -13,7 +13,7 @@ use std::alloc::{AllocError, Global};
 use track_word::Var;
 
 /// Returns whether some values change, each by one or two, and tracks of the set can be shifted for that.
-pub fn is_movable(alloc: Global, image: &Image) -> Result<bool, AllocError>
+pub(crate) fn is_movable(alloc: Global, image: &Image) -> Result<bool, AllocError>
     ensures { IfOk result (λ is. IsTrue is → IsMovable (image_of image.now)) }
 {
     let shifts = image.shifts.as_slice();
@@ -25,7 +25,7 @@ pub fn is_movable(alloc: Global, image: &Image) -> Result<bool, AllocError>
 }
 
 /// Returns the variables of a shifted tuple.
-pub fn moved_vars(
+pub(crate) fn moved_vars(
     alloc: Global,
     shifts: &[ValueShift],
     vars: &[Var],

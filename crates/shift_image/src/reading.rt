@@ -20,7 +20,7 @@ struct Step<'a> {
 }
 
 /// Returns a formula as an image, if it has that form. Errors: an allocation failed.
-pub fn read_image<'a>(alloc: Global, f: &'a Formula) -> Result<Option<Image<'a>>, AllocError>
+pub(crate) fn read_image<'a>(alloc: Global, f: &'a Formula) -> Result<Option<Image<'a>>, AllocError>
     ensures { IfOk result (λ some. IfSome some (λ i. image_tree (image_of i) ≡ tree_of f.now)) }
 {
     let mut bound = Vec::new(alloc);

@@ -8,7 +8,7 @@ use crate::shift::ValueShift;
 use limits::Budget;
 
 /// Returns the state limit of the shifted set and of its part, each, if the set has few enough states.
-pub fn share(budget: Budget, shifts: &[ValueShift], states: u32) -> Option<Budget>
+pub(crate) fn share(budget: Budget, shifts: &[ValueShift], states: u32) -> Option<Budget>
     requires { 0 < length shifts.now }
     ensures start { IfSome result (λ each. laws.start_colours shifts.now * states ≤ budget) }
     ensures changes { IfSome result (λ each. laws.change_colours shifts.now * each ≤ budget) }

@@ -17,7 +17,12 @@ use std::alloc::Global;
 use track_word::place_of;
 
 /// Returns the set with the new values in place of the old ones. `Over` does not mean that a step exceeds the budget.
-pub fn moved(alloc: Global, set: Auto, shifts: &[ValueShift], each: Budget) -> Result<Auto, Grown>
+pub(crate) fn moved(
+    alloc: Global,
+    set: Auto,
+    shifts: &[ValueShift],
+    each: Budget,
+) -> Result<Auto, Grown>
     requires integers { DecidesIntegers set }
     requires near { All (λ s. IsNear s.by) shifts.now }
     requires there { All (λ s. place set.tracks s.new < length set.tracks) shifts.now }
