@@ -55,7 +55,7 @@ fn are_alike(a: &Auto, b: &Auto) -> bool
     a.tracks() == b.tracks()
 }
 
-/// Writes whether two automata accept the same words, where they are over the same variables.
+/// Writes whether two automata accept the same words, if they are over the same variables.
 fn write_are_same(row: &mut Row, a: &Auto, b: &Auto) -> Result<(), RowError> {
     if !are_alike(a, b) {
         return Err(RowError::Condition);

@@ -28,7 +28,7 @@ fn formula(alloc: Global, text: &str) -> Result<Formula, RowError>
     }
 }
 
-/// Writes whether a formula holds, or which step of it is over the budget.
+/// Writes whether a formula is true, or which step of it exceeds the budget.
 fn write_compiled(row: &mut Row, answer: Result<Auto, CompileError>) -> Result<(), RowError>
     requires { IfOk answer IsReduced }
 {
@@ -40,7 +40,7 @@ fn write_compiled(row: &mut Row, answer: Result<Auto, CompileError>) -> Result<(
     Ok(())
 }
 
-/// Compiles the closed formula of a text with a memo, and writes what that answers.
+/// Compiles the closed formula of a text with a cache, and writes the result.
 fn write_formula(memo: &mut Memo, text: &str, row: &mut Row) -> Result<(), RowError> {
     let f = formula(row.alloc, text)?;
     let sets = SetTable::new(row.alloc);

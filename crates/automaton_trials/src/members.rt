@@ -11,7 +11,7 @@ use limits::MOST_TRACKS;
 use std::alloc::Global;
 use trial_rows::{Row, RowError, numbers};
 
-/// Whether some letters are a word over so many tracks.
+/// Returns whether some letters are a word over this number of tracks.
 fn is_word(tracks: usize, word: &[u32]) -> bool
     requires { tracks ≤ MOST_TRACKS }
     ensures { IsTrue result → IsWord tracks word.now }

@@ -15,7 +15,7 @@ use trial_rows::{Row, RowError, number};
 /// The variable of the numbers of a described set.
 const NUMBER: Var = Var(18);
 
-/// Writes the runs, from where on the set repeats, its period, and a number whose bits are the rests.
+/// Writes the runs, from where on the set is periodic, its period, and a number whose bits are the rests (residues).
 fn write_periodic(row: &mut Row, periodic: &Periodic) {
     for run in periodic.runs.as_slice() {
         row.write_number(run.low);
@@ -27,7 +27,7 @@ fn write_periodic(row: &mut Row, periodic: &Periodic) {
     row.write_labelled(" rests ", periodic.rests);
 }
 
-/// Writes what is told of the set of an automaton of the variable of described sets, or why nothing is.
+/// Writes the description of the set of an automaton of one variable, or why there is none.
 fn describe(row: &mut Row, a: &Auto, budget: Budget) -> Result<(), RowError>
     requires reduced { IsReduced a.now }
     requires tracks { a.now.tracks ≡ t_var ∷ [] }

@@ -10,7 +10,7 @@ use auto_search::{Few, Search, TupleRay};
 use std::alloc::Global;
 use trial_rows::{Row, RowError, number};
 
-/// The greatest distance that may be asked for.
+/// The greatest distance of a query.
 const MOST_DISTANCE: u128 = 1 << 64;
 
 /// The greatest number of states that room is reserved for.
@@ -85,7 +85,7 @@ fn write_few(row: &mut Row, few: Few) {
     });
 }
 
-/// Writes the answer to a question along a ray.
+/// Writes the result of a query along a ray.
 fn ask_along(
     search: &mut Search,
     a: &Auto,
@@ -119,7 +119,7 @@ fn ask(search: &mut Search, a: &Auto, row: &mut Row) -> Result<(), RowError>
     ask_along(search, a, &way, question, row)
 }
 
-/// Writes the answers to the questions that are left, by one search.
+/// Writes the results of the remaining queries, by one search.
 fn ask_all(search: &mut Search, a: &Auto, row: &mut Row) -> Result<(), RowError>
     requires decides { DecidesIntegers a.now }
     requires room { length a.now.accept ≤ search.old }

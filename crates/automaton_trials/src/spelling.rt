@@ -14,7 +14,7 @@ use trial_rows::{Named, Row, RowError};
 /// The greatest depth of nested automata.
 pub const MOST_DEPTH: u8 = 60;
 
-/// The terms of a comparison, behind their number: coefficients and their variables.
+/// Parses the terms of a comparison, after their number: coefficients and their variables.
 fn terms(row: &mut Row) -> Result<Vec<(i8, Var)>, RowError> {
     let count = row.number::<u8>()?;
     let mut terms = Vec::new(row.alloc);

@@ -13,7 +13,7 @@ use winning_sets::StepName;
 pub enum CheckError {
     /// The first rule that the claim does not keep.
     NotKept(RuleAt),
-    /// The first step of the claim's plan that is past the budget.
+    /// The first step of the claim's plan that exceeds the budget.
     Over(StepName),
     /// Memory ran out.
     Memory,

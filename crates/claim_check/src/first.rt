@@ -35,7 +35,7 @@ fn is_claimed(claim: &ReducedClaim) -> bool
     }
 }
 
-/// The rule of the start where the winner is to move. Without a move he leads nowhere.
+/// Checks the rule of the start if it is the winner's turn. With 0 moves the rule fails.
 fn check_moving(claim: &ReducedClaim, work: &mut PlanState) -> FirstFailure
     requires signed { AreSigned (claim_in claim.now) }
     requires turn { claim.now.position.turn ≡ claim.now.winner }
@@ -51,7 +51,7 @@ fn check_moving(claim: &ReducedClaim, work: &mut PlanState) -> FirstFailure
     failed_rule_by(rule, has_first_move(&bench, work, &level))
 }
 
-/// The rule of the start where the loser is to move.
+/// Checks the rule of the start if it is the loser's turn.
 fn check_waiting(claim: &ReducedClaim) -> Option<RuleAt>
     requires { AreSigned (claim_in claim.now) }
     ensures { (budget : ℕ) → Ends (plan.check_waiting (claim_in claim.now)) budget result }

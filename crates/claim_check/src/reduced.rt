@@ -112,7 +112,7 @@ impl ReducedClaim {
     }
 }
 
-/// A set, reduced. The table that was read is let go.
+/// Reduces a set, and drops the table that was read.
 fn reduced_set(alloc: Global, claimed: ClaimedSet) -> Result<Auto, AllocError>
     ensures { IfOk result (λ a. IsReducedOf (automaton_in claimed.set) a) }
 {

@@ -24,11 +24,11 @@ use set_plan::PlanError;
 #[derive(Drop)]
 struct Replies {
     ply: u8,
-    /// What is claimed at the ply, from where they lead.
+    /// What is claimed at the ply from which the replies start.
     claimed: LevelNames,
     /// What they reach.
     reached: LevelNames,
-    /// What is claimed two plies later, into which the answers are to lead.
+    /// What is claimed two plies later, where the winner's moves must lead.
     later: LevelNames,
 }
 
@@ -61,7 +61,7 @@ fn replies_at(
     })
 }
 
-/// Whether each position with the mask that is reached has an answer.
+/// Checks whether each reached position with the mask has a move into what is claimed.
 fn check_left(
     claim: &ReducedClaim,
     work: &mut PlanState,
@@ -117,7 +117,7 @@ fn check_stale(
     )
 }
 
-/// Whether what is reached has answers, mask by mask.
+/// Checks the reached positions, mask by mask.
 #[derive(Clone, Copy)]
 struct AnswersByMask<'a> {
     claim: &'a ReducedClaim,
@@ -155,7 +155,7 @@ impl Checks for StalematesByMask<'_> {
     }
 }
 
-/// Whether each position that is reached has an answer, mask by mask.
+/// Checks whether each reached position has a move into what is claimed, mask by mask.
 fn check_all_left(claim: &ReducedClaim, work: &mut PlanState, replies: &Replies) -> FirstFailure
     requires { AreReplies claim.now replies.now.ply work.old.sets replies.now }
     ensures finds { FindsBy work.old (check_all_left_in claim.now work.old.sets replies.now) result }
@@ -175,7 +175,7 @@ fn check_all_stale(claim: &ReducedClaim, work: &mut PlanState, replies: &Replies
     first_failing(&StalematesByMask { claim, replies }, work, bench.masks)
 }
 
-/// The rules of the replies at a ply. Its sets are let go after it.
+/// Checks the rules of the replies at a ply, and drops its sets afterwards.
 fn check_ply(claim: &ReducedClaim, work: &mut PlanState, ply: u8) -> FirstFailure
     requires signed { AreSigned (claim_in claim.now) }
     requires ply { ply ≤ 41 }

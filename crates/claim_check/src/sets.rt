@@ -30,7 +30,7 @@ fn check_sign(alloc: Global, ply: u8, mask: u8, set: &Auto) -> FirstFailure
     Ok(failed_rule(rule_at(ply, mask, Rule::Sign), stable))
 }
 
-/// Whether the live men stand apart in the set of the stage.
+/// Checks whether live men stand on distinct squares in the stage's set.
 fn check_same(claim: &ReducedClaim, work: &mut PlanState, at: &StageLevel) -> FirstFailure
     requires mask { IsGameMask claim.now.position at.now.stage.mask }
     requires level { AreNamesIn claim.now.position work.old.sets at.now.level.now }

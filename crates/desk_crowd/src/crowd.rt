@@ -109,7 +109,7 @@ fn answer<K: Sink>(alloc: Global, crowd: &Crowd, moves: u8, budget: Budget, sink
     }
 }
 
-/// The line that names a step that is past the budget.
+/// Returns the line that names a step that exceeds the budget.
 fn step_line(step: u128) -> LineBuffer
     ensures { result ≡ specs.step_line step }
 {

@@ -42,7 +42,7 @@ fn ray_front(man: u8, step: Ray) -> LineBuffer
     line
 }
 
-/// Adds what is told of a description.
+/// Appends the text of a description.
 fn push_description(
     alloc: Global,
     text: &mut Vec<u8>,
@@ -58,7 +58,7 @@ fn push_description(
     }
 }
 
-/// Adds the runs, from where on the set repeats, its period, and which rests are in it.
+/// Appends the runs, from where on the set is periodic, its period, and the rests (residues) in it.
 fn push_periodic(alloc: Global, text: &mut Vec<u8>, periodic: &Periodic) -> Result<(), AllocError>
     ensures { OnOk result (text.new.items ≡ text.old.items ++ periodic_text periodic.now) }
 {
@@ -68,7 +68,7 @@ fn push_periodic(alloc: Global, text: &mut Vec<u8>, periodic: &Periodic) -> Resu
     push_rests(alloc, text, periodic.rests, periodic.period)
 }
 
-/// What stands between the runs and the rests.
+/// Returns the text between the runs and the rests.
 fn repeating_text(periodic: &Periodic) -> LineBuffer
     ensures { result ≡ codes " from " ++ decimal periodic.now.from ++ codes " every " ++ decimal periodic.now.period ++ codes " rests " }
 {

@@ -33,7 +33,7 @@ pub struct RayStep {
 /// Why rays are not described.
 #[derive(Clone, Copy)]
 pub enum DescribeError {
-    /// The step is past the budget.
+    /// The step exceeds the budget.
     Over(RayStep),
     /// Memory ran out.
     Memory,
@@ -64,7 +64,7 @@ pub fn print_stop<K: Sink>(sink: &mut K, error: DescribeError) -> Status
     }
 }
 
-/// The line that names a step that is past the budget.
+/// Returns the line that names a step that exceeds the budget.
 fn ray_step_line(step: RayStep) -> LineBuffer
     ensures { result ≡ specs.ray_step_line step }
 {

@@ -30,15 +30,15 @@ pub enum NoClaim {
     Missing,
     /// It is longer than a file may be.
     TooLong,
-    /// It ends at this place, where more is due.
+    /// It ends at this offset, where more bytes are due.
     Cut(u64),
     /// The field that begins at this place is whole and wrong.
     Byte(u64, ByteWhy),
-    /// More bytes stand at this place than a file has.
+    /// Bytes follow its end, the first of them at this offset.
     Extra(u64),
     /// The first rule that the claim does not keep.
     NotKept(RuleAt),
-    /// The first step past the budget of the plan that checks the claim.
+    /// The first step of the plan that checks the claim that exceeds the budget.
     Over(StepName),
     /// There is no memory for the file or for its claim.
     Memory,
@@ -147,7 +147,7 @@ fn fetch<H: Shelf>(alloc: Global, name: &str, shelf: &mut H) -> Result<Vec<u8>, 
     }
 }
 
-/// The claim that the bytes are the file of. They are let go then.
+/// Returns the claim of the bytes, which are dropped then.
 fn read_claim(alloc: Global, bytes: Vec<u8>) -> Result<Claim, NoClaim>
     ensures reads { TellsRead bytes.items result }
 {

@@ -53,7 +53,7 @@ fn refuse_line<K: Sink>(sink: &mut K, why: LineWhy) -> Status
     Status::Text
 }
 
-/// Writes whether the formula that the line is holds.
+/// Writes whether the formula in the line is true.
 fn answer_line<K: Sink>(alloc: Global, line: &[u8], budget: Budget, sink: &mut K) -> Status
     requires short { length line.now ≤ MOST_LINE_BYTES }
     ensures ends { EndsOnSink K.Sink result (LineReports budget line.now) (Unit {0}) sink.old sink.new }
@@ -72,7 +72,7 @@ fn answer_line<K: Sink>(alloc: Global, line: &[u8], budget: Budget, sink: &mut K
     }
 }
 
-/// Writes whether the formula holds.
+/// Writes whether the formula is true.
 fn answer<K: Sink>(alloc: Global, f: &Formula, budget: Budget, sink: &mut K) -> Status
     requires question { IsQuestion (tree_of f.now) }
     ensures ends { EndsOnSink K.Sink result (FormulaReports budget (tree_of f.now)) (Unit {0}) sink.old sink.new }
@@ -146,7 +146,7 @@ fn field_line(number: u32) -> LineBuffer
     line
 }
 
-/// The line that names a step that is past the budget.
+/// Returns the line that names a step that exceeds the budget.
 fn step_line(step: u32) -> LineBuffer
     ensures { result ≡ specs.step_line step }
 {

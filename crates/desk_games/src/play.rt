@@ -69,7 +69,7 @@ pub fn finish<K: Sink>(played: Result<Ending, GameError>, sink: &mut K) -> Statu
     }
 }
 
-/// Writes the line that tells of an ending apart from the text, as far as the sink takes it.
+/// Writes the line for an ending that is not part of the text, as far as the sink accepts it.
 fn close<K: Sink>(ending: Ending, sink: &mut K) -> Status
     ensures status { result ≡ status_of ending }
     ensures written { OnSink K.Sink (Writes [] (ending_line ending)) sink.old sink.new }

@@ -6,7 +6,7 @@ ghost use Rattle.desk_report.specs.Codes.{code_of};
 /// How a run ended.
 #[derive(Clone, Copy, PartialEq, Eq)]
 pub enum Status {
-    /// The answer was written whole.
+    /// The whole answer was written.
     Done,
     /// The words are no order.
     Usage,
@@ -16,15 +16,15 @@ pub enum Status {
     Unsound,
     /// The source has failed while a line was due.
     ReadFault,
-    /// The sink has failed before the answer was out.
+    /// The sink failed before the whole answer was written.
     WriteFault,
     /// The shelf has failed.
     ShelfFault,
-    /// A step is past the budget.
+    /// A step exceeds the budget.
     Budget,
     /// The winner is to move, and none of his moves to a square of 64 bits keeps the promised count.
     Wide,
-    /// There is no memory for the answer.
+    /// Out of memory.
     Memory,
     /// There is no file of the name, its bytes are no file of a claim, or the claim does not keep a rule; or the file would be too large.
     File,

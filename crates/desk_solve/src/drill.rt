@@ -31,7 +31,7 @@ pub fn drill<K: Sink>(alloc: Global, seed: u64, count: u8, sink: &mut K) -> Stat
     }
 }
 
-/// From how many of so many positions White mates in one move.
+/// Returns the number of the `count` positions in which White mates in one move.
 fn count_mates(alloc: Global, seed: u64, count: u8) -> Result<u8, SolveError>
     ensures found { IfOk result (DrillFinds seed count) }
     ensures step { IfOver result (DrillStops seed count) }
@@ -58,7 +58,7 @@ fn is_mate_in_one(alloc: Global, problem: &Problem) -> Result<bool, SolveError>
     Ok(solver.mates_within(1)?.is_some())
 }
 
-/// The line that says from how many of so many positions White mates in one move.
+/// Returns the line with the number of the `count` positions in which White mates in one move.
 fn drill_line(mates: u8, count: u8) -> LineBuffer
     ensures { result ≡ specs.drill_line mates count }
 {

@@ -13,7 +13,7 @@ const MULTIPLIER: u64 = 6_364_136_223_846_793_005;
 
 const INCREMENT: u64 = 1_442_695_040_888_963_407;
 
-/// In each case but the first one man of White stands elsewhere.
+/// The number of cases. In each case but the first, one white man stands on another square.
 const CASES: u64 = 8;
 
 /// How many offsets there are in each direction.
@@ -44,7 +44,7 @@ struct Displacement {
 }
 
 impl Displacement {
-    /// Where the square goes.
+    /// Returns the square, moved by the displacement.
     fn moved(self, x: i8, y: i8) -> Place
         ensures { result ≡ mapped_place (shift self.x self.y) (places.At x y) }
     {
@@ -93,7 +93,7 @@ fn offset(bits: u64) -> i16
     (bits % OFFSETS) as i16 - 2048
 }
 
-/// Where White's king stands.
+/// Returns the place of White's king.
 fn white_king(case: u64, by: Displacement) -> Place
     ensures { result ≡ mapped_place (shift by.x by.y) (specs.white_king case) }
 {
@@ -103,7 +103,7 @@ fn white_king(case: u64, by: Displacement) -> Place
     }
 }
 
-/// Where White's first rook stands.
+/// Returns the place of White's first rook.
 fn first_rook(case: u64, by: Displacement) -> Place
     ensures { result ≡ mapped_place (shift by.x by.y) (specs.first_rook case) }
 {
@@ -115,7 +115,7 @@ fn first_rook(case: u64, by: Displacement) -> Place
     }
 }
 
-/// Where White's second rook stands.
+/// Returns the place of White's second rook.
 fn second_rook(case: u64, by: Displacement) -> Place
     ensures { result ≡ mapped_place (shift by.x by.y) (specs.second_rook case) }
 {

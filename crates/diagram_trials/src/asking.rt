@@ -22,7 +22,7 @@ pub fn ask(bench: &mut Bench, word: &str, row: &mut Row) -> Result<(), RowError>
     Ok(())
 }
 
-/// Writes what the step of this word answers, which asks about a node.
+/// Performs a step that queries a node, and writes its result.
 fn ask_node(bench: &Bench, node: Node, word: &str, row: &mut Row) -> Result<(), RowError>
     requires { node < length bench.now.diagrams }
 {

@@ -19,7 +19,7 @@ use trial_rows::{Fields, Row, RowError, RowInterpreter, answer_script};
 #[derive(Drop)]
 struct Diagram {}
 
-/// Makes the node of a step, or writes what the step answers, behind what earlier ones did.
+/// Makes the node of a step, or writes the result of the step after those of earlier ones.
 fn do_step(bench: &mut Bench, row: &mut Row) -> Result<(), RowError> {
     let word = row.word()?;
     if let Some(node) = make(bench, word, row)? {
@@ -29,7 +29,7 @@ fn do_step(bench: &mut Bench, row: &mut Row) -> Result<(), RowError> {
     ask(bench, word, row)
 }
 
-/// `diagram STEP/STEP ..`: what the steps answer that make no node.
+/// Runs `diagram STEP/STEP ..`: the results of the steps that make no node.
 fn diagram_row(row: &mut Row) -> Result<(), RowError> {
     let mut bench = Bench::new(row.alloc);
     for step in row.rest().split('/') {

@@ -108,7 +108,7 @@ fn relabel(diagrams: &mut Diagrams, node: Node, tracks: &[u8]) -> Result<Node, R
     Ok(diagrams.relabel(node, tracks)?)
 }
 
-/// The tracks of the next field. A track past the list's end is itself.
+/// Parses the tracks of the next field. A track after the list's end is itself.
 fn tracks(row: &mut Row) -> Result<Vec<u8>, RowError> {
     let mut tracks = row.numbers::<u8>()?;
     for track in 0..MOST_TRACKS {
@@ -127,7 +127,8 @@ fn are_tracks(tracks: &[u8]) -> bool
     tracks.len() == MOST_TRACKS as usize && tracks.iter().all(|track| *track < MOST_TRACKS)
 }
 
-/// `relabel TRACKS NODE`: the map whose tracks take their bits from these. A track past the list's end keeps its own.
+/// Runs `relabel TRACKS NODE`: the map whose tracks take their bits from these. A track after the list's end keeps its
+/// own.
 fn relabelled(bench: &mut Bench, row: &mut Row) -> Result<Option<Node>, RowError> {
     let tracks = tracks(row)?;
     let node = bench.node(row)?;

@@ -40,8 +40,8 @@ fn winner_word(winner: Side) -> &'static str {
     }
 }
 
-/// The number of moves, the side to move, the winner where he is Black, the number of men, and for each set its ply, its mask and the number of its
-/// states.
+/// Writes the number of moves, the side to move, the winner if he is Black, the number of men, and for each set its
+/// ply, its mask and its number of states.
 fn write_claim(row: &mut Row, claim: &Claim) {
     row.write_labelled("claim ", claim.moves);
     row.write_labelled(" ", turn_letter(&claim.position));

@@ -67,7 +67,7 @@ fn change_row(bytes: &[u8], row: &mut Row) -> Result<(), RowError> {
     write_read(row, changed.as_slice())
 }
 
-/// `more NAME WORDS`: what comes of a file with more bytes behind it.
+/// Runs `more NAME WORDS`: the outcome of reading a file with more bytes after it.
 fn more_row(bytes: &[u8], row: &mut Row) -> Result<(), RowError> {
     let piece = spelled(row.alloc, row.rest())?;
     let mut longer = Vec::from_slice(row.alloc, bytes)?;
@@ -75,7 +75,7 @@ fn more_row(bytes: &[u8], row: &mut Row) -> Result<(), RowError> {
     write_read(row, longer.as_slice())
 }
 
-/// Whether what comes of the first bytes of a file is that it is cut where they end.
+/// Returns whether the outcome of the first bytes of a file is that they end too early.
 fn is_cut_at(alloc: Global, bytes: &[u8], length: usize) -> Result<bool, RowError> {
     if length > bytes.len() {
         return Err(RowError::Number);
@@ -87,7 +87,7 @@ fn is_cut_at(alloc: Global, bytes: &[u8], length: usize) -> Result<bool, RowErro
     }
 }
 
-/// `cuts NAME FROM TO`: how many of the cuts to a length from FROM on and below TO are told as that cut.
+/// Runs `cuts NAME FROM TO`: how many of the cuts to a length from FROM on and below TO are reported as that cut.
 fn cuts_row(bytes: &[u8], row: &mut Row) -> Result<(), RowError> {
     let (first, last) = row.two_numbers::<u32, u32>()?;
     let mut told = 0u32;
@@ -185,8 +185,8 @@ fn write_result(
     Ok(())
 }
 
-/// `write NAME OTHER`: how many bytes version 2 has for the position, the winner and the number of moves of a file, solved anew, and whether they
-/// are those of the other.
+/// Runs `write NAME OTHER`: how many bytes version 2 has for the position, the winner and the number of moves of a
+/// file, solved again, and whether they are those of the other file.
 fn write_row(bytes: &[u8], other: &[u8], row: &mut Row) -> Result<(), RowError> {
     let solved = solved_in(row.alloc, bytes)?;
     write_result(row, write_file(row.alloc, &solved), other)
@@ -207,7 +207,7 @@ fn migrate_row(bytes: &[u8], other: &[u8], row: &mut Row) -> Result<(), RowError
     write_result(row, write_claim(row.alloc, &claim), other)
 }
 
-/// Adds so many states, each a flag 0 and a row of entries that are drawn.
+/// Appends `states` states, each a flag 0 and a row of entries that are drawn.
 fn push_noise(bytes: &mut Vec<u8>, states: u32, letters: u32, seed: u64) -> Result<(), RowError> {
     if states == 0 {
         return Err(RowError::Number);

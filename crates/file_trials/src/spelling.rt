@@ -5,7 +5,7 @@ ghost use Rattle.std.specs.Prelude.{◌<◌, IfOk};
 use std::alloc::Global;
 use trial_rows::{RowError, number};
 
-/// What a hexadecimal digit stands for.
+/// Returns the value of a hexadecimal digit.
 fn digit(byte: u8) -> Result<u8, RowError>
     ensures { IfOk result (λ digit. digit < 16) }
 {
@@ -31,7 +31,7 @@ fn bytes_of(alloc: Global, digits: &[u8]) -> Result<Vec<u8>, RowError> {
     Ok(bytes)
 }
 
-/// Adds a piece so many times.
+/// Appends a piece `count` times.
 fn push_often(out: &mut Vec<u8>, piece: &[u8], count: u32) -> Result<(), RowError> {
     for _ in 0..count {
         out.extend_from_slice(piece)?;
@@ -39,7 +39,7 @@ fn push_often(out: &mut Vec<u8>, piece: &[u8], count: u32) -> Result<(), RowErro
     Ok(())
 }
 
-/// Adds what a word spells: pairs of digits, and behind a `*` how often.
+/// Appends the bytes that a word spells: pairs of digits, and after a `*` how often.
 fn push_part(alloc: Global, out: &mut Vec<u8>, part: &str) -> Result<(), RowError> {
     match part.split_once('*') {
         Some((digits, count)) => {

@@ -44,7 +44,7 @@ fn y_of(k: u8) -> Var
     Var(2 * k - 1)
 }
 
-/// Both formulas hold.
+/// Returns the conjunction of the formulas.
 fn both(alloc: Global, f: Formula, g: Formula) -> Result<Formula, AllocError>
     ensures { IfOk result (λ made. tree_of made ≡ tree.And (tree_of f) (tree_of g)) }
 {
@@ -54,7 +54,7 @@ fn both(alloc: Global, f: Formula, g: Formula) -> Result<Formula, AllocError>
     }
 }
 
-/// One of the formulas holds, or both do.
+/// Returns the disjunction of the formulas.
 fn either(alloc: Global, f: Formula, g: Formula) -> Result<Formula, AllocError>
     ensures { IfOk result (λ made. tree_of made ≡ tree.Or (tree_of f) (tree_of g)) }
 {
@@ -64,7 +64,7 @@ fn either(alloc: Global, f: Formula, g: Formula) -> Result<Formula, AllocError>
     }
 }
 
-/// The formula holds with some integer as the variable's value.
+/// Returns the formula that the body is true with some integer as the variable's value.
 fn some(alloc: Global, var: Var, f: Formula) -> Result<Formula, AllocError>
     ensures { IfOk result (λ made. tree_of made ≡ tree.Ex var (tree_of f)) }
 {
@@ -102,7 +102,8 @@ fn among_live(alloc: Global, count: u8, mask: u8, set: SetId) -> Result<Formula,
     among(alloc, set, &vars)
 }
 
-/// Also, man k stands on the place, if it is a square, in place of some values of his variables.
+/// Returns the formula that f is true and man k stands on the place, if it is a square, with some values of his
+/// variables.
 fn standing(alloc: Global, f: Formula, k: u8, place: Place) -> Result<Formula, AllocError>
     requires low { 1 ≤ k }
     requires high { k ≤ 8 }
@@ -118,7 +119,8 @@ fn standing(alloc: Global, f: Formula, k: u8, place: Place) -> Result<Formula, A
     }
 }
 
-/// Also, the live men of the mask but this one stand where they do in the position.
+/// Returns the formula that f is true and the live men of the mask except this one stand on their squares of the
+/// position.
 fn others_standing(
     alloc: Global,
     f: Formula,
@@ -168,7 +170,8 @@ fn begun(alloc: Global) -> Result<Formula, AllocError>
     sum(alloc, &[(-1, T)], Rel::Le, -1)
 }
 
-/// One coordinate of a man: its variable, the ray's step, and the variable and the value of where he comes from.
+/// One coordinate of a man: its variable, the ray's step, and the variable and the value of the coordinate before the
+/// move.
 #[derive(Clone, Copy)]
 struct Coordinate {
     var: Var,
@@ -237,7 +240,8 @@ fn gone_along(alloc: Global, f: Formula, his: ManRay, place: Place) -> Result<Fo
     }
 }
 
-/// Where the man has gone along his ray, the position with the live men of the mask is in the set.
+/// Returns the formula that after the man has gone along his ray, the position with the live men of the mask is in the
+/// set.
 fn line(
     alloc: Global,
     p: &Position,

@@ -15,7 +15,7 @@ fn sink_of(row: &mut Row) -> Result<MemSink, RowError> {
     Ok(MemSink::new(row.alloc, fail, most, room)?)
 }
 
-/// Writes what each call of `put` answers.
+/// Writes the result of each call of `put`.
 fn put_pieces(sink: &mut MemSink, row: &mut Row) {
     for piece in row.rest().split('/') {
         match sink.put(piece.as_bytes()) {

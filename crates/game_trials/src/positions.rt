@@ -87,7 +87,7 @@ pub fn of_position(positions: &Named<Position>, kind: &str, row: &mut Row) -> Re
     }
 }
 
-/// Writes what a row of this kind asks a position that is sound.
+/// Writes the result of a row of this kind for a sound position.
 fn of_sound_position(
     positions: &Named<Position>,
     position: &Position,
@@ -148,7 +148,8 @@ pub fn move_of(row: &mut Row) -> Result<Move, RowError> {
     Ok(Move { man, x, y })
 }
 
-/// `move NAME M X Y`: the reason why the move is refused, or the live men behind it, the side to move, and whether it is mated.
+/// Runs `move NAME M X Y`: the reason why the move is refused, or the live men after it, the side to move, and whether
+/// it is mated.
 fn move_row(position: &Position, row: &mut Row) -> Result<(), RowError>
     requires { Sound position.now }
 {
@@ -278,7 +279,7 @@ fn write_move(row: &mut Row, mv: Move) -> Result<(), RowError> {
     Ok(())
 }
 
-/// `options NAME MASK SIDE`: the ways in which the side's men may go, each as man, ray and who is taken.
+/// Runs `options NAME MASK SIDE`: the options of the side's men, each as man, ray and the captured man.
 fn options_row(position: &Position, row: &mut Row) -> Result<(), RowError> {
     let mask = row.number::<u8>()?;
     let side = side(row)?;

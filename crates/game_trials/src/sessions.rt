@@ -23,7 +23,7 @@ fn session_of(alloc: Global, solved: Solved, frame: Frame) -> Result<Session, Ro
     }
 }
 
-/// `WINNER MOVES BUDGET FRAME`: the session of the position, where the budget suffices.
+/// Parses `WINNER MOVES BUDGET FRAME`: the session of the position, if the budget suffices.
 fn session(position: &Position, row: &mut Row) -> Result<Session, RowError>
     requires { Sound position.now }
 {

@@ -29,7 +29,7 @@ impl Drop for Bench<'_> {
 }
 
 impl<'a> Bench<'a> {
-    /// Whether the winner mates within so many moves.
+    /// Returns whether the winner mates within this number of moves.
     fn solve(&mut self, moves: u8) -> Result<bool, RowError>
         requires { moves ≤ MOST_MOVES }
     {
@@ -49,7 +49,7 @@ impl<'a> Bench<'a> {
     }
 }
 
-/// `solve MOVES`: whether the winner mates within so many moves.
+/// Runs `solve MOVES`: whether the winner mates within this number of moves.
 fn solve_step(bench: &mut Bench, row: &mut Row) -> Result<(), RowError> {
     let moves = row.number::<u8>()?;
     if moves > MOST_MOVES {
@@ -88,7 +88,7 @@ fn set_step(bench: &Bench, kind: &str, row: &mut Row) -> Result<(), RowError> {
     write_is_in(row, set)
 }
 
-/// What the step asks the solved position for: `masks`, `most`, `last`, `moves`, `winner`.
+/// Writes a property of the solved position: `masks`, `most`, `last`, `moves`, `winner`.
 fn write_solved(row: &mut Row, solved: &Solved, word: &str) -> Result<(), RowError> {
     match word {
         "masks" => row.write_numbers(solved.masks(), ','),

@@ -74,7 +74,7 @@ fn kept(
     }
 }
 
-/// Where one of the winner's options is legal and leads to what is kept.
+/// Returns the distances at which one of the winner's options is legal and leads to kept distances.
 #[cycle(kept)]
 fn win(work: &mut EngineState, ply: Ply) -> Result<Option<Auto>, CrowdError>
     requires sound { Sound (position_of ply.node.crowd) }
@@ -148,7 +148,7 @@ fn with_won(
     join(work, before.count(), so_far, item)
 }
 
-/// Where the loser is in check or can move, and does not escape.
+/// Returns the distances at which the loser is in check or has a move, and does not escape.
 #[cycle(kept)]
 fn lose(work: &mut EngineState, ply: Ply) -> Result<Option<Auto>, CrowdError>
     requires sound { Sound (position_of ply.node.crowd) }
@@ -226,7 +226,7 @@ fn with_lost(
     escaped(work, before.count(), next, kept, lost)
 }
 
-/// The men who are live after a move by the option, and the side that is to move then.
+/// Returns the live men after a move by the option, and the side to move then.
 fn force_after(force: Force, option: Opt) -> Force
     requires high { option.taken ≤ MOST_CROWD }
     requires live { 0 < option.taken → is_live force.mask option.taken ≡ true }
@@ -264,7 +264,8 @@ fn escaped(
     }
 }
 
-/// The same where nothing is kept. He escapes wherever he can move: the set is made once and counts twice.
+/// Adds an option after which nothing is kept. The loser escapes at every distance at which the move is legal: the set
+/// is computed once and used twice.
 fn always_escaped(
     work: &mut EngineState,
     count: u8,
@@ -289,7 +290,7 @@ fn always_escaped(
     Ok(LoserProgress { escape, moves })
 }
 
-/// The same where this is kept.
+/// Adds an option after which this set is kept.
 fn escaped_unless(
     work: &mut EngineState,
     count: u8,

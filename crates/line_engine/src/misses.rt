@@ -39,7 +39,7 @@ fn lead_of(f: &Formula) -> &Formula
 }
 
 impl EngineState {
-    /// The automaton of a formula that names no set. None where a step of it exceeds the budget.
+    /// Compiles a formula that names no set. Returns `None` if a step of it exceeds the budget.
     fn plain(&mut self, f: &Formula) -> Result<Option<Auto>, AllocError>
         requires plain { IsPlain (tree_of f.now) }
         ensures made { IfOk result (λ made. IfSome made (IsMadeOf (tree_of f.now) self.old.memo.budget)) }

@@ -58,7 +58,7 @@ fn in_set(alloc: Global, set: SetId, count: u8) -> Result<Formula, AllocError>
     Ok(f)
 }
 
-/// That both hold.
+/// Returns the conjunction of the formulas.
 fn both(alloc: Global, first: Formula, second: Formula) -> Result<Formula, AllocError>
     ensures { IfOk result (λ f. tree_of f ≡ tree.And (tree_of first) (tree_of second)) }
 {
@@ -68,7 +68,7 @@ fn both(alloc: Global, first: Formula, second: Formula) -> Result<Formula, Alloc
     }
 }
 
-/// That one of them holds, or both do.
+/// Returns the disjunction of the formulas.
 fn either(alloc: Global, first: Formula, second: Formula) -> Result<Formula, AllocError>
     ensures { IfOk result (λ f. tree_of f ≡ tree.Or (tree_of first) (tree_of second)) }
 {
@@ -78,7 +78,7 @@ fn either(alloc: Global, first: Formula, second: Formula) -> Result<Formula, All
     }
 }
 
-/// That the body holds with some integer as the variable's value.
+/// Returns the formula that the body is true with some integer as the variable's value.
 fn some(alloc: Global, var: Var, body: Formula) -> Result<Formula, AllocError>
     ensures { IfOk result (λ f. tree_of f ≡ tree.Ex var (tree_of body)) }
 {

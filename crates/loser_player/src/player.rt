@@ -31,7 +31,7 @@ impl Loser {
     }
 }
 
-/// How a game stands for who plays the loser.
+/// Returns the state of the game for the player of the loser.
 fn standing_of(stand: Stand) -> GameState
     ensures { result ≡ standing_is stand }
 {

@@ -133,7 +133,7 @@ impl Defence {
         has_move_into(&mut self.search, &table, &self.position)
     }
 
-    /// Whose turn it is, where the side to move has a legal move.
+    /// Returns whose turn it is, if the side to move has a legal move.
     fn turn(&self) -> Stand
         requires left { HasMovesLeft (seen self.now) }
         requires moves { HasMove self.now.position }

@@ -8,7 +8,7 @@ use auto_core::Auto;
 use chess_game::Side;
 use winning_sets::{PlySets, Solved};
 
-/// Whose turn it is after so many moves.
+/// Returns the side to move after `ply` moves.
 fn side_at(first: Side, ply: u8) -> Side
     ensures { result ≡ turn_at first ply }
 {

@@ -125,7 +125,7 @@ fn unwon_sets(
     Ok(PlySets::new(sets))
 }
 
-/// The sets of a ply, if the loser has just moved there, and else none: with the loser to move there the solution has them.
+/// Computes the sets of a ply, if the loser has just moved. On the loser's turn it returns none: the solution has them.
 fn unwon_at(alloc: Global, solved: &Solved, ply: u8, budget: Budget) -> Result<PlySets, AllocError>
     requires plan { solved.now.origin ≡ origin.Plan }
     requires fits { RestsFit solved.now budget }

@@ -70,7 +70,7 @@ pub fn run<S: Source, K: Sink, H: Shelf>(
     }
 }
 
-/// Does what the order asks of the position text at the front of the source, and of the lines behind it.
+/// Executes a command on the position text at the front of the source and the lines after it.
 fn answer<S: Source, K: Sink, H: Shelf>(
     alloc: Global,
     order: TextOrder,

@@ -28,7 +28,7 @@ pub fn show<K: Sink>(alloc: Global, problem: &Problem, sink: &mut K) -> Status
     }
 }
 
-/// The text of the problem, and the lines behind it.
+/// Returns the text of the problem and the lines after it.
 fn shown(alloc: Global, problem: &Problem) -> Result<Vec<u8>, AllocError>
     requires { Sound problem.now.position }
     ensures { IfOk result (λ text. IsShown problem.now text.items) }

@@ -6,7 +6,7 @@ use mate_ports::{FolderShelf, StdSink, StdSource, WordsError, exit_of, perform};
 use std::process::ExitCode;
 use std::{env, io};
 
-/// The words behind the program's name.
+/// Returns the arguments after the program's name.
 fn words_of(rt: &HostRuntime) -> Result<Vec<String>, WordsError> {
     Ok(env::args(rt)?.skip(1).collect(rt.alloc())?)
 }

@@ -45,7 +45,7 @@ fn have_moves(
     )
 }
 
-/// The name of what is in the set where the side is not in check.
+/// Returns the name of the positions of the set in which the side is not in check.
 fn quiet_name(
     bench: &PlanContext,
     work: &mut PlanState,

@@ -18,7 +18,7 @@ use rule_formula::{ManPair, pairs, twins_formula};
 use set_plan::{PlanError, are_empty};
 use std::alloc::AllocError;
 
-/// Where the two men of one of the pairs stand on one square, in the set of a mask.
+/// Returns the formula that the two men of one of the pairs stand on one square, in the set of a mask.
 fn twins(
     bench: &PlanContext,
     source: MaskSet,
@@ -35,7 +35,7 @@ fn twins(
     Ok(formulas)
 }
 
-/// Where two live men stand on one square in the set of a mask, pair by pair.
+/// Returns the formulas that two live men stand on one square, in the set of a mask, pair by pair.
 fn twin_formulas(
     bench: &PlanContext,
     mask: u8,

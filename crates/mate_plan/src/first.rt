@@ -33,8 +33,8 @@ fn has_coordinates(bench: &PlanContext, set: &Option<Auto>) -> bool
     }
 }
 
-/// Where the side that is to move has a move from the one level into the other, among the positions with the live men of the starting
-/// position.
+/// Computes the positions with the live men of the starting position from which the side to move has a move from the
+/// first level into the second.
 fn first_set(
     bench: &PlanContext,
     memo: &mut Memo,

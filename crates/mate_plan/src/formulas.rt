@@ -14,7 +14,7 @@ use rule_formula::{
 };
 use std::alloc::AllocError;
 
-/// Adds where the option leads from the set of a mask, if it leads into the other mask.
+/// Appends the formula of the targets of the option from the set of a mask, if it leads to the other mask.
 fn push_image(
     bench: &PlanContext,
     formulas: &mut Vec<Formula>,
@@ -32,7 +32,8 @@ fn push_image(
     Ok(())
 }
 
-/// Adds where the options lead from the set of a mask, as far as they lead into the other mask.
+/// Appends the formulas of the targets of the options from the set of a mask, for the options that lead to the other
+/// mask.
 fn push_images(
     bench: &PlanContext,
     formulas: &mut Vec<Formula>,
@@ -49,7 +50,8 @@ fn push_images(
     Ok(())
 }
 
-/// Adds where the side's moves lead from the set of a mask into the mask of the stage, if there is a set.
+/// Appends the formulas of the targets of the side's moves from the set of a mask, with the mask of the stage, if there
+/// is a set.
 fn push_mask(
     bench: &PlanContext,
     formulas: &mut Vec<Formula>,
@@ -85,7 +87,7 @@ pub(crate) fn image_formulas(
     Ok(formulas)
 }
 
-/// Adds where a move by the option leads from the one set into the other, if there is one.
+/// Appends the formula of the moves by the option from the first set into the second, if there is one.
 fn push_pre(
     bench: &PlanContext,
     formulas: &mut Vec<Formula>,
@@ -107,7 +109,7 @@ fn push_pre(
     Ok(())
 }
 
-/// Where a move by one of the options leads from the set of a mask into a set of a level.
+/// Returns the formulas of the moves by one of the options from the set of a mask into a set of a level.
 fn pre_options(
     bench: &PlanContext,
     from: MaskSet,
@@ -142,7 +144,7 @@ pub(crate) fn pre_formulas(
     pre_options(bench, MaskSet { mask, set }, targets, all.as_slice())
 }
 
-/// Where one of the men bears as it is said, in the set of a mask.
+/// Returns the formulas that one of the bearings attacks, in the set of a mask.
 fn bears(
     bench: &PlanContext,
     source: MaskSet,

@@ -131,7 +131,7 @@ fn reply_set(
     pre_set(bench, &mut work.memo, &work.sets, &moves)
 }
 
-/// What is kept with the mask, where some position is reached.
+/// Computes the kept set of a mask, if some position is reached with it.
 fn lost_set(
     bench: &PlanContext,
     work: &mut PlanState,
@@ -156,7 +156,8 @@ fn lost_set(
     joined(bench, part, check, reply, work.memo.budget())
 }
 
-/// What is kept at a ply of the loser, where it is known what is reached at the next ply and not kept there.
+/// The inputs of the kept level of a ply of the loser, with the positions that are reached and not kept at the next
+/// ply.
 #[derive(Clone, Copy)]
 struct Lost<'a> {
     side: Side,

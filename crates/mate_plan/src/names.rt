@@ -5,7 +5,7 @@
 pub enum Part {
     /// The starting position.
     Point,
-    /// Where a move leads.
+    /// The targets of moves.
     Image,
     /// The mover's king is not attacked.
     Safe,
@@ -31,9 +31,9 @@ pub enum Part {
     Guard,
     /// The winner's first move.
     First,
-    /// The winner's answer.
+    /// The winner's reply.
     Answer,
-    /// What has no answer.
+    /// The positions without a reply.
     Left,
     /// The loser is stalemated.
     Stale,

@@ -12,7 +12,7 @@ use auto_core::Auto;
 use rule_formula::{Bearing, safe_formula};
 use set_plan::{Made, PartStep, PlanError, ProgramFold, each, make_reached, reduced};
 
-/// The set of a stage made narrower by one bearing after the other. It need not be reduced on the way.
+/// The set of a stage that is narrowed by one bearing after the other. Intermediate results need not be reduced.
 #[derive(Drop)]
 struct Narrowing<'a> {
     bench: &'a PlanContext<'a>,

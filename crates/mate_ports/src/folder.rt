@@ -45,8 +45,8 @@ impl<'a, R: Files> Shelf for FolderShelf<'a, R> {
         answer
     }
 
-    /// The bytes are written to a file beside, whose name has a dot, which no name of a command has. Then that file takes
-    /// the place of the old one, so that a run that is cut off in between leaves the old one as it was.
+    /// Writes the bytes to a temporary file, whose name has a dot, which no name of a command has. Then that file
+    /// replaces the old one, so that an interrupted run leaves the old file unchanged.
     fn keep(&mut self, alloc: Global, name: &str, bytes: &[u8]) -> Result<(), KeepError> {
         let beside = format!(in alloc; "{name}.new")?;
         if replace_file(self.system, name, beside.as_str(), bytes).is_err() {
@@ -58,7 +58,7 @@ impl<'a, R: Files> Shelf for FolderShelf<'a, R> {
     }
 }
 
-/// The bytes of the file of this name, or `None` where there is none.
+/// Returns the bytes of the file of this name, or `None` if there is none.
 fn read_file<R: Files>(
     system: &R,
     alloc: Global,
@@ -95,7 +95,7 @@ pub fn read_whole<F: Read + Drop>(
     Ok(bytes)
 }
 
-/// Why a file is not fetched where the system has this error.
+/// Returns why a file is not fetched if the system has this error.
 fn fetch_error(error: io::Error) -> FetchError
     ensures memory { error_kind error ≡ OutOfMemory → result ≡ FetchError.Memory }
     ensures failed { error_kind error ≢ OutOfMemory → result ≡ FetchError.Failed }
@@ -107,7 +107,7 @@ fn fetch_error(error: io::Error) -> FetchError
     }
 }
 
-/// Writes the bytes to the file `beside`, which then takes the place of the one of this name.
+/// Writes the bytes to the file `beside`, which then replaces the file of this name.
 fn replace_file<R: Files>(system: &R, name: &str, beside: &str, bytes: &[u8]) -> io::Result<()> {
     let mut file = fs::create(system, beside)?;
     file.write_all(bytes)?;

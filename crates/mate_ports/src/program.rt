@@ -20,7 +20,7 @@ use std::process::ExitCode;
 pub enum WordsError {
     /// There is no memory for them.
     Memory,
-    /// One of them is not text, or the system does not tell them.
+    /// One of them is not text, or the system does not expose them.
     Untold,
 }
 
@@ -69,7 +69,7 @@ pub fn perform<S: Source, K: Sink, H: Shelf>(
     }
 }
 
-/// Writes that there are no words, where memory is not what is wanting.
+/// Writes that there are no arguments, unless memory ran out.
 fn refuse_words<K: Sink>(why: WordsError, sink: &mut K) -> Status
     ensures { OnSink K.Sink (RefusesWords why result) sink.old sink.new }
 {

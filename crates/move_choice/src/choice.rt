@@ -18,7 +18,7 @@ pub struct Choice {
     pub distance: u128,
 }
 
-/// A coordinate after so many steps.
+/// Returns a coordinate after `distance` steps.
 fn moved(value: i64, slope: i8, distance: u128) -> i64
     requires slope { IsSlope slope }
     requires distance { distance ≤ 2 ^ 64 }

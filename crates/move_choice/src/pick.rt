@@ -36,7 +36,8 @@ fn of_man(search: &mut Search, aim: &Aim, man: u8) -> Option<Choice>
     None
 }
 
-/// Of the moves of any man, the first that leads into the sets: one who is captured or of the other side has none.
+/// Returns the first move of a man that leads into the sets. A man who is captured or belongs to the other side has
+/// none.
 fn of_any(search: &mut Search, aim: &Aim, man: u8) -> Option<Choice>
     requires few { HaveAtMost search.old aim.now.sets.now }
     requires first { 1 ≤ man }

@@ -64,7 +64,7 @@ fn count_all(search: &mut Search, set: &Auto, along: &AimedRay) -> Few
     search.count_on_ray(set, &searched)
 }
 
-/// How far the man may go before the square of the move, where he meets the first man on the ray.
+/// Returns how far the man may go before the square of the move, on which he meets the first man on the ray.
 fn steps_before(along: &AimedRay, mv: Move) -> u128
     requires met { MeetsOn along.now (target mv) }
     ensures clear { MayGoTo along.now result }
@@ -92,8 +92,8 @@ fn last_before(along: &AimedRay, hit: u8) -> u128
     }
 }
 
-/// How far the man may go over empty squares, or none where he may go on and on. All men stand in the frame of the aim, so that he meets nobody
-/// where he meets nobody in it.
+/// Returns how far the man may go over empty squares, or `None` if there is no bound. All men stand in the frame of the
+/// aim, so a man who is met on the board is met in it.
 fn last_clear(along: &AimedRay, hits: Option<u8>) -> Option<u128>
     requires holds { HoldsMen along.now.aim.now.frame along.now.aim.now.position.now }
     requires met { MeetsFirst along.now hits }
@@ -108,7 +108,8 @@ fn last_clear(along: &AimedRay, hits: Option<u8>) -> Option<u128>
     }
 }
 
-/// How many of the man's moves along the ray to an empty square lead into the sets, where the ray serves such moves.
+/// Returns the number of the man's moves along the ray to an empty square that lead into the sets, if the ray serves
+/// such moves.
 fn count_served(search: &mut Search, along: &AimedRay, last: Option<u128>) -> Few
     requires serves { ServesMoves along.now }
     requires few { HaveAtMost search.old along.now.aim.now.sets.now }

@@ -13,7 +13,7 @@ pub enum Ending {
     Wide,
     /// A line is `quit`.
     Quit,
-    /// The input ends where a line is due.
+    /// The input ended when a line was due.
     NoLine,
     /// As many lines were read as may be.
     Many,

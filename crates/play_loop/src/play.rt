@@ -12,7 +12,7 @@ use desk_base::{Line, LineError, LineReader, Sink, Source};
 /// Why a game was not played to its end.
 #[derive(Clone, Copy, PartialEq, Eq)]
 pub enum GameError {
-    /// The source has failed where a line was due.
+    /// The source failed when a line was due.
     Read,
     /// The sink has failed within the text.
     Write,

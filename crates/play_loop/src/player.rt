@@ -35,7 +35,7 @@ pub trait Player {
     fn side(&self) -> Side
         ensures { result ≡ rules.side (seen self.now) };
 
-    /// How the game stands.
+    /// Returns the state of the game.
     fn stand(&mut self) -> GameState
         ensures stands { rules.Stands (seen self.old) result }
         ensures kept { is_kept (seen self.old) }

@@ -38,7 +38,7 @@ fn move_line(side: Side, mv: Move) -> LineBuffer
     line
 }
 
-/// The word that the text tells an ending by.
+/// Returns the word for an ending in the text.
 fn ending_word(ending: Ending) -> &'static [u8]
     ensures { result.now ≡ turns.ending_word ending }
 {

@@ -12,7 +12,7 @@ use std::alloc::{AllocError, Global};
 use std::mem;
 use trial_rows::Answer;
 
-/// How many bytes a sink holds where no setting says it.
+/// The capacity of a sink in bytes if no setting names one.
 const ROOM: usize = 10_000;
 
 /// The settings of one run.
@@ -23,7 +23,7 @@ pub struct Case {
     input: Vec<u8>,
     reads: Port,
     writes: Port,
-    /// How many bytes the sink holds.
+    /// The capacity of the sink in bytes.
     room: usize,
 }
 
@@ -74,7 +74,7 @@ impl Case {
         self.set(alloc, stock, word, rest)
     }
 
-    /// Makes a setting: its first word, and what stands behind it.
+    /// Makes a setting: its first word, and the text after it.
     fn set(
         &mut self,
         alloc: Global,
@@ -106,7 +106,7 @@ impl Case {
         Ok(())
     }
 
-    /// `room N`: how many bytes the sink holds.
+    /// Parses `room N`: the capacity of the sink in bytes.
     fn set_room(&mut self, rest: &str) -> Result<(), ScriptWhy> {
         self.room = read_number(rest)?;
         Ok(())

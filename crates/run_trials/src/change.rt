@@ -10,11 +10,11 @@ use std::alloc::AllocError;
 /// A change of the bytes of an input, or of a file that stays from run to run.
 #[derive(Clone, Copy)]
 pub enum Change {
-    /// Only the first so many bytes stay.
+    /// Only the first `length` bytes stay.
     Cut { length: usize },
     /// The byte at this place, counted from 0, becomes this one.
     Byte { at: usize, value: u8 },
-    /// This byte comes behind the last.
+    /// This byte is appended.
     Append { value: u8 },
 }
 

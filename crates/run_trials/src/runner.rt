@@ -115,7 +115,7 @@ impl Runner {
         Ok(found.unwrap_or(Range { first: 0, last: 0 }))
     }
 
-    /// Does a run in one case, and writes what comes of it and what is to be told of files.
+    /// Performs a run in one case, and writes what it did and what the script asks about files.
     fn perform_case(&mut self, block: &[ScriptLine], number: u32) -> Result<(), ScriptWhy> {
         let mut case = Case::new(self.alloc);
         for line in block {
@@ -137,7 +137,7 @@ impl Runner {
         self.write_run(sink.bytes(), status.code())
     }
 
-    /// Writes the output of a run as it is, and its code. Where the output does not end with LF, a line says so.
+    /// Writes the output of a run unchanged, and its code. If the output does not end with LF, a line says so.
     fn write_run(&mut self, output: &[u8], code: u8) -> Result<(), ScriptWhy> {
         let Ok(output) = str::from_utf8(output) else {
             return Err(ScriptWhy::NotText);
@@ -153,7 +153,7 @@ impl Runner {
         Ok(())
     }
 
-    /// Writes what the lines of a run tell of files.
+    /// Writes the answers to the lines of a run that ask about files.
     fn tell_all(&mut self, block: &[ScriptLine], number: u32) -> Result<(), ScriptWhy> {
         for line in block {
             if line.text.starts_with("tell ") {

@@ -22,7 +22,7 @@ pub fn read_bytes(alloc: Global, text: &str) -> Result<Vec<u8>, ScriptWhy>
     Ok(bytes)
 }
 
-/// The first byte that the text spells, and what comes behind it.
+/// Returns the first byte that the text spells, and the text after it.
 fn read_byte(text: &[u8]) -> Result<(u8, &[u8]), ScriptWhy>
     ensures { IfOk result (λ read. Begins text.now read.0 read.1.now) }
 {
@@ -33,7 +33,7 @@ fn read_byte(text: &[u8]) -> Result<(u8, &[u8]), ScriptWhy>
     }
 }
 
-/// The byte that the letters behind a backslash are, and what comes behind them.
+/// Returns the byte that the letters after a backslash spell, and the text after them.
 fn read_escape(text: &[u8]) -> Result<(u8, &[u8]), ScriptWhy>
     ensures { IfOk result (λ read. Escapes text.now read.0 read.1.now) }
 {
@@ -46,7 +46,7 @@ fn read_escape(text: &[u8]) -> Result<(u8, &[u8]), ScriptWhy>
     }
 }
 
-/// The byte that the first two digits are, and what comes behind them.
+/// Returns the byte that the first two digits spell, and the text after them.
 fn read_hexadecimal(text: &[u8]) -> Result<(u8, &[u8]), ScriptWhy>
     ensures { IfOk result (λ read. BeginsWithDigits text.now read.0 read.1.now) }
 {
@@ -103,7 +103,7 @@ fn push_repeated(alloc: Global, out: &mut Vec<u8>, repeated: &str) -> Result<(),
     push_bytes(alloc, out, text, read_number(count)?)
 }
 
-/// Adds the bytes that a text spells so many times.
+/// Appends the bytes that a text spells `count` times.
 fn push_bytes(alloc: Global, out: &mut Vec<u8>, text: &str, count: u16) -> Result<(), ScriptWhy> {
     let bytes = read_bytes(alloc, text)?;
     for _ in 0..count {

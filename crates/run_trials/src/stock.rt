@@ -128,7 +128,7 @@ fn write_size(out: &mut Answer, bytes: &[u8]) {
     out.write("\n");
 }
 
-/// `at A for N`: writes the bytes of a file that stand from a place on, at most so many.
+/// Parses `at A for N`: writes at most N bytes of a file from offset A on.
 fn write_part(out: &mut Answer, bytes: &[u8], part: &str) -> Result<(), ScriptWhy> {
     let Some((at, count)) = part.split_once(" for ") else {
         return Err(ScriptWhy::Unknown);

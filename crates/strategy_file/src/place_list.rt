@@ -34,7 +34,7 @@ pub fn places(
     every_second(alloc, first, moves + plies_before_turn(winner, turn), masks)
 }
 
-/// Every second ply, so many of them, each with each mask.
+/// Returns `count` plies, every second one, each with each mask.
 fn every_second(
     alloc: Global,
     first: u8,

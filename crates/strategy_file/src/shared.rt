@@ -90,7 +90,7 @@ impl SharedAuto {
     }
 }
 
-/// The flags and the rows of so many states, each row one of so many references.
+/// Reads the flags and the rows of `count` states; a row is a reference below a bound.
 fn shared_states_at<'a>(
     alloc: Global,
     states: u32,

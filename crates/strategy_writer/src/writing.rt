@@ -162,7 +162,7 @@ fn push_man(out: &mut Vec<u8>, man: Man) -> Result<(), AllocError>
     Ok(())
 }
 
-/// The square of a live man, behind its tag.
+/// Appends the square of a live man after its tag.
 #[tactic(auto, unfolding(crate::specs::Written::square_bytes))]
 fn push_square(out: &mut Vec<u8>, x: i64, y: i64) -> Result<(), AllocError>
     ensures { OnOk result (out.new.items ≡ out.old.items ++ square_bytes x y) }

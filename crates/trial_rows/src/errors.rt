@@ -12,11 +12,11 @@ pub enum RowError {
     Kind,
     /// A field is missing.
     Missing,
-    /// Fields are left behind the last.
+    /// Fields are left after the last one.
     Rest,
-    /// A field is none of the words that can stand there.
+    /// A field is not one of the words that are allowed there.
     Word,
-    /// A field is no number, or one past the limits.
+    /// A field is not a number, or the number exceeds its limit.
     Number,
     /// Nothing has the name.
     Name,
@@ -24,7 +24,7 @@ pub enum RowError {
     Deep,
     /// The call has a condition that the row does not meet.
     Condition,
-    /// A step is over the budget where the row asks for something else.
+    /// A step exceeds the budget in a row that needs its result.
     Over,
     /// Memory ran out.
     Memory,

@@ -11,11 +11,11 @@ use std::process::ExitCode;
 
 /// Makes the calls of a program's rows, and keeps what they have named.
 pub trait RowInterpreter {
-    /// Writes what the call of a row of this kind answers, which is nothing where the row names something.
+    /// Writes the result of the call of a row of this kind; it is empty if the row names something.
     fn answer(&mut self, kind: &str, row: &mut Row) -> Result<(), RowError>;
 }
 
-/// Writes what the call of a row answers, all of whose fields have to be read.
+/// Writes the result of a row's call, all of whose fields must be read.
 fn answer_row<R: RowInterpreter>(rows: &mut R, row: &mut Row) -> Result<(), RowError> {
     let kind = row.word()?;
     rows.answer(kind, row)?;
@@ -42,7 +42,7 @@ fn is_row(line: &str) -> bool {
     !line.is_empty() && !line.starts_with('#')
 }
 
-/// Writes the answer of a row on a line of its own, unless it is empty.
+/// Writes the output of a row on a line of its own, unless it is empty.
 fn write_answer(row: &Row, out: &mut Answer) -> Result<(), RowError> {
     let text = row.answer.text()?;
     if !text.is_empty() {
@@ -52,7 +52,7 @@ fn write_answer(row: &Row, out: &mut Answer) -> Result<(), RowError> {
     Ok(())
 }
 
-/// Writes what a row answers, or `over` where a step that the row asks for is over its budget.
+/// Writes the output of a row, or `over` if a step of it exceeds its budget.
 fn write_row<R: RowInterpreter>(
     alloc: Global,
     rows: &mut R,
@@ -76,7 +76,7 @@ fn write_error(number: u64, error: RowError, out: &mut Answer) {
     out.write("\n");
 }
 
-/// Writes the answers of all rows. Says whether each was read.
+/// Writes the outputs of all rows. Returns whether each row was read.
 fn write_rows<R: RowInterpreter>(
     alloc: Global,
     rows: &mut R,

@@ -23,7 +23,7 @@ pub struct StepName {
 /// Why a position is not solved.
 #[derive(Clone, Copy, PartialEq, Eq)]
 pub enum SolveError {
-    /// The first step of the plan that is past the budget.
+    /// The first step of the plan that exceeds the budget.
     Over(StepName),
     /// Memory ran out.
     Memory,

@@ -217,7 +217,7 @@ impl Solved {
         sets_of_ply(self.reach.as_slice(), ply)
     }
 
-    /// How many states the set of a ply and a mask has, and none where there is no set.
+    /// Returns the number of states of the set of a ply and a mask, 0 if there is no set.
     fn states(&self, ply: u8, mask: u8) -> u32
         ensures { result ≡ states_of (kept_at self.now ply mask) }
     {

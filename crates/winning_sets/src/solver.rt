@@ -29,7 +29,7 @@ pub struct Solver {
     alloc: Global,
     position: Position,
     winner: Side,
-    /// Its sets are those of the levels, and after them what an unfinished answer has left.
+    /// Its sets are those of the levels, followed by what a failed solution has left.
     work: PlanState,
     /// The number of sets of the levels.
     count: u32,
@@ -130,7 +130,7 @@ impl Solver {
         }
     }
 
-    /// The answer of the plan. Sets that are not of the levels may be left.
+    /// Computes the solution of the plan. Sets that do not belong to the levels may be left.
     fn answer(&mut self, moves: u8) -> Result<Solved, PlanError<PartName>>
         requires moves { moves ≤ MOST_MOVES }
         ensures answer { IfOk result (IsAnswer self.old.position self.old.winner moves) }
@@ -148,7 +148,7 @@ impl Solver {
         Ok(self.with_steps(moves, last, kept)?)
     }
 
-    /// The answer where the winner is to move and has no move.
+    /// Returns the solution if it is the winner's turn and he has no move.
     fn without_steps(&self, moves: u8) -> Result<Solved, AllocError>
         requires moves { moves ≤ MOST_MOVES }
         requires none { last_for self.now moves ≡ 0 }
@@ -168,7 +168,7 @@ impl Solver {
         ))
     }
 
-    /// The answer with what is kept at each ply.
+    /// Returns the solution with the kept sets of each ply.
     fn with_steps(&self, moves: u8, last: u8, kept: Vec<PlySets>) -> Result<Solved, AllocError>
         requires moves { moves ≤ MOST_MOVES }
         requires last { last ≡ last_for self.now moves }
