@@ -1,7 +1,7 @@
-//! The test program `automaton_trials`: performs a script of rows from the standard input and writes the result of each
-//! row.
+//! The test program `automaton_trials`: tests automata and formulas.
 //!
-//! A row spells automata or formulas and calls the libraries on them. `docs/TESTING.md` describes the rows.
+//! It performs a script of rows from the standard input and writes the result of each row. A row spells automata or
+//! formulas and calls the libraries on them. `docs/TESTING.md` describes the rows.
 #![tactic(auto)]
 
 mod answers;

@@ -1,8 +1,8 @@
-//! Checks a claim, no matter who made it, and turns a won claim into a solved position.
+//! Checks a claim and turns a won claim into a solved position.
 //!
-//! A claim is a position, the winner, a number of moves, and a set of positions for each ply of the loser and each
-//! mask. The sets are reduced first. Then the claim's plan is executed, rule by rule in the order of
-//! `claim_plan/specs/CheckPlan`. A claim of which all rules are true is won.
+//! It does not matter who made the claim. A claim is a position, the winner, a number of moves, and a set of positions
+//! for each ply of the loser and each mask. The sets are reduced first. Then the claim's plan is executed, rule by rule
+//! in the order of `claim_plan/specs/CheckPlan`. A claim of which all rules are true is won.
 #![tactic(auto)]
 
 mod checking;

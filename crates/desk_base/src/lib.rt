@@ -1,4 +1,4 @@
-//! Traits for a program's input, output and file store, in-memory versions of them, and a line reader.
+//! Traits for input, output and files, in-memory versions of them, and a line reader.
 //!
 //! A [`Source`] is read from, a [`Sink`] is written to, and a [`Shelf`] is a store of files by name. Contracts speak of
 //! their bytes, so the operating system stays behind a thin layer.

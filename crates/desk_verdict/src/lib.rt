@@ -1,7 +1,7 @@
-//! Decides whether the winner of a problem mates within n moves, for all commands that have a plan.
+//! Decides whether the winner of a problem mates within n moves.
 //!
-//! It also has the line of the verdict and the line that names a step that exceeds the budget. `specs/Verdict` defines
-//! what is reported of a problem, and `specs/StepLines` how a step is named.
+//! All commands with a plan use it. It also has the line of the verdict and the line that names a step that exceeds the
+//! budget. `specs/Verdict` defines what is reported of a problem, and `specs/StepLines` how a step is named.
 #![tactic(auto)]
 
 mod problem_solver;

@@ -1,7 +1,7 @@
-//! The test program `diagram_trials`: performs a script of rows from the standard input and writes the result of each
-//! row.
+//! The test program `diagram_trials`: tests diagrams.
 //!
-//! A row builds diagrams step by step; steps that query them have results. `docs/TESTING.md` describes the rows.
+//! It performs a script of rows from the standard input and writes the result of each row. A row builds diagrams step
+//! by step; steps that query them have results. `docs/TESTING.md` describes the rows.
 #![tactic(auto)]
 
 mod asking;

@@ -1,6 +1,7 @@
-//! The test program `file_trials`: performs a script of rows from the standard input and writes the result of each row.
+//! The test program `file_trials`: tests strategy files.
 //!
-//! A row reads or writes the strategy file that it names. `docs/TESTING.md` describes the rows.
+//! It performs a script of rows from the standard input and writes the result of each row. A row reads or writes the
+//! strategy file that it names. `docs/TESTING.md` describes the rows.
 #![tactic(auto)]
 
 mod outcome;

@@ -1,7 +1,7 @@
-//! The test program `game_trials`: performs a script of rows from the standard input and writes the result of each row.
+//! The test program `game_trials`: tests positions, moves, ports, solvers and games.
 //!
-//! The rows call positions, moves, replies, in-memory ports, solvers and games, by calls that no command of the program
-//! `mate` makes. `docs/TESTING.md` describes the rows.
+//! It performs a script of rows from the standard input and writes the result of each row. The rows make calls that no
+//! command of the program `mate` makes. `docs/TESTING.md` describes the rows.
 #![tactic(auto)]
 
 mod ports;

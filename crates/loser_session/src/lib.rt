@@ -1,8 +1,8 @@
-//! A game in which the loser avoids mate within the given number of moves, and the winner's moves are given.
+//! A game in which the loser avoids mate within the given number of moves.
 //!
-//! The loser's moves lead to positions that are reached and not won. `specs/Unwon` defines the sets of these positions,
-//! `specs/Defending` the state of a defence, the loser's move, and the result of any list of given moves, and
-//! `specs/FirstSteps` which moves decide whether there is a legal one.
+//! The winner's moves are given. The loser's moves lead to positions that are reached and not won. `specs/Unwon`
+//! defines the sets of these positions, `specs/Defending` the state of a defence, the loser's move, and the result of
+//! any list of given moves, and `specs/FirstSteps` which moves decide whether there is a legal one.
 #![tactic(auto)]
 
 mod any_move;

@@ -1,4 +1,4 @@
-//! The top-level function `run`: executes one command on an input, an output and a file store.
+//! The top-level function `run`: executes one command on input, output and a file store.
 //!
 //! The arguments, the text, the soundness of its position, the sets, the file store and the output are handled in this
 //! order. The first refusal ends the run. The relation `Reports` under `specs` defines what a run does. The contract of

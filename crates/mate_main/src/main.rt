@@ -1,5 +1,6 @@
-//! The program `mate`: executes the command that its arguments name, on the standard input, the standard output and the
-//! files of the working folder.
+//! The program `mate`: executes the command that its arguments name.
+//!
+//! It uses the standard input, the standard output and the files of the working folder.
 #![tactic(auto)]
 
 use mate_ports::{FolderShelf, StdSink, StdSource, WordsError, exit_of, perform};

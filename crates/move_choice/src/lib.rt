@@ -1,8 +1,7 @@
-//! Finds moves that lead into sets of positions: the first one in the order of men, rays and distances, and how many
-//! there are along one ray.
+//! Finds the first move, and counts the moves along a ray, into sets of positions.
 //!
-//! Both sides of a game use it. `specs/Choice` defines which move is the first, `specs/Along` how far moves along a ray
-//! go, and `specs/Aims` the conditions on the sets.
+//! Moves are ordered by man, ray and distance. Both sides of a game use this crate. `specs/Choice` defines which move
+//! is the first, `specs/Along` how far moves along a ray go, and `specs/Aims` the conditions on the sets.
 #![tactic(auto)]
 
 mod aim;

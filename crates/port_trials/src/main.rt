@@ -1,7 +1,8 @@
-//! The test program `port_trials`: performs a script of rows from the standard input and writes the result of each row.
+//! The test program `port_trials`: tests the ports and runs of `mate`.
 //!
-//! The rows call the ports of the program `mate` on files of the working folder, and perform its runs over such files
-//! and over bytes in memory. `docs/TESTING.md` describes the rows.
+//! It performs a script of rows from the standard input and writes the result of each row. The rows call the ports of
+//! the program `mate` on files of the working folder, and perform its runs over such files and over bytes in memory.
+//! `docs/TESTING.md` describes the rows.
 #![tactic(auto)]
 
 mod calls;

@@ -1,5 +1,7 @@
-//! The test program `run_trials`: performs the runs of a script from the standard input and writes what they did to the
-//! standard output. docs/TESTING.md describes the script.
+//! The test program `run_trials`: performs the runs of a script.
+//!
+//! It reads the script from the standard input and writes what the runs did to the standard output. docs/TESTING.md
+//! describes the script.
 #![tactic(auto)]
 
 mod case;

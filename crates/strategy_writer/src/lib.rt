@@ -1,4 +1,4 @@
-//! Writes strategy files: defines the bytes of a claim, and the claim of a solved position.
+//! Writes strategy files: the bytes of a claim, and the claim of a solved position.
 //!
 //! `specs/Written` and `specs/SharedWritten` define the bytes of versions 1 and 2, and `specs/SolvedFile` the claim of
 //! a solved position.

@@ -1,7 +1,7 @@
-//! A game in which the winner's moves come from the sets of a solved position and the loser's are given.
+//! A game in which the winner plays by the sets of a solved position.
 //!
-//! The sets are those of a plan or of a won claim. `specs/Game` defines the state of a session, the winner's move, and
-//! the result of any list of replies.
+//! The loser's moves are given. The sets are those of a plan or of a won claim. `specs/Game` defines the state of a
+//! session, the winner's move, and the result of any list of replies.
 #![tactic(auto)]
 
 mod first_line;

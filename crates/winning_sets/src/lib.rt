@@ -1,4 +1,4 @@
-//! Solves a position: computes the sets of positions from which the winner mates within n moves.
+//! Computes the sets of positions from which the winner mates within n moves.
 //!
 //! The sets are automata over the coordinates of the live men. `specs/Reach` and `specs/Kept` define which positions
 //! the sets contain, and `specs/Solve` the results.
