@@ -102,7 +102,7 @@ module _ (c : Claim) (is : IsClaim c) (mean : RulesMean c.position) where
         };
       }
 
-  -- none of the rules fails exactly where the claim is won
+  -- no rule fails if and only if the claim is won
   pub none_fails : (found : Finding) → IsFirstFailing (KeepsRule c) (rules_in_order c) found → (found ≡ None) ↔ Won c
   none_fails found first = (
     λ e. keeping_won (none_failing (KeepsRule c) (rules_in_order c) (subst (λ (o : Finding). IsFirstFailing (KeepsRule c) (rules_in_order c) o) e first)),

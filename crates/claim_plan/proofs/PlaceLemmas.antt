@@ -1,4 +1,4 @@
--- The plies, the masks and the pairs of men that a plan goes through. Crates above cite these lemmas.
+-- The plies, the masks and the pairs of men of a plan. Crates above cite these lemmas.
 use Rattle.std.proofs.Common.{◌≡◌, ℕ, zero, suc, ◌+◌, ◌-◌, ◌*◌, ◌<◌, subst, arith}
 use Rattle.std.specs.Prelude.{Contains}
 use Rattle.game_rules.specs.Game.{Position, other}
@@ -27,6 +27,6 @@ plies_at winner s moves ply left e =
     let at : first + 2 * (count - left - 1) ≡ ply = omega (arith, e, one) in
     subst (λ j. Contains (every_second first count) j) at (every_second-has first count (count - left - 1) (omega (arith, e, one)))
 
--- each ply of the loser is among those that the plan goes through
+-- each ply of the loser is among the plies of the plan
 pub plies-have : {winner : Side} {p : Position} {moves ply : ℕ} → IsLosersPly winner p moves ply → Contains (losers_plies winner p.turn moves) ply
 plies-have {winner} {p} {moves} {ply} h = plies_at winner p.turn moves ply h.left h.before

@@ -164,7 +164,7 @@ module _ (i : ℕ) (low : 0 < i) (high : i ≤ 8) (r : Ray) (short_x : unsigned_
       in
       (to.x, (to.y, (a.x, (a.y, all))))
 
--- the coordinates of the live men of the mask, those of man i after so many steps of the ray from the square
+-- the coordinates of the live men of the mask, those of man i after some steps of the ray from the square
 abbrev pub tuple_gone : Position → ℕ → Ray → Square → ℕ → ℕ → List ℤ
 tuple_gone p i r a mask k =
     tuple_of (placed p.men (is_live mask) (other p.turn) (moved (squares_of p) i (after_steps a k r.dx r.dy)))

@@ -22,7 +22,7 @@ use Rattle.rule_formula.proofs.MaskLemmas.{without_is, without_less}
 use Rattle.rule_formula.proofs.MoveLemmas.{kept_live, was_live}
 use Rattle.first_distances.specs.RayFormula.{capture_masks, capture_masks_to, masks_after}
 
--- who can be captured is live, and no king
+-- a man that can be captured is live, and not a king
 module _ (p : Position) (t : ℕ) (prey : is_prey p.men (mask_of p) p.turn t ≡ true) where
   prey_live : is_live (mask_of p) t ≡ true
   prey_live = (both_true (is_live (mask_of p) t) (is_prey_man p.turn (stock_man p.men t)) prey).0
@@ -102,7 +102,7 @@ captured p t (suc n) high low prey =
           (last_if last b (capture_masks_to p n) (subst (λ j. is_prey p.men (mask_of p) p.turn j ≡ true) e prey))
     ]
 
--- the mask after the capture of some prey, or of nobody, is one of them
+-- the mask after the capture of a man, or of none, is one of them
 pub after_prey : (p : Position) (side : Side) (t : ℕ) → side ≡ p.turn → IsPrey p.men (mask_of p) side t
     → (j : ℕ) × (slice_get (masks_after p) j ≡ Some (mask_without (mask_of p) t))
 after_prey p side zero is prey = (zero, refl)

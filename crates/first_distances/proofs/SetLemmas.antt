@@ -37,7 +37,7 @@ use Rattle.first_distances.proofs.MaskLemmas.{captures_few}
 use Rattle.first_distances.proofs.MoverLemmas.{formula_is, his_dx, his_dy, his_high, his_low, his_square_is}
 use Rattle.first_distances.proofs.SizeLemmas.{IsSmall, few_known, small_formula}
 
--- the first step past the budget is the same over sets with the same tuples
+-- the first step that exceeds the budget is the same over sets with the same tuples
 pub over_same : (d e : Sets) → ((k : ℕ) (tuple : List ℤ) → d k tuple ↔ e k tuple) → (fs : List Tree) (budget from : ℕ) (answer : Option ℕ)
     → FirstOver fs d budget from answer → FirstOver fs e budget from answer
 over_same d e same [] budget from answer h = h

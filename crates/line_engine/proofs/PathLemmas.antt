@@ -1,4 +1,4 @@
--- The options of a path: who goes and who is taken, and how many there are.
+-- The options of a path: the men that move, the men that are captured, and the number of options.
 use Rattle.std.proofs.Common.{◌≡◌, ℕ, zero, suc, ◌+◌, ◌*◌, ◌^◌, ◌<◌, ◌≤◌, Bool, true, false, ◌&&◌, List, [], ◌∷◌, ◌++◌, length, length-append, get_or, Option, Some, None, sym, ap, ◌∙◌, subst, arith}
 use Rattle.std.proofs.lemmas.List.{get_or_default}
 use Rattle.std.specs.Prelude.{Contains, if◌then◌else◌}
@@ -24,7 +24,7 @@ use Rattle.rule_formula.proofs.BearLemmas.{IsNumber, stock_number}
 use Rattle.rule_formula.proofs.GameTheorem.{prey_live}
 use Rattle.rule_formula.proofs.ListTheorem.{options_are}
 
--- the numbers of an option are those of men, and who is taken is live
+-- the numbers of an option are those of men, and the captured man is live
 pub record IsNumbered (men : List Man) (mask : ℕ) (o : Opt) : Type 0 where
   pub man : IsNumber men o.man
   pub taken : o.taken ≤ length men

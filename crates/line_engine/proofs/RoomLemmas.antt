@@ -16,7 +16,7 @@ next_power left =
 some_power : (left : ℕ) → 4194304 ≤ 2 ^ (16 * left + 22)
 some_power left = pow_mono (let less : 22 ≤ 16 * left + 22 = omega arith in less)
 
--- the steps by so many options, and some more, are few enough
+-- the steps of this number of options, and some more, are few enough
 pub all_few : (left done : ℕ) → done ≤ 2 ^ 15 → done * most_of_option left + 2 ^ 21 ≤ most_steps (suc left)
 all_few left done few =
     let power : ℕ = 2 ^ (16 * left + 22) in

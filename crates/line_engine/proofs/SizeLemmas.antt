@@ -1,4 +1,4 @@
--- The number of words that And of a formula and of Not of another tells apart is at most the product of what the two do.
+-- The number of words that And f (Not g) distinguishes is at most the product of the numbers of f and g.
 use Rattle.std.proofs.Common.{◌≡◌, ◌≢◌, ℕ, suc, ◌+◌, ◌*◌, ◌/◌, ◌<◌, ◌≤◌, List, [], ◌∷◌, ◌++◌, length, map, All, AllPairs, get_or, None, refl, sym, ap, ◌∙◌, subst, inl, inr, arith}
 use Rattle.std.proofs.Math.Nat.{mul-le-mul_right}
 use Rattle.std.proofs.lemmas.Nat.{div-mul-add}
@@ -131,7 +131,7 @@ size-and_not {f} {g} {e} left right all =
           (alike-over all (free_vars f) (free_vars g) (Says f e) (Says (Not g) e) v w (alike_in (left all) (right all) v w is_v is_w same));
     }
 
--- words that are told apart are at most as many as the numbers that tell them apart
+-- distinguished words are at most as many as the numbers that distinguish them
 few_classes : (tracks bound budget : ℕ) (Alike : List ℕ → List ℕ → Type 0) (number_at : List ℕ → ℕ) → ((word : List ℕ) → number_at word < bound)
     → ((v w : List ℕ) → IsWord tracks v → IsWord tracks w → number_at v ≡ number_at w → Alike v w) → bound ≤ budget → HasMoreClasses tracks Alike budget → ⊥
 few_classes tracks bound budget Alike number_at number_below same_number enough more =

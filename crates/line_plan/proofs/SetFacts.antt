@@ -112,7 +112,7 @@ free_known n = free_is n (Or (Among 0 (distances n)) (Not (Among 0 (distances n)
 pub free_difference : (n : ℕ) → free_vars (And (Among 0 (distances n)) (Not (Among 1 (distances n)))) ≡ distances n
 free_difference n = free_is n (And (Among 0 (distances n)) (Not (Among 1 (distances n)))) (both_free n) (λ x less. inl ((in_distances n x).1 less))
 
--- the tuple of some values is one at which the formula holds exactly where it holds of them
+-- the tuple of some values is one at which the formula is true if and only if it is true of the values
 pub where_values : (f : Tree) (e : ℕ → SetOf) (v : Values) → Member (Where f e) (values_at (free_vars f) v) ↔ Holds f (members e) v
 where_values f e v = (
   λ h. coincide f (members e) h.values v (λ x free. values_same (free_vars f) h.values v h.is_tuple x ((free_vars-free f x).1 free)) h.holds,

@@ -84,7 +84,7 @@ module _ (a k b z : Square) (line : IsBetween a k b) where
             ∙ sym (steps_toward a k line.dx line.dy line.direction line.whole line.to_b (omega (arith, line.begun, line.fewer)) h.part),
       )
 
--- who goes from a square between two others to another one there, or to the first of them, goes along their line
+-- a man that goes from a square between two others to another one between them, or to the first, goes along their line
 module _ (a k b z : Square) (line : IsBetween a k b) (s : ℕ) (fewer : s < line.whole) (at : z ≡ after_steps a s line.dx line.dy)
     (u v : ℤ) (d : IsDirection u v) (t : ℕ) (more : 1 < t) (goes : z ≡ after_steps b t u v) where
   abbrev dx : ℤ
@@ -145,7 +145,7 @@ all_at : (p : Position) (P : Man → Type 0) (k : ℕ) (m : Man) → man_at p k 
 all_at p P zero m is all = cc
 all_at p P (suc k) m is all = subst P (get_or_from_slice_get p.men k m m is) (all k m (slice_get_within p.men k m is))
 
--- the check of a side, whoever is to move
+-- the check of a side, for either turn
 checked_men : (p : Position) (s : Side) → InCheck p s → IsChecked (record { men = p.men; turn = s })
 checked_men p s check =
     let k = any_is p _ check in
@@ -218,7 +218,7 @@ module _ (p : Position) (i : ℕ) (z : Square) (q : Position) (sound : Sound p) 
       checker_was : man_at p c.number ≡ Some c.checker
       checker_was = same_other c.number c.checker his_side c.checker_is
 
-      -- nobody else stands in between
+      -- no other man stands in between
       abbrev Off : Man → Type 0
       Off m = IsLiveAnd m (IsBetween c.square c.king_square) → ⊥
 
@@ -228,7 +228,7 @@ module _ (p : Position) (i : ℕ) (z : Square) (q : Position) (sound : Sound p) 
           let same : Some m ≡ Some now.0 = sym is ∙ same_other k now.0 ne now.1 in
           subst Off (sym (same_Some m now.0 same)) (all_at first Off k now.0 now.1 c.clear)
 
-      -- where both stand and nobody is in between, there is check
+      -- if both stand and no man is in between, there is check
       checks : (r : Position) → man_at r c.king_number ≡ Some c.king → man_at r c.number ≡ Some c.checker → IsOpen r c.square c.king_square → InCheck r p.turn
       checks r king checker open_line =
           let bears : Bears r c.checker c.king_square =
@@ -307,7 +307,7 @@ module _ (p : Position) (i : ℕ) (z : Square) (q : Position) (sound : Sound p) 
     pub first_safe : InCheck first p.turn → ⊥
     first_safe check = none_checks (checked_men first p.turn check)
 
--- a far ray serves captures too, and who goes along one goes where he bears
+-- a far ray serves captures too, and a man that goes along one goes where he bears
 pub record GoesFar (k : Kind) (n : ℕ) : Type 0 where
   pub serves : IsTrue (serves_captures k n)
   pub goes : (p : Position) (m : Man) (z : Square) → Bears p m z → GoesAs k p m z
@@ -330,7 +330,7 @@ goes_far Archbishop s n r is far = record { serves = refl; goes = λ p m z h. h 
 goes_far Amazon s n r is far = record { serves = refl; goes = λ p m z h. h }
 goes_far Nightrider s n r is far = record { serves = refl; goes = λ p m z h. h }
 
--- nobody is between a square and the first one of a direction
+-- no man is between a square and the first one of a direction
 step_open : (p : Position) (b : Square) (u v : ℤ) → IsDirection u v → IsOpen p b (after_steps b 1 u v)
 step_open p b u v d k e within live =
     let at = some_and (square_of (get_or p.men k e)) _ live in

@@ -1,4 +1,4 @@
--- The greatest number of states so far is enough for all sets that were gone through.
+-- The greatest number of states so far is enough for all sets so far.
 use Rattle.std.proofs.Common.{◌≡◌, inl, inr, ℕ, ◌+◌, ◌<◌, ◌≤◌, List, length, get_or, take, max, subst, arith}
 use Rattle.std.specs.List.{All}
 use Rattle.std.proofs.lemmas.Bool.{cases_lt}

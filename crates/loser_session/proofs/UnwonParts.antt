@@ -129,7 +129,7 @@ module _ (s : Solution) (valid : IsSolution s) where
     pub not_kept_unwon : (q : Position) → Reach s.position ply q → (IsKept q → ⊥) → IsUnwon s ply q
     not_kept_unwon q reached off = record { reached = reached; not_won = λ win. off (record { reached = reached; value = inl win }) }
 
-    -- a position is told by its mask and its tuple
+    -- a position is determined by its mask and its tuple
     one_position : (p q : Position) → Reach s.position ply p → Reach s.position ply q → mask_of p ≡ mask_of q → tuple_of p ≡ tuple_of q → p ≡ q
     one_position p q one two =
         let fits = fits_reached s.position valid.sound valid.few (mean valid.sound valid.few) (some_point valid.sound) ply in

@@ -81,7 +81,7 @@ module _ (s : Solution) (valid : IsSolution s) (plies : List (List Automaton)) (
   next_sets : AreUnwonSets s (suc ply) (sets_into s plies (suc ply))
   next_sets = are_unwon s plies (suc ply) valid unwon (omega arith) within
 
-  -- a position of the stock, with the turn of the ply, is in its set exactly where it is reached and not won
+  -- a position of the stock, with the turn of the ply, is in its set if and only if it is reached and not won
   pub in_unwon : (q : Position) → HasStock s.position.men q → q.turn ≡ turn_at s.position.turn (suc ply) → IsIn table q → IsUnwon s (suc ply) q
   in_unwon q stock turn is = by (set_at table (mask_of q)) refl is
     where
@@ -111,7 +111,7 @@ module _ (s : Solution) (valid : IsSolution s) (plies : List (List Automaton)) (
     step_unwon {q} step is =
         in_unwon q (step_stock stock step.after) (step.after.turn ∙ ap other (turn-reach s.position p ply reached)) is
 
-    -- a legal move leads into them exactly where it leads to a position that is not won
+    -- a legal move leads into them if and only if it leads to a position that is not won
     pub moves_unwon : {i : ℕ} {z : Square} {q : Position} → Legal p i z q → IsIn table q ↔ IsUnwon s (suc ply) q
     moves_unwon {q} legal = (step_unwon legal.step, unwon_in q)
 

@@ -26,7 +26,7 @@ use Rattle.move_choice.proofs.Hits.{along_goes, going, going_at, hit_moves, quie
 use Rattle.move_choice.proofs.Meets.{empty_not_held, of_square, on_square, stands_at}
 use Rattle.move_choice.proofs.Ways.{empty_or_held, nobody_before}
 
--- the least number up to the last with a property, and the least of those after it, tell how many there are
+-- the least number up to the last with a property, and the least of those after it, decide how many there are
 module _ (P : ℕ → Type 0) (last : ℕ) where
   abbrev UpTo : ℕ → Type 0
   UpTo t = (1 ≤ t) × (t ≤ last) × P t

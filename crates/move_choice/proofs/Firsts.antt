@@ -1,4 +1,4 @@
--- The first move along a ray that leads into the sets: the least hit of the search, or the capture behind all free distances.
+-- The first move along a ray into the sets: the least hit of the search, or the capture after all free distances.
 use Rattle.std.proofs.Common.{◌≡◌, ◌≢◌, ◌⊎◌, inl, inr, ℕ, zero, suc, ◌<◌, ◌≤◌, ℤ, ◌+◌, length, to_z, of_z, Bor, false, List, Option, Some, None, refl, sym, ap, subst, ◌∙◌, arith}
 use Rattle.std.specs.Prelude.{IsTrue, IsSomeAnd, slice_set}
 use Rattle.std.specs.Int.{w8}
@@ -239,7 +239,7 @@ way_right {p} {i} {n} {r} mover along =
       dy = subst IsSlope (sym along.dy) short.y;
     }
 
--- a list with two of its numbers gone so many steps
+-- a list with two of its numbers moved by some steps
 abbrev Stepped : ℕ → List ℤ → ℕ → ℕ → ℤ → ℤ → List ℤ
 Stepped t xs x y dx dy = slice_set (slice_set xs x (value_after xs x dx t)) y (value_after xs y dy t)
 

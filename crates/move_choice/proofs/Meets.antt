@@ -45,7 +45,7 @@ stands_is p h z s = by (man_at p h) s
 pub stands_at : (p : Position) (h : ℕ) (z : Square) (m : Man) → man_at p h ≡ Some m → StandsOn m z → StandsAt p h z
 stands_at p h z m is on = subst (λ (o : Option Man). IsSomeAnd o (λ k. StandsOn k z)) (sym is) on
 
--- nobody stands on an empty square
+-- no man stands on an empty square
 pub empty_not_held : (p : Position) (s : Side) (z : Square) → IsEmptySquare p z → IsOccupiedBy p s z → ⊥
 empty_not_held p s z none held = let w = any_is p _ held in (all_men p (λ m. StandsOn m z → ⊥)).0 none w.0 w.1 w.2 w.3.1
 
@@ -106,7 +106,7 @@ module _ {p : Position} {i n : ℕ} {r : Ray} (mover : IsMover p i n r) where
         let begun = hit.leads.begun in
         (omega (arith, right, begun), λ u. clear_before u (t - 1) (omega (arith, right, begun)))
 
-  -- where nobody is met in a frame that holds all men, nobody stands on the ray
+  -- if no man is met in a frame that contains all men, no man stands on the ray
   module _ {f : Frame} (apart : IsApart p) (holds : HoldsMen f p) (none : (h : ℕ) → IsHit p i r f h → ⊥) where
     nobody_below : (k : ℕ) (l : ℕ) (z : Square) → l < k → IsAt r l mover.square z → IsEmptySquare p z
     nobody_below zero l z less at = absurd (omega (arith, less))

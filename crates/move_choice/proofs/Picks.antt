@@ -36,7 +36,7 @@ past_none (x ∷ rs) k zero r none some = absurd (cc)
 past_none (x ∷ rs) zero (suc n) r none some = omega arith
 past_none (x ∷ rs) (suc k) (suc n) r none some = let less = past_none rs k n r none some in omega (arith, less)
 
--- a kind has no ray past the most
+-- a kind has no ray after the greatest number of rays
 no_more_rays : (k : Kind) (s : Side) → slice_get (rays_of k s) 16 ≡ None
 no_more_rays k s =
     elim (slice_get_cases (rays_of k s) 16).1 [ inl w ↦ let few = rays_few k s in absurd (omega (arith, w.1, few)) | inr w ↦ w.1 ]
@@ -100,7 +100,7 @@ module _ (Set : Position → Type 0) (f : Frame) (p : Position) where
       by d q into (inl less) = let his = h.has in none d q (omega (arith, less, his)) into
       by d q into (inr both) = h.first d q (both.0 ∙ h.has) into (inr both)
 
-  -- a man who is gone or not of the side has no move
+  -- a man that is captured or belongs to the other side has no move
   pub man_idle : (number : ℕ) (m : Man) → man_at p number ≡ Some m → (IsLiveOf p.turn m → ⊥) → FirstOf (IsOf number) Set f p None
   man_idle number m is idle d q e h =
       let same : h.man ≡ m = same_Some h.man m (sym h.is_man ∙ (ap (man_at p) e ∙ is)) in

@@ -25,7 +25,7 @@ front_behind old {mid} {new} bytes {more} all h = record {
   front = subst (Appends old new) (sym (take_behind bytes more h.count)) (Appends-trans old mid new bytes (take h.count more) all h.front);
 }
 
--- of a text, and of the front of another that is behind it, with more behind
+-- of a text followed by a prefix of another, with more after it
 pub front_at : (old : Option (List ℕ)) {mid new : Option (List ℕ)} (bytes : List ℕ) {text : List ℕ} (more : List ℕ) → Appends old mid bytes → (h : AppendsFront mid new text)
     → Appends old new (take (length bytes + h.count) (bytes ++ (text ++ more)))
 front_at old {mid} {new} bytes {text} more all h =

@@ -27,7 +27,7 @@ use Rattle.play_loop.proofs.Fronts.{front_at}
 use Rattle.play_loop.proofs.Reports.{begins_on, begins_over, one_report, some_later}
 use Rattle.play_loop.proofs.TurnLemmas.{IsDueIn, due_after, first_due_after}
 
--- an input with these lines, and others behind them
+-- an input with these lines, followed by others
 abbrev pub with_lines : List (List ℕ) → Lines → Lines
 with_lines [] more = more
 with_lines (line ∷ lines) more = full line (with_lines lines more)
@@ -48,7 +48,7 @@ lines_with (l ∷ lines) more are =
 lines_alone : (lines : List (List ℕ)) → All IsLine lines → lines_of (text_of_lines lines) ≡ with_lines lines ended
 lines_alone lines are = sym (ap lines_of (append-nil (text_of_lines lines))) ∙ lines_with lines [] are
 
--- the bytes behind those that were taken, or none where they are not told
+-- the bytes after those that were taken, or none if they are not exposed
 known_rest : (left : Option (List ℕ)) → IfSome left (λ told. told ≡ unwrap_or left [])
 known_rest None = tt
 known_rest (Some bytes) = refl
@@ -78,7 +78,7 @@ module _ {G : Type 0} where
   many_true true g left r P is h = h
   many_true false g left r P is h = absurd (cc)
 
-  -- the report of what was told, and of what comes later
+  -- the report of what was written, and of what comes later
   abbrev pub told_before : List ℕ → List G → LineReport G → LineReport G
   told_before text games later = record { text = text ++ later.text; games = games ++ later.games; last = later.last; ending = later.ending; left = later.left }
 
@@ -91,12 +91,12 @@ module _ {G : Type 0} where
     left = later.left;
   }
 
--- a line is due behind these, and so many bytes are no fewer than those that are reported of them
+-- a line is due after these, and this number of bytes is at least that of their report
 abbrev pub IsDueWithin : {G : Type 0} → Rules G → ℕ → G → List (List ℕ) → ℕ → Type 0
 IsDueWithin {G} rules before g lines count =
     (report : LineReport G) × IsReport rules before (lines_of (text_of_lines lines)) g report × (report.ending ≡ NoLine) × (length report.text ≤ count)
 
--- A game began as `g`, and after so many lines what `At` says of those behind them is the rest of its report.
+-- A game began as `g`, and after this number of lines what `At` says of the lines after them is the rest of its report.
 pub record SoFar {G : Type 0} (rules : Rules G) (At : Lines → LineReport G → Type 0) (before read : ℕ) (g : G) (old new : Ports) : Type 0 where
   pub lines : List (List ℕ)
   pub count : length lines ≡ read
@@ -137,7 +137,7 @@ module _ {G : Type 0} (rules : Rules G) where
 
   module _ (At : Lines → LineReport G → Type 0) (before read : ℕ) (g : G) (old : Ports) (pending : List ℕ) (left written : Option (List ℕ))
       (so_far : SoFar rules At before read g old (ports pending left written)) where
-    -- the lines of all that was taken, and others behind them
+    -- the lines of all that was taken, followed by others
     lines_held : (more : List ℕ) → lines_of ((old.pending ++ so_far.bytes) ++ more) ≡ with_lines so_far.lines (lines_of (pending ++ more))
     lines_held more =
         ap (λ bytes. lines_of (bytes ++ more)) so_far.held

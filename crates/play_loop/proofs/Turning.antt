@@ -34,14 +34,14 @@ module _ {G : Type 0} where
   made_as May More more (Ok over) after old new (t, may, e, is_after, wrote) = (t, more t may, e, is_after, wrote)
   made_as May More more (Err why) after old new (t, may, wrote) = (t, more t may, wrote)
 
-  -- the game is over, and this is told
+  -- the game is over, and this is written
   pub stopped_made : (May : Turn G → Type 0) (ending : Ending) (g : G) → May (stopped ending g) → (after : G) → after ≡ g → (result : Result (Option Ending) Failed) (old new : Option (List ℕ))
       → IfOk result (λ over. over ≡ Some ending) → OnOk result (Appends old new (ending_word ending)) → OnErr result (AppendsFront old new (ending_word ending))
       → IsTurnMade May result after old new
   stopped_made May ending g may after same (Ok over) old new is wrote err = (stopped ending g, may, sym is, sym same, wrote)
   stopped_made May ending g may after same (Err why) old new is wrote err = (stopped ending g, may, err)
 
-  -- this is told, and a line is due
+  -- this is written, and a line is due
   pub told_made : (May : Turn G → Type 0) (text : List ℕ) (g : G) → May (told text g) → (after : G) → after ≡ g → (old new : Option (List ℕ)) → Appends old new text
       → IsTurnMade May (Ok None) after old new
   told_made May text g may after same old new wrote = (told text g, may, refl, sym same, wrote)

@@ -10,7 +10,7 @@ use Rattle.auto_core.specs.Rows.{AreTables}
 use Rattle.strategy_file.specs.States.{AreEntries, AreStates, states_in}
 use Rattle.strategy_file.specs.Tables.{table_with}
 
--- one row more, and the sizes of what is left behind it
+-- one more row, and the sizes of what is left after it
 long_enough : (size count width : ℕ) → size ≡ suc count * width → width ≤ size
 long_enough size count width e = grind (arith, common_steps, e)
 

@@ -56,7 +56,7 @@ module _ (s : Solution) where
   here_picked m c q here pick legal =
       record { pick = (pick_told (game_of m) (Some c)).1 (subst (λ (x : Match). HeldPick x (Some c)) here pick); legal = legal; is_after = refl }
 
-  -- what is typed behind a turn, and the games of it: none where the turn ends the game
+  -- what is typed after a turn, and its games: none if the turn ends the game
   record Later (t : Turn Match) : Type 0 where
     typed : List Move
     games : List Game
@@ -183,7 +183,7 @@ module _ (s : Solution) where
         let lost = whole_game s all_squares played.0 played.1 valid value played.2 k one.0 one.1 in
         (lost.0, subst (λ (m : Match). Lost s.winner (s.moves - suc k) m.position) one.2 lost.1)
 
--- who is not mated, and is to be mated within some moves, is not to be mated within none
+-- a loser that is not mated, and is mated within n moves, has n above 0
 some_left : (w : Side) (n : ℕ) (p : Position) → Lost w n p → (Mate p → ⊥) → 0 < n
 some_left w zero p lost none = elim (lost.1) [ inl mate ↦ absurd (none mate) | inr go ↦ absurd (go.1 go.0.0 go.0.1 go.0.2 go.0.3) ]
 some_left w (suc n) p lost none = omega arith
