@@ -1,3 +1,4 @@
+pub mod Pairs
 pub mod Paired
 pub mod Absorbed
 pub mod Sided

@@ -1,9 +1,10 @@
 -- What an open table finds, and how items are added to it.
 use Rattle.std.proofs.Common.{◌≡◌, ℕ, ◌<◌, ◌≤◌, ◌+◌, ◌^◌, take, refl, List, [], ◌∷◌, ◌++◌, length, get_or, slice_get, Some, arith, sym, ap, ◌∙◌, subst, inl, inr, ◌⊎◌, Contains}
 use Rattle.std.proofs.Math.ListN.{set, replicate, length-set}
-use Rattle.std.proofs.lemmas.List.{length-append, length_push, length-replicate, length-take-le, get_or-set_same, get_or-set_other, get_or-replicate, get_or_push, take_more}
+use Rattle.std.proofs.Math.Seq.{take-length}
+use Rattle.std.proofs.lemmas.List.{take-append-le, length-append, length_push, length-replicate, length-take-le, get_or-set_same, get_or-set_other, get_or-replicate, get_or_push, take_more}
 use Rattle.std.proofs.lemmas.Bool.{cases_eq, cases_lt}
-use Rattle.std.proofs.lemmas.Option.{slice_get-get_or, get_or_from_slice_get}
+use Rattle.std.proofs.lemmas.Option.{slice_get-get_or}
 use Rattle.letter_diagram.specs.Probing.{place_of}
 use Rattle.letter_diagram.specs.OpenTable.{free, number_at, IsMet, IsHashed, IsFirstFree}
 use Rattle.letter_diagram.proofs.Added.{get-push}
@@ -140,3 +141,7 @@ pub last-number : {Item : Type 0} (items : List Item) (item : Item) → slice_ge
 last-number items item =
     let one : length (items ++ item ∷ []) ≡ length items + 1 = length_push items item in
     slice_get-get_or (items ++ item ∷ []) (length items) item (omega arith) ∙ ap Some (get_or_push items item item (length items) refl)
+
+-- a list comes back whole from a place that it fills
+pub take_all : (count : ℕ) (numbers rest : List ℕ) → length numbers ≡ count → take count (numbers ++ rest) ≡ numbers
+take_all count numbers rest size = take-append-le count numbers rest (omega arith) ∙ ap (λ n. take n numbers) (sym size) ∙ take-length numbers

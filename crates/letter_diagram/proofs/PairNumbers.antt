@@ -1,12 +1,11 @@
 -- Facts on lists of pairs of numbers.
-use Rattle.std.proofs.Common.{◌≡◌, ◌≢◌, ℕ, Bool, true, false, true≢false, List, slice_get, nat_eq, Some, Contains, AllPairs, arith, refl, sym, ap, ◌∙◌, subst, get_or, [], ◌∷◌, ◌++◌, if◌then◌else◌}
+use Rattle.std.proofs.Common.{◌≡◌, ◌≢◌, ℕ, Bool, true, false, List, nat_eq, Some, AllPairs, arith, refl, sym, ap, ◌∙◌, subst, [], ◌∷◌, ◌++◌, if◌then◌else◌}
 use Rattle.std.specs.Prelude.{◌&&◌}
 use Rattle.std.specs.Bool.{Decides}
-use Rattle.std.specs.List.{list_any, IsDistinct, position}
+use Rattle.std.specs.List.{list_any, IsDistinct}
 use Rattle.std.proofs.lemmas.Grind.{common_steps}
 use Rattle.std.proofs.lemmas.List.{length-append, get_or_append_left}
-use Rattle.std.proofs.lemmas.Map.Made.{AllPairs-from_IsDistinct, is_member-Decides}
-use Rattle.std.proofs.lemmas.List.Quantifiers.{position-Some}
+use Rattle.std.proofs.lemmas.Map.Made.{AllPairs-from_IsDistinct}
 use Rattle.std.proofs.lemmas.Option.{slice_get-get_or, slice_get_within, get_or_from_slice_get}
 use Rattle.letter_diagram.specs.Numbering.{PairsKept}
 
@@ -23,16 +22,8 @@ pair_eq-refl (a, b) = grind (arith, common_steps)
 pub pair_eq-Decides : (p q : ℕ × ℕ) → Decides (pair_eq p q) (p ≡ q)
 pair_eq-Decides p q = (pair_eq-true p q, λ e. ap (pair_eq p) (sym e) ∙ pair_eq-refl p)
 
-pub slice_get-position : (pairs : List (ℕ × ℕ)) (p : ℕ × ℕ) (i : ℕ) → position (pair_eq p) pairs ≡ Some i → slice_get pairs i ≡ Some p
-slice_get-position pairs p i h =
-    let found = position-Some (pair_eq p) pairs i p h in
-    slice_get-get_or pairs i p found.0 ∙ ap Some (sym (pair_eq-true p (get_or pairs i p) found.1))
-
 pub AllPairs-from_unique : (pairs : List (ℕ × ℕ)) → IsDistinct pair_eq pairs → AllPairs (λ p q. p ≢ q) pairs
 AllPairs-from_unique = AllPairs-from_IsDistinct pair_eq-Decides
-
-pub not_Contains : (pairs : List (ℕ × ℕ)) (p : ℕ × ℕ) → list_any (pair_eq p) pairs ≡ false → Contains pairs p → ⊥
-not_Contains pairs p absent there = true≢false (sym ((is_member-Decides pair_eq-Decides pairs p).1 there) ∙ absent)
 
 PairsKept-append : (xs ys : List (ℕ × ℕ)) → PairsKept xs (xs ++ ys)
 PairsKept-append xs ys = record {

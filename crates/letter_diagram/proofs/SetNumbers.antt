@@ -1,16 +1,13 @@
 -- Facts on lists of sets.
-use Rattle.std.proofs.Common.{◌≡◌, ◌≢◌, ℕ, ◌<◌, ◌≤◌, ◌+◌, Bool, true, false, true≢false, nat_eq, ◌||◌, List, length, take, slice_get, Some, Contains, AllPairs, All, map, arith, refl, sym, ap, ◌∙◌, subst, get_or, [], ◌∷◌, ◌++◌, inl, inr, ◌⊎◌, if◌then◌else◌}
+use Rattle.std.proofs.Common.{◌≡◌, ◌≢◌, ℕ, ◌<◌, ◌≤◌, Bool, true, false, true≢false, nat_eq, List, length, slice_get, Some, Contains, AllPairs, All, map, arith, refl, sym, ap, ◌∙◌, subst, get_or, [], ◌∷◌, ◌++◌, inl, inr, ◌⊎◌}
 use Rattle.std.specs.Bool.{Decides}
-use Rattle.std.specs.List.{list_any, position}
 use Rattle.std.specs.Cmp.Lexicographic.{pointwise}
 use Rattle.std.specs.List.Sorted.{IsStrictlyIncreasing}
 use Rattle.std.proofs.lemmas.Bool.Decides.{Decides-eqb}
 use Rattle.std.proofs.lemmas.Slice.Eq.{slice_eq-Decides}
-use Rattle.std.proofs.Math.Seq.{take-length}
-use Rattle.std.proofs.lemmas.List.{length_push, length-append, get_or_append_left, get_or_push, take-append-le}
+use Rattle.std.proofs.lemmas.List.{length_push, length-append, get_or_append_left, get_or_push}
 use Rattle.std.proofs.lemmas.List.Elements.{All-push, Contains-get_or}
-use Rattle.std.proofs.lemmas.List.Quantifiers.{position-Some, all_pairs_push}
-use Rattle.std.proofs.lemmas.Map.Made.{is_member-Decides}
+use Rattle.std.proofs.lemmas.List.Quantifiers.{all_pairs_push}
 use Rattle.std.proofs.lemmas.Option.{slice_get-get_or, slice_get_within, get_or_from_slice_get, slice_get-map, slice_get_read}
 use Rattle.std.specs.Option.{option_map}
 use Rattle.letter_diagram.specs.Sets.{NumbersSet, SetsKept, IsUnion, set_at}
@@ -21,10 +18,6 @@ set_eq = pointwise nat_eq
 
 pub set_eq-Decides : (a b : List ℕ) → Decides (set_eq a b) (a ≡ b)
 set_eq-Decides a b = slice_eq-Decides (λ x y. Decides-eqb x y) a b (set_eq a b) refl
-
--- a list comes back whole from a place that it fills
-pub take_all : (count : ℕ) (numbers rest : List ℕ) → length numbers ≡ count → take count (numbers ++ rest) ≡ numbers
-take_all count numbers rest size = take-append-le count numbers rest (omega arith) ∙ ap (λ n. take n numbers) (sym size) ∙ take-length numbers
 
 -- a set that is read and is the one that is looked for has this number
 pub set_there : {X : Type 0} (items : X → List ℕ) (sets : List X) (number : ℕ) (k : X) (set : List ℕ) → number < length sets → k ≡ get_or sets number k
@@ -60,10 +53,6 @@ SetsKept-append xs ys = record {
 pub SetsKept-numbers : (old new : List (List ℕ)) (set : List ℕ) → NumbersSet old new set → SetsKept old new
 SetsKept-numbers old new set (inl e) = subst (SetsKept old) (sym e) (SetsKept-refl old)
 SetsKept-numbers old new set (inr (e, absent)) = subst (SetsKept old) (sym e) (SetsKept-append old (set ∷ []))
-
-pub length-numbers : (old new : List (List ℕ)) (set : List ℕ) → NumbersSet old new set → length new ≤ length old + 1
-length-numbers old new set (inl e) = let l = ap length e in omega (arith, l)
-length-numbers old new set (inr (e, absent)) = let l = ap length e ∙ length_push old set in omega (arith, l)
 
 -- numbering a set keeps what holds of the list
 pub ascend_still : (old new : List (List ℕ)) (set : List ℕ) → NumbersSet old new set → IsStrictlyIncreasing set → All IsStrictlyIncreasing old → All IsStrictlyIncreasing new

@@ -19,7 +19,7 @@ mod merge;
 mod merger;
 mod node_memo;
 mod numbering;
-mod open_table;
+pub mod open_table;
 mod pair_memo;
 pub mod probing;
 mod relabel;

@@ -5,10 +5,10 @@ ghost use Rattle.letter_diagram.specs.OpenTable.{IsFirstFree};
 use crate::probing::place;
 
 /// The entry of a free slot.
-pub(crate) const FREE: u32 = u32::MAX;
+pub const FREE: u32 = u32::MAX;
 
 /// Returns the first free slot of the probe sequence of a hash.
-pub(crate) fn first_free(slots: &[u32], start: usize) -> Option<usize>
+pub fn first_free(slots: &[u32], start: usize) -> Option<usize>
     ensures { IfSome result (IsFirstFree slots.now start) }
 {
     for step in 0..slots.len() {

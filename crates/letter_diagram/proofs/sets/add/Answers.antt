@@ -1,4 +1,4 @@
-use Rattle.std.proofs.Common.{◌≡◌, ◌<◌, length, map, ap, ◌∙◌, [], ◌∷◌, arith, rules}
+use Rattle.std.proofs.Common.{◌≡◌, ◌<◌, length, map, ap, ◌∙◌, [], ◌∷◌, arith}
 use Rattle.std.proofs.lemmas.List.{length-map, map-append}
 use Rattle.letter_diagram.specs.OpenTable.{free}
 use Rattle.letter_diagram.proofs.OpenTables.{IsHashed-push}

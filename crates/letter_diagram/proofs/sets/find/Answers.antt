@@ -1,6 +1,6 @@
-use Rattle.std.proofs.Common.{◌≡◌, ◌<◌, Some, true, false, length, get_or, slice_get, map, below_more, ap, sym, ◌∙◌, arith}
+use Rattle.std.proofs.Common.{◌≡◌, Some, true, false, get_or, slice_get, map, below_more, ap, sym, ◌∙◌, arith}
 use Rattle.std.proofs.lemmas.List.{length-map}
-use Rattle.letter_diagram.specs.OpenTable.{free, number_at}
+use Rattle.letter_diagram.specs.OpenTable.{number_at}
 use Rattle.letter_diagram.specs.Sets.{start_of}
 use Rattle.letter_diagram.proofs.OpenTables.{number_at-read, not_known, not_met}
 use Rattle.letter_diagram.proofs.SetNumbers.{set_eq, set_there, set_differs}

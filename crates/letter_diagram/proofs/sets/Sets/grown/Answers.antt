@@ -1,4 +1,4 @@
-use Rattle.std.proofs.Common.{◌≡◌, ◌<◌, ◌^◌, length, take, map, ap, arith}
+use Rattle.std.proofs.Common.{◌<◌, ◌^◌, length, map, ap, arith}
 use Rattle.std.proofs.lemmas.List.{length-map}
 use Rattle.letter_diagram.specs.OpenTable.{IsFirstFree}
 use Rattle.letter_diagram.specs.Sets.{start_of}

@@ -1,6 +1,7 @@
 use Rattle.std.proofs.Common.{◌≡◌, ◌∙◌, map, subst, inr, Contains, drop, length, rules}
 use Rattle.letter_diagram.specs.Sets.{NumbersSet}
-use Rattle.letter_diagram.proofs.SetNumbers.{take_all, ascend_still, unrepeated_still}
+use Rattle.letter_diagram.proofs.OpenTables.{take_all}
+use Rattle.letter_diagram.proofs.SetNumbers.{ascend_still, unrepeated_still}
 use Rattle.letter_diagram.proofs.sets.Sets.push.Goals as goal
 
 pub invariant_of-self-2 : goal.invariant_of-self-2
