@@ -7,10 +7,11 @@ use Rattle.lin_formula.specs.SetOf.{NoneEmpty, tables}
 use Rattle.lin_formula.specs.Tree.{Tree, Lin, Value, Among, Not, And, Or, Ex, free_vars, steps, symbols}
 use Rattle.formula_auto.specs.Compiled.{IsSetFor}
 use Rattle.rule_formula.specs.Seats.{var}
-use Rattle.rule_formula.proofs.FineLemmas.{AreVars, IsFine, IsLow, fine_few, fine_made, fine_names}
+use Rattle.rule_formula.proofs.FineLemmas.{fine_few, fine_made, fine_names}
 use Rattle.set_plan.specs.Unite.{positives}
 use Rattle.line_plan.specs.Plan.{distances, distances_from}
 use Rattle.line_engine.specs.Answers.{IsFilledItem, IsFilledOn, IsOneSet, IsPartOf, NoSet}
+use Rattle.rule_formula.specs.Fine.{AreVars, IsFine, IsLow}
 
 -- a membership of which the table has the set
 abbrev pub HasSet : List Automaton → ℕ × List Var → Type 0

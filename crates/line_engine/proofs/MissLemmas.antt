@@ -21,7 +21,7 @@ use Rattle.formula_auto.proofs.Atoms.{Decides-itself}
 use Rattle.formula_auto.proofs.NoSets.{FirstOver-no_set, Holds-no_set, steps-no_set}
 use Rattle.formula_auto.proofs.Parts.{Holds-part}
 use Rattle.formula_auto.proofs.SameWords.{IsWord-part, SameResidual-same, SameWords}
-use Rattle.rule_formula.proofs.FineLemmas.{IsFine, IsLow, fine_few, fine_made, fine_names}
+use Rattle.rule_formula.proofs.FineLemmas.{fine_few, fine_made, fine_names}
 use Rattle.line_engine.specs.Answers.{NoSet}
 use Rattle.line_engine.specs.Misses.{FitsWith, IsAsked, IsMadeOf, IsMissed, IsPlain, IsProductOf, IsSized, lead, no_sets}
 use Rattle.line_engine.specs.Sizes.{HasSize}
@@ -35,6 +35,7 @@ use Rattle.set_plan.proofs.Makes.{Ends-make}
 use Rattle.set_plan.proofs.Decided.{IsSetOf-decides, has_word}
 use Rattle.line_plan.specs.Plan.{distances, narrow}
 use Rattle.line_plan.proofs.SetFacts.{distances-ascend}
+use Rattle.rule_formula.specs.Fine.{IsFine, IsLow}
 
 module _ (V : Var → Type 0) where
   lead_fine : (f : Tree) → IsFine V NoSet f → IsFine V NoSet (lead f)

@@ -22,7 +22,7 @@ use Rattle.rule_formula.specs.declared.opt.Opt.{Opt}
 use Rattle.rule_formula.specs.Seats.{var}
 use Rattle.rule_formula.specs.Trees.{clear, is_other, man_ray, ray_at, ray_or_none}
 use Rattle.rule_formula.proofs.ChainLemmas.{last_or_before}
-use Rattle.rule_formula.proofs.FineLemmas.{AreVars, IsFine, IsLow}
+use Rattle.rule_formula.specs.Fine.{AreVars, IsFine, IsLow}
 use Rattle.rule_formula.proofs.SizeTheorem.{IsFit}
 use Rattle.line_formula.specs.declared.gap.Gap.{Gap}
 use Rattle.line_formula.specs.declared.leg.Leg.{Leg}

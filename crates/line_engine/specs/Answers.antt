@@ -4,7 +4,7 @@ use Rattle.track_word.specs.declared.tracks.Var.{Var}
 use Rattle.auto_core.specs.Automaton.{Automaton}
 use Rattle.lin_formula.specs.SetOf.{IsEmpty, NoneEmpty, SetOf, Table, as_set, tables}
 use Rattle.lin_formula.specs.Tree.{And, Among, Tree, free_vars, steps}
-use Rattle.rule_formula.proofs.FineLemmas.{IsFine, IsLow}
+use Rattle.rule_formula.specs.Fine.{IsFine, IsLow}
 use Rattle.set_plan.specs.Outcome.{Ends, IsPlanError}
 use Rattle.set_plan.specs.declared.stop.PlanError.{PlanError}
 use Rattle.set_plan.specs.declared.stop.PlanError.TheVariants as plan_error

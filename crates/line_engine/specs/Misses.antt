@@ -5,7 +5,7 @@ use Rattle.lin_formula.specs.SetOf.{SetOf, members, tables}
 use Rattle.lin_formula.specs.Tree.{Tree, And, Among, Not, steps}
 use Rattle.formula_auto.specs.Decides.{Decides}
 use Rattle.formula_auto.specs.Step.{StaysWithin}
-use Rattle.rule_formula.proofs.FineLemmas.{IsFine, IsLow}
+use Rattle.rule_formula.specs.Fine.{IsFine, IsLow}
 use Rattle.line_plan.specs.Plan.{distances}
 use Rattle.line_engine.specs.Answers.{IsFilledOn, IsPartOf, NoSet}
 use Rattle.line_engine.specs.Sizes.{HasSize}

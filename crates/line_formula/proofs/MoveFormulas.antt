@@ -13,7 +13,7 @@ use Rattle.lin_formula.specs.Holds.{Holds, Sets}
 use Rattle.lin_formula.specs.Tree.{Tree, Not}
 use Rattle.rule_formula.specs.Seats.{var}
 use Rattle.rule_formula.specs.Trees.{is_other}
-use Rattle.rule_formula.proofs.ChainLemmas.{AllHold, Each, each_more}
+use Rattle.rule_formula.proofs.ChainLemmas.{Each, each_more}
 use Rattle.rule_formula.proofs.FormulaLemmas.{each_other}
 use Rattle.rule_formula.proofs.MoveLemmas.{EachOther, IsMove}
 use Rattle.rule_formula.proofs.RayLemmas.{IsFair, IsSteps, IsWithin, all_hold-append, square_at}
@@ -24,6 +24,7 @@ use Rattle.line_formula.specs.Rules.{across, apart_by, capture_parts, clear_part
 use Rattle.line_formula.proofs.BearFormulas.{apart_holds, line_from, line_to}
 use Rattle.line_formula.proofs.MeasureLemmas.{IsMeasured, far_measured, measured_to, steps_measure}
 use Rattle.line_formula.proofs.PlaceLemmas.{gap_holds, sum_holds, terms-below, weighed-sum}
+use Rattle.rule_formula.specs.Fine.{AllHold}
 
 own_step : (a b : ℕ) (x : ℤ) → a ≡ b → (if a == b then x else pos 0) ≡ x
 own_step a b x e = grind (arith, nat_tests)

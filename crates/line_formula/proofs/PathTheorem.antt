@@ -29,7 +29,7 @@ use Rattle.rule_formula.proofs.AfterTheorem.{after_is, moved, moved_other, moved
 use Rattle.rule_formula.proofs.BearLemmas.{man_placed}
 use Rattle.rule_formula.proofs.BearTheorem.{bears_of, sees_of}
 use Rattle.rule_formula.proofs.BearingTheorem.{bearings_are, checks_are}
-use Rattle.rule_formula.proofs.ChainLemmas.{AllHold}
+use Rattle.rule_formula.specs.Fine.{AllHold}
 use Rattle.mask_sets.proofs.Masks.{mask_tells}
 use Rattle.game_laws.proofs.StockLemmas.{stock_has, stock_man-men}
 use Rattle.rule_formula.proofs.GameTheorem.{arrives, fits_mask, live_by_mask, prey_live, sound_fits}

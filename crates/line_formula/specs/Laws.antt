@@ -7,7 +7,7 @@ use Rattle.lin_formula.specs.Holds.{Holds, with_value}
 use Rattle.lin_formula.specs.SetOf.{SetOf, members}
 use Rattle.rule_formula.specs.declared.opt.Bearing.{Bearing}
 use Rattle.rule_formula.specs.declared.opt.Opt.{Opt}
-use Rattle.rule_formula.proofs.ChainLemmas.{AllHold}
+use Rattle.rule_formula.specs.Fine.{AllHold}
 use Rattle.rule_formula.specs.Seats.{var}
 use Rattle.line_formula.specs.Paths.{GoesBy, Plays, after, bear_after, first_part, further_parts, options_at, threats_at, turn_at}
 

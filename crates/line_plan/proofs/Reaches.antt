@@ -4,7 +4,7 @@ use Rattle.track_word.specs.Tracks.{Values}
 use Rattle.lin_formula.specs.SetOf.{Nothing, members}
 use Rattle.lin_formula.specs.Holds.{Holds}
 use Rattle.lin_formula.specs.Tree.{Tree}
-use Rattle.rule_formula.proofs.ChainLemmas.{AllHold}
+use Rattle.rule_formula.specs.Fine.{AllHold}
 use Rattle.line_formula.specs.Paths.{Plays, first_part, further_parts}
 use Rattle.line_formula.proofs.PathTheorem.{parts_mean_legal}
 use Rattle.set_plan.specs.Program.{Entry, Takes, each}

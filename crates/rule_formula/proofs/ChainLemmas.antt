@@ -11,10 +11,7 @@ use Rattle.lin_formula.specs.Holds.{Holds, Sets}
 use Rattle.track_word.specs.Tracks.{Values}
 use Rattle.rule_formula.specs.Trees.{and_all, clear, is_other}
 use Rattle.lin_formula.specs.Tree as tree
-
-abbrev pub AllHold : List Tree → Sets → Values → Type 0
-AllHold [] e v = Unit {0}
-AllHold (f ∷ fs) e v = Holds f e v × AllHold fs e v
+use Rattle.rule_formula.specs.Fine.{AllHold}
 
 pub and_all_holds : (f : Tree) (gs : List Tree) (e : Sets) (v : Values) → Holds (and_all f gs) e v ↔ (Holds f e v × AllHold gs e v)
 and_all_holds f [] e v = (λ h. (h, tt), λ h. h.0)

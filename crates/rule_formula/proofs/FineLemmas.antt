@@ -11,21 +11,7 @@ use Rattle.lin_formula.specs.Tree.{IsWellMade, Tree, memberships, vars_of}
 use Rattle.lin_formula.specs.Tree as tree
 use Rattle.lin_formula.specs.Free.{IsFree, IsOneOf}
 use Rattle.lin_formula.proofs.FreeVars.{if_cases}
-
--- each is as told
-abbrev pub AreVars : (Var → Type 0) → List Var → Type 0
-AreVars V [] = Unit {0}
-AreVars V (x ∷ xs) = V x × AreVars V xs
-
--- its comparisons are small, and its variables and its memberships are as told
-abbrev pub IsFine : (Var → Type 0) → (ℕ × List Var → Type 0) → Tree → Type 0
-IsFine V P (tree.Lin terms rel bound) = IsAtom terms bound × AreVars V (term_vars terms)
-IsFine V P (tree.Value x n) = V x
-IsFine V P (tree.Among s vars) = P (s, vars) × AreVars V vars
-IsFine V P (tree.Not f) = IsFine V P f
-IsFine V P (tree.And f g) = IsFine V P f × IsFine V P g
-IsFine V P (tree.Or f g) = IsFine V P f × IsFine V P g
-IsFine V P (tree.Ex x f) = V x × IsFine V P f
+use Rattle.rule_formula.specs.Fine.{AreVars, IsFine, IsLow}
 
 pub fine_made : (V : Var → Type 0) (P : ℕ × List Var → Type 0) (t : Tree) → IsFine V P t → IsWellMade t
 fine_made V P (tree.Lin terms rel bound) h = h.0
@@ -64,10 +50,6 @@ fine_free V P (tree.And f g) h z (inr is) = fine_free V P g h.1 z is
 fine_free V P (tree.Or f g) h z (inl is) = fine_free V P f h.0 z is
 fine_free V P (tree.Or f g) h z (inr is) = fine_free V P g h.1 z is
 fine_free V P (tree.Ex x f) h z is = fine_free V P f h.1 z is.1
-
--- a variable below eighteen
-abbrev pub IsLow : Var → Type 0
-IsLow x = x.0 < 18
 
 -- they ascend from n on, and are below eighteen
 abbrev Climbs : ℕ → List Var → Type 0

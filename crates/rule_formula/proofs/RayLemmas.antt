@@ -6,7 +6,7 @@ use Rattle.game_rules.specs.declared.men.Square.{Square}
 use Rattle.track_word.specs.declared.tracks.Var.{Var}
 use Rattle.track_word.specs.declared.atoms.Rel.TheVariants.{Eq}
 use Rattle.lin_formula.specs.Tree.{Tree}
-use Rattle.rule_formula.proofs.ChainLemmas.{AllHold}
+use Rattle.rule_formula.specs.Fine.{AllHold}
 use Rattle.std.proofs.lemmas.Int.{ints}
 use Rattle.lin_formula.specs.Holds.{Holds, Sets}
 use Rattle.track_word.specs.Tracks.{Values}

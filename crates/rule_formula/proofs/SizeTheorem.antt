@@ -26,12 +26,13 @@ use Rattle.rule_formula.specs.Meaning.{IsBearer, IsOptionOf}
 use Rattle.rule_formula.specs.Size.{IsModest, IsOver, NamesBoth, NamesOnly, NamesBeforeAndAfter}
 use Rattle.rule_formula.proofs.ApartLemmas.{apart_back, apart_counted, apart_drawn, own_others}
 use Rattle.rule_formula.proofs.BearLemmas.{stock_number}
-use Rattle.rule_formula.proofs.FineLemmas.{AreVars, IsFine, IsLow, fine_few, fine_made, fine_names, four_atom, leaping_atom, minus_factor, one_factor, two_atom}
+use Rattle.rule_formula.proofs.FineLemmas.{fine_few, fine_made, fine_names, four_atom, leaping_atom, minus_factor, one_factor, two_atom}
 use Rattle.rule_formula.proofs.FormulaLemmas.{own_apart}
 use Rattle.rule_formula.proofs.LineTrees.{line_atoms_hold, line_holds}
 use Rattle.rule_formula.proofs.MoveLemmas.{kept_live, was_live}
 use Rattle.rule_formula.proofs.PathLemmas.{bearer_journey, journey_is, option_journey}
 use Rattle.rule_formula.proofs.SweptLemmas.{from_spare, new_suits}
+use Rattle.rule_formula.specs.Fine.{AreVars, IsFine, IsLow}
 
 -- what holds of each where it is meant
 pub chosen_tree : (P : Tree → Type 0) (m n : ℕ) (f g : Tree) → (m ≡ n → P f) → ((m ≡ n → ⊥) → P g) → P (if m == n then f else g)

@@ -22,11 +22,12 @@ use Rattle.rule_formula.specs.Trees.{ahead, and_all, atoms_as, bear_of, bear_tre
 use Rattle.rule_formula.specs.Meaning.{IsBearer, IsOptionOf, IsPrey}
 use Rattle.game_laws.proofs.MoveLemmas.{same_or_not}
 use Rattle.rule_formula.proofs.BearLemmas.{IsNumber, stock_number}
-use Rattle.rule_formula.proofs.FineLemmas.{FreeIn, IsFine, fine_free}
+use Rattle.rule_formula.proofs.FineLemmas.{FreeIn, fine_free}
 use Rattle.rule_formula.proofs.LineTrees.{line_atoms_hold, line_holds}
 use Rattle.rule_formula.proofs.MoveLemmas.{kept_live, same_number, was_live}
 use Rattle.rule_formula.proofs.PathLemmas.{bearer_journey, journey_is, journey_step, option_journey}
 use Rattle.rule_formula.proofs.SizeTheorem.{AreSeated, IsGood, any_set, bear_fit, chosen_tree, image_body_fit, own_good, pre_body_fit, spare_seat, twins_fit}
+use Rattle.rule_formula.specs.Fine.{IsFine}
 
 -- they ascend from n on
 abbrev Rises : ℕ → List Var → Type 0

@@ -1,4 +1,5 @@
 pub mod Bearings
+pub mod Fine
 pub mod Fits
 pub mod Laws
 pub mod Mean

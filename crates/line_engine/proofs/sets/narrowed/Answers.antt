@@ -3,7 +3,7 @@ use Rattle.std.specs.Prelude.{IfOk}
 use Rattle.track_word.specs.declared.tracks.Var.{Var}
 use Rattle.lin_formula.specs.Tree.{Tree, And, free_vars}
 use Rattle.lin_formula.specs.TreeOf.{tree_of}
-use Rattle.rule_formula.proofs.FineLemmas.{IsLow}
+use Rattle.rule_formula.specs.Fine.{IsLow}
 use Rattle.line_engine.specs.Answers.{IsFilledOn, made_at}
 use Rattle.line_engine.proofs.ItemLemmas.{fine_symbols, narrowed_item}
 use Rattle.line_engine.proofs.SetLemmas.{answers_narrowed}
