@@ -1,6 +1,7 @@
 -- The formulas of a path mean the rules.
-use Rattle.std.proofs.Common.{◌≡◌, ◌≢◌, ◌↔◌, ℕ, suc, ◌<◌, ◌≤◌, Bool, true, false, List, [], ◌∷◌, map, length, ℤ, pos, ◌+ℤ◌, ◌*ℤ◌, Some, inl, inr, refl, sym, ap, ◌∙◌, subst, arith}
+use Rattle.std.proofs.Common.{◌≡◌, ◌≢◌, ◌↔◌, ℕ, zero, suc, ◌<◌, ◌≤◌, Bool, true, false, List, [], ◌∷◌, map, length, ℤ, pos, ◌+ℤ◌, ◌*ℤ◌, Some, inl, inr, refl, sym, ap, ◌∙◌, subst, arith}
 use Rattle.std.specs.Prelude.{Contains}
+use Rattle.std.proofs.lemmas.List.Elements.{Contains-append_right}
 use Rattle.game_rules.specs.declared.men.Man.{Man}
 use Rattle.game_rules.specs.declared.men.Place.{Place}
 use Rattle.game_rules.specs.declared.men.Place.TheVariants.{Gone, At}
@@ -10,7 +11,6 @@ use Rattle.game_rules.specs.declared.men.Square.{Square}
 use Rattle.game_rules.specs.Game.{InCheck, IsAfter, IsApart, Position, Sound, StandsOn, after_steps, man_at, other, place_square}
 use Rattle.game_rules.specs.Rays.{IsAt, ray_of}
 use Rattle.game_laws.proofs.SoundLemmas.{legal_sound, other_other}
-use Rattle.auto_project.proofs.Lists.{Contains-cases, Contains-cons, Contains-head}
 use Rattle.track_word.specs.Tracks.{Values}
 use Rattle.lin_formula.specs.Holds.{Holds, Sets, with_value}
 use Rattle.lin_formula.specs.SetOf.{SetOf, members}
@@ -233,15 +233,12 @@ bears_mean_check p s e v sound few plays =
 
 safe_all : (e : Sets) (v : Values) (f : Bearing → Tree) (bs : List Bearing) → ((b : Bearing) → Contains bs b → ¬ Holds (f b) e v) → AllHold (map (λ b. Not (f b)) bs) e v
 safe_all e v f [] h = tt
-safe_all e v f (b ∷ bs) h = (h b (Contains-head b bs), safe_all e v f bs (λ c is. h c (Contains-cons b bs c is)))
+safe_all e v f (b ∷ bs) h = (h b (0, omega arith, refl), safe_all e v f bs (λ c is. h c (Contains-append_right (b ∷ []) bs c is)))
 
 all_safe : (e : Sets) (v : Values) (f : Bearing → Tree) (bs : List Bearing) → AllHold (map (λ b. Not (f b)) bs) e v → (b : Bearing) → Contains bs b → ¬ Holds (f b) e v
 all_safe e v f [] h b (k, less, is) = absurd (omega (arith, less))
-all_safe e v f (c ∷ bs) h b is =
-    elim (Contains-cases c bs b is) [
-      | inl same ↦ subst (λ x. ¬ Holds (f x) e v) same h.0
-      | inr rest ↦ all_safe e v f bs h.1 b rest
-    ]
+all_safe e v f (c ∷ bs) h b (zero, less, same) = subst (λ x. ¬ Holds (f x) e v) same h.0
+all_safe e v f (c ∷ bs) h b (suc k, less, is) = all_safe e v f bs h.1 b (k, omega arith, is)
 
 -- an option after a path, with all that is known of it
 record Chosen (p : Position) (s : List Opt) (v : Values) (o : Opt) : Type 0 where

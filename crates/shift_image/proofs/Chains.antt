@@ -4,9 +4,9 @@ use Rattle.std.proofs.lemmas.Nat.{mul-le}
 use Rattle.lin_formula.specs.Tree.{Tree, Not, And, steps}
 use Rattle.lin_formula.specs.SetOf.{SetOf, members}
 use Rattle.formula_auto.specs.Step.{Exceeds}
-use Rattle.shift_bound.specs.Equations.{Equation, colours}
-use Rattle.shift_bound.specs.Factored.{IsFactored, RestsOn, AndBound, EquationBound}
-use Rattle.shift_bound.specs.States.{HasMoreResiduals}
+use Rattle.shift_image.specs.Equations.{Equation, colours}
+use Rattle.shift_image.specs.Factored.{IsFactored, RestsOn, AndBound, EquationBound}
+use Rattle.shift_image.specs.States.{HasMoreResiduals}
 use Rattle.shift_image.specs.declared.shift.ValueShift.{ValueShift}
 use Rattle.shift_image.specs.Image.{and_all, change, equation_of}
 use Rattle.shift_image.specs.Laws.{start_colours, AreClearWithin}

@@ -8,7 +8,7 @@ use Rattle.lin_formula.specs.Tree.{Among, free_vars}
 use Rattle.lin_formula.specs.Free.{IsOneOf}
 use Rattle.lin_formula.specs.Holds.{Sets, Holds}
 use Rattle.lin_formula.proofs.FreeVars.{free_vars-free}
-use Rattle.shift_bound.specs.Equations.{IsSolved}
+use Rattle.shift_image.specs.Equations.{IsSolved}
 use Rattle.shift_image.specs.declared.shift.ValueShift.{ValueShift}
 use Rattle.shift_image.specs.Image.{Image, IsShiftable, change, step, gone, moved_vars, moved_tree}
 use Rattle.shift_image.specs.Image.{equation_by, equation_of}

@@ -1,7 +1,7 @@
 -- How many colours the equations of the changes have, in whichever order.
 use Rattle.std.proofs.Common.{◌≡◌, ℕ, ◌+◌, ◌*◌, ◌≤◌, List, [], ◌∷◌, map, arith, refl, ◌∙◌}
 use Rattle.std.proofs.lemmas.Nat.{mul-le}
-use Rattle.shift_bound.specs.Equations.{Equation, open_ways, colours}
+use Rattle.shift_image.specs.Equations.{Equation, open_ways, colours}
 use Rattle.shift_image.specs.declared.shift.ValueShift.{ValueShift}
 use Rattle.shift_image.specs.Image.{equation_of}
 use Rattle.shift_image.specs.Laws.{start_colours, change_colours}

@@ -8,8 +8,8 @@ use Rattle.lin_formula.specs.Free.{IsOneOf, IsFree}
 use Rattle.lin_formula.specs.Holds.{Sets, Holds, with_value}
 use Rattle.lin_formula.proofs.FreeVars.{free_vars-free, one_of-with_vars, one_of-without_var}
 use Rattle.lin_formula.proofs.Coincide.{coincide}
-use Rattle.shift_bound.specs.Equations.{Equation, IsSolved, AreSolved}
-use Rattle.shift_bound.specs.Factored.{AreOver, IsFactored}
+use Rattle.shift_image.specs.Equations.{Equation, IsSolved, AreSolved}
+use Rattle.shift_image.specs.Factored.{AreOver, IsFactored}
 use Rattle.shift_image.specs.declared.shift.ValueShift.{ValueShift}
 use Rattle.shift_image.specs.Image.{Image, IsShiftable, and_all, change, step, gone, moved_tree}
 use Rattle.shift_image.specs.Image.{equation_by, equation_of}

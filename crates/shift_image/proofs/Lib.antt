@@ -1,3 +1,9 @@
+pub mod Counting
+pub mod Equations
+pub mod Residuals
+pub mod Conjunctions
+pub mod Projections
+pub mod States
 pub mod Bindings
 pub mod Shifts
 pub mod Changes

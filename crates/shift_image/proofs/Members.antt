@@ -13,9 +13,9 @@ use Rattle.formula_auto.specs.Step.{Says}
 use Rattle.formula_auto.proofs.SameWords.{IsWord-part, IsWord-append}
 use Rattle.formula_auto.proofs.Atoms.{accepted-values, values-part}
 use Rattle.formula_auto.proofs.Projections.{apart-ascending}
-use Rattle.shift_bound.specs.States.{SaysAlike, HasMoreResiduals}
-use Rattle.shift_bound.proofs.Residuals.{part-append, letters-part}
-use Rattle.shift_bound.proofs.States.{few-colours}
+use Rattle.shift_image.specs.States.{SaysAlike, HasMoreResiduals}
+use Rattle.shift_image.proofs.Residuals.{part-append, letters-part}
+use Rattle.shift_image.proofs.States.{few-colours}
 
 module _ (e : ℕ → SetOf) (number : ℕ) (vars : List Var) (set : Automaton) (is : e number ≡ Table set)
     (valid : IsAutomaton set) (arity : length vars ≡ length set.tracks) (integers : DecidesIntegers set) where

@@ -7,9 +7,9 @@ use Rattle.lin_formula.specs.Tree.{Tree, Among, Not, Ex, free_vars, steps}
 use Rattle.lin_formula.specs.Free.{IsOneOf}
 use Rattle.lin_formula.specs.SetOf.{SetOf, members}
 use Rattle.formula_auto.specs.Step.{Exceeds, FirstOver}
-use Rattle.shift_bound.specs.Equations.{Equation, colours}
-use Rattle.shift_bound.specs.Factored.{IsFactored, Settles, AndBound, EquationBound, ExBound}
-use Rattle.shift_bound.specs.States.{HasMoreResiduals, StatesBound}
+use Rattle.shift_image.specs.Equations.{Equation, colours}
+use Rattle.shift_image.specs.Factored.{IsFactored, Settles, AndBound, EquationBound, ExBound}
+use Rattle.shift_image.specs.States.{HasMoreResiduals, StatesBound}
 use Rattle.shift_image.specs.declared.shift.ValueShift.{ValueShift}
 use Rattle.shift_image.specs.Image.{Image, IsShiftable, AreOtherVars, ex_all, and_all, gone, step}
 use Rattle.shift_image.specs.Image.{moved_tree, part_tree, image_tree, equation_of}

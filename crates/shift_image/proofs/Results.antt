@@ -12,7 +12,7 @@ use Rattle.lin_formula.proofs.FreeVars.{one_of-with_vars}
 use Rattle.formula_auto.specs.Decides.{Decides}
 use Rattle.formula_auto.specs.Compiled.{IsAccessible, IsCompiledOn}
 use Rattle.formula_auto.proofs.Sayings.{decides-says}
-use Rattle.shift_bound.specs.Equations.{open_ways}
+use Rattle.shift_image.specs.Equations.{open_ways}
 use Rattle.shift_image.specs.declared.shift.ValueShift.{ValueShift}
 use Rattle.shift_image.specs.Image.{Image, IsShiftable, and_all, image_tree, part_tree, moved_vars, equation_of}
 use Rattle.shift_image.specs.Laws.{ImageSaysPart, StepsAreWithin, AreClearWithin, HasFewStates, change_colours}

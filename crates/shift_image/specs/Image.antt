@@ -4,7 +4,7 @@ use Rattle.track_word.specs.declared.tracks.Var.{Var}
 use Rattle.track_word.specs.declared.atoms.Rel.TheVariants.{Eq}
 use Rattle.lin_formula.specs.Tree.{Tree, Lin, Among, Not, And, Ex, free_vars}
 use Rattle.lin_formula.specs.Free.{IsOneOf}
-use Rattle.shift_bound.specs.Equations.{Equation}
+use Rattle.shift_image.specs.Equations.{Equation}
 use Rattle.shift_image.specs.declared.shift.ValueShift.{ValueShift}
 
 -- the tuples of a set, with some values changed, for which none of some formulas is true

@@ -12,7 +12,7 @@ use Rattle.formula_auto.specs.Compiled.{IsCompiledOn}
 use Rattle.formula_auto.specs.Nodes.{DecidesAmong}
 use Rattle.formula_auto.specs.Step.{Exceeds, FirstOver}
 use Rattle.auto_shift.specs.Moved.{DecidesMoved}
-use Rattle.shift_bound.specs.Equations.{colours}
+use Rattle.shift_image.specs.Equations.{colours}
 use Rattle.shift_image.specs.declared.shift.ValueShift.{ValueShift}
 use Rattle.shift_image.specs.Image.{Image, IsShiftable, image_tree, moved_tree, part_tree, moved_vars, equation_of}
 

@@ -1,11 +1,16 @@
+pub use Rattle.track_word.specs.Word
 pub use Rattle.track_word.specs.Tracks
 pub use Rattle.auto_core.specs.Automaton
 pub use Rattle.auto_core.specs.Integers
+pub use Rattle.auto_core.specs.Spread
 pub use Rattle.lin_formula.specs.Tree
 pub use Rattle.lin_formula.specs.Holds
 pub use Rattle.formula_auto.specs.Step
 pub use Rattle.auto_shift.specs.Moved
-pub use Rattle.shift_bound.specs.Equations
+pub mod Colours
+pub mod Equations
+pub mod States
+pub mod Factored
 pub mod Image
 pub mod Laws
 pub mod Read

@@ -1,11 +1,11 @@
 //! Laws of images, each the contract of a function without a body.
 ghost use Rattle.shift_image.specs.Laws.{ImageSaysPart, MovedSetIsDecided, StepsAreWithin};
 
-use auto_shift::laws::words_can_be_moved;
-use shift_bound::laws::{
+use crate::bounds::{
     conjunctions_are_bounded, equations_are_bounded, projections_are_bounded,
     states_bound_residuals,
 };
+use auto_shift::laws::words_can_be_moved;
 
 /// States that the image says what its part says, of the same variables.
 pub fn image_says_what_its_part_says()

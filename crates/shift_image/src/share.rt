@@ -1,6 +1,6 @@
 //! The state limit of a shifted set that ensures that no step of the image exceeds the budget.
 ghost use Rattle.std.specs.Prelude.{◌≡◌, ◌+◌, ◌*◌, ◌^◌, ◌≤◌, ◌<◌, length, map, IfSome};
-ghost use Rattle.shift_bound.specs.Equations as equations;
+ghost use Rattle.shift_image.specs.Equations as equations;
 ghost use Rattle.shift_image.specs.Image.{equation_of};
 ghost use Rattle.shift_image.specs.Laws as laws;
 

@@ -11,8 +11,8 @@ use Rattle.track_word.specs.declared.tracks.Var.{Var}
 use Rattle.track_word.specs.Word.{val, low_value}
 use Rattle.track_word.specs.Tracks.{place, word_values}
 use Rattle.track_word.proofs.Spelling.{low_value-lt}
-use Rattle.shift_bound.specs.Equations.{Equation, IsSolved, AreSolved, weight, greater_weight, less_weight}
-use Rattle.shift_bound.specs.Equations.{offset_of, offset, open_ways, joint, way}
+use Rattle.shift_image.specs.Equations.{Equation, IsSolved, AreSolved, weight, greater_weight, less_weight}
+use Rattle.shift_image.specs.Equations.{offset_of, offset, open_ways, joint, way}
 
 spread : (b p q l r : ℕ) → b * (p * q) + (l * q + r) ≡ (b * p + l) * q + r
 spread b p q l r = grind arith

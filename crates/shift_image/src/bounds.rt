@@ -1,7 +1,7 @@
 //! Laws of formulas that say what a formula of fewer variables says and that the other variables solve equations, each the contract
 //! of a function without a body.
-ghost use Rattle.shift_bound.specs.Factored.{AndBound, EquationBound, ExBound};
-ghost use Rattle.shift_bound.specs.States.{StatesBound};
+ghost use Rattle.shift_image.specs.Factored.{AndBound, EquationBound, ExBound};
+ghost use Rattle.shift_image.specs.States.{StatesBound};
 
 /// States that a conjunction with a formula needs at most a constant times as many states as that of the part with it.
 pub fn conjunctions_are_bounded()

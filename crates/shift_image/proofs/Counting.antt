@@ -10,7 +10,7 @@ use Rattle.std.proofs.lemmas.List.Kept.{AllPairs-filter}
 use Rattle.std.proofs.lemmas.List.Filters.{length-filter_both}
 use Rattle.track_word.specs.Word.{IsWord}
 use Rattle.auto_core.specs.Spread.{HasMoreClasses}
-use Rattle.shift_bound.specs.Colours.{IsColoured, ColoursBound}
+use Rattle.shift_image.specs.Colours.{IsColoured, ColoursBound}
 
 length-take : {X : Type 0} (n : ℕ) (xs : List X) → n ≤ length xs → length (take n xs) ≡ n
 length-take n xs h = grind (arith, common_steps)

@@ -10,13 +10,13 @@ use Rattle.lin_formula.proofs.FreeVars.{one_of-with_vars}
 use Rattle.formula_auto.specs.Step.{Says, Exceeds}
 use Rattle.formula_auto.proofs.SameWords.{IsWord-part}
 use Rattle.auto_bool.proofs.Spreads.{not_nil-map}
-use Rattle.shift_bound.specs.Colours.{IsColoured}
-use Rattle.shift_bound.specs.Equations.{Equation, colours, colour}
-use Rattle.shift_bound.specs.Factored.{IsFactored, RestsOn}
-use Rattle.shift_bound.specs.States.{SaysAlike, HasMoreResiduals}
-use Rattle.shift_bound.proofs.Colours.{coloured-bound}
-use Rattle.shift_bound.proofs.Equations.{unique, more-product}
-use Rattle.shift_bound.proofs.Residuals.{part-part, colour-below, colour-same, alike-factored}
+use Rattle.shift_image.specs.Colours.{IsColoured}
+use Rattle.shift_image.specs.Equations.{Equation, colours, colour}
+use Rattle.shift_image.specs.Factored.{IsFactored, RestsOn}
+use Rattle.shift_image.specs.States.{SaysAlike, HasMoreResiduals}
+use Rattle.shift_image.proofs.Counting.{coloured-bound}
+use Rattle.shift_image.proofs.Equations.{unique, more-product}
+use Rattle.shift_image.proofs.Residuals.{part-part, colour-below, colour-same, alike-factored}
 
 -- equal words in place of words that are alike
 alike-at : (f : Tree) (e : Sets) (v w v' w' : List ℕ) → v ≡ v' → w ≡ w' → SaysAlike f e v w → SaysAlike f e v' w'

@@ -8,8 +8,8 @@ use Rattle.lin_formula.specs.Tree.{Tree, free_vars}
 use Rattle.lin_formula.specs.Holds.{Sets}
 use Rattle.formula_auto.specs.Decides.{Decides}
 use Rattle.formula_auto.proofs.SameWords.{IsWord-append}
-use Rattle.shift_bound.specs.States.{SaysAlike, HasMoreResiduals}
-use Rattle.shift_bound.proofs.Colours.{coloured-bound}
+use Rattle.shift_image.specs.States.{SaysAlike, HasMoreResiduals}
+use Rattle.shift_image.proofs.Counting.{coloured-bound}
 
 -- fewer colours than words that are told apart
 pub few-colours : (tracks : ℕ) (Alike : List ℕ → List ℕ → Type 0) (colours : ℕ) (colour : List ℕ → ℕ)

@@ -1,6 +1,6 @@
 use Rattle.lin_formula.specs.SetOf.{members}
-use Rattle.shift_bound.proofs.Projections.{ex-bound}
-use Rattle.shift_bound.proofs.laws.projections_are_bounded.Goals as goal
+use Rattle.shift_image.proofs.Projections.{ex-bound}
+use Rattle.shift_image.proofs.bounds.projections_are_bounded.Goals as goal
 
 pub returns : goal.returns
 returns c = λ x whole part q qs e budget each is settles others over enough more.

@@ -7,8 +7,8 @@ use Rattle.lin_formula.specs.Free.{IsOneOf}
 use Rattle.lin_formula.specs.Holds.{Sets, Holds}
 use Rattle.lin_formula.specs.SetOf.{SetOf, members}
 use Rattle.formula_auto.specs.Step.{Exceeds}
-use Rattle.shift_bound.specs.Equations.{Equation, AreSolved, colours}
-use Rattle.shift_bound.specs.States.{HasMoreResiduals}
+use Rattle.shift_image.specs.Equations.{Equation, AreSolved, colours}
+use Rattle.shift_image.specs.States.{HasMoreResiduals}
 
 abbrev pub AreOver : List Equation → List Var → Type 0
 AreOver [] vars = Unit {0}

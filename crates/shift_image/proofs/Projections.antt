@@ -17,12 +17,12 @@ use Rattle.formula_auto.proofs.Values.{val-part}
 use Rattle.formula_auto.proofs.Lifts.{joined, joined-joins, size_of}
 use Rattle.formula_auto.proofs.SameWords.{IsWord-part}
 use Rattle.formula_auto.proofs.Projections.{apart-free}
-use Rattle.shift_bound.specs.Equations.{Equation, open_ways, joint, way, colours, colour}
-use Rattle.shift_bound.specs.Factored.{AreOver, IsFactored, Settles}
-use Rattle.shift_bound.specs.States.{SaysAlike, HasMoreResiduals}
-use Rattle.shift_bound.proofs.Colours.{coloured-bound}
-use Rattle.shift_bound.proofs.Equations.{offset-vals, offset-apart}
-use Rattle.shift_bound.proofs.Residuals.{part-part, SaysAlike-sym, SaysAlike-trans, colour-below, alike-factored}
+use Rattle.shift_image.specs.Equations.{Equation, open_ways, joint, way, colours, colour}
+use Rattle.shift_image.specs.Factored.{AreOver, IsFactored, Settles}
+use Rattle.shift_image.specs.States.{SaysAlike, HasMoreResiduals}
+use Rattle.shift_image.proofs.Counting.{coloured-bound}
+use Rattle.shift_image.proofs.Equations.{offset-vals, offset-apart}
+use Rattle.shift_image.proofs.Residuals.{part-part, SaysAlike-sym, SaysAlike-trans, colour-below, alike-factored}
 
 part-repeat : (all some : List Var) (word : List ℕ)
     → part_of all some (repeat_first word) ≡ repeat_first (part_of all some word)

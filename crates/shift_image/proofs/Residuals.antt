@@ -11,10 +11,10 @@ use Rattle.lin_formula.specs.Holds.{Sets}
 use Rattle.formula_auto.specs.Step.{Says}
 use Rattle.formula_auto.proofs.Values.{bit_at-restrict}
 use Rattle.formula_auto.proofs.Parts.{Holds-part}
-use Rattle.shift_bound.specs.Equations.{Equation, AreSolved, colours, colour}
-use Rattle.shift_bound.specs.Factored.{IsFactored}
-use Rattle.shift_bound.specs.States.{SaysAlike}
-use Rattle.shift_bound.proofs.Equations.{way-below, way-same}
+use Rattle.shift_image.specs.Equations.{Equation, AreSolved, colours, colour}
+use Rattle.shift_image.specs.Factored.{IsFactored}
+use Rattle.shift_image.specs.States.{SaysAlike}
+use Rattle.shift_image.proofs.Equations.{way-below, way-same}
 
 -- a part of a part is a part
 restrict-restrict : (all some few : List Var) (letter : ℕ) → ((x : Var) → IsOneOf x few → IsOneOf x some)

@@ -1,6 +1,6 @@
 use Rattle.lin_formula.specs.SetOf.{members}
-use Rattle.shift_bound.proofs.Conjunctions.{and-bound}
-use Rattle.shift_bound.proofs.laws.conjunctions_are_bounded.Goals as goal
+use Rattle.shift_image.proofs.Conjunctions.{and-bound}
+use Rattle.shift_image.proofs.bounds.conjunctions_are_bounded.Goals as goal
 
 pub returns : goal.returns
 returns c = λ whole part g qs e budget each is enough more.
