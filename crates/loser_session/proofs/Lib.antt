@@ -8,3 +8,4 @@ mod AnyMoves
 pub mod Matches
 pub mod Defending
 pub mod Fitting
+pub mod Saving

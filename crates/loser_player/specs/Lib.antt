@@ -1,3 +1,0 @@
-pub mod LoserRules
-pub mod Laws
-pub mod Playable
