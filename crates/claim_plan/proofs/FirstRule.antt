@@ -101,8 +101,8 @@ module _ (c : Claim) (is : IsClaim c) (mean : RulesMean c.position) (some_point 
       let fits = subst Side_fits turn (mean.game.begins is.sound) in
       let Start : Position → Type 0 = λ q. q ≡ p in
       let stands =
-      pre-stands p mean 0 kind.First point first (claimed_level c 1) xs Start (IsClaimed c 1) fits (λ h. is.sound)
-      (λ h. refl, λ h. source) (claimed_stands c is mean 1) t in (
+      pre-stands p mean 0 kind.First point first (λ _. claimed_level c 1) xs Start (IsClaimed c 1) fits (λ h. is.sound)
+      (λ h. refl, λ h. source) (λ o r i here takes fits_r. claimed_stands c is mean 1 r fits_r) t in (
         λ h.
             let pre = stands.0 h in
             inl (turn, (pre.next, answer_moves c is mean apart safe p pre.leads pre.step, pre.leads)),

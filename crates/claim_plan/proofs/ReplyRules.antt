@@ -123,8 +123,9 @@ module _ (c : Claim) (is : IsClaim c) (mean : RulesMean c.position) (apart : (pl
     left_means {m} answer vs game t =
         let Into : ℕ → Type 0 = λ k. Takes (union rules (suc ply) k kind.Answer (pre_items rules (other loser) k (reached k) (claimed_level c (ply + 2)))) vs (Some answer) in
         let stands = λ (r : Position) (fits : Fits p (other loser) r) (e : mask_of r ≡ m).
-        pre-stands p mean {side = other loser} (suc ply) kind.Answer {q = r} (reached (mask_of r)) answer (claimed_level c (ply + 2)) vs
-        (Safe (Image (IsClaimed c ply))) (IsClaimed c (ply + 2)) fits (replied_sound r) (reached_stands r fits) (claimed_later (ply + 2))
+        pre-stands p mean {side = other loser} (suc ply) kind.Answer {q = r} (reached (mask_of r)) answer (λ _. claimed_level c (ply + 2)) vs
+        (Safe (Image (IsClaimed c ply))) (IsClaimed c (ply + 2)) fits (replied_sound r) (reached_stands r fits)
+        (λ o s i here takes fits_s. claimed_later (ply + 2) s fits_s)
         (subst Into (sym e) t) in
         let two : ply + 2 ≡ suc (suc ply) = omega arith in
         let At : ℕ → Position → Type 0 = λ k s. IsClaimed c k s in (
@@ -188,8 +189,8 @@ module _ (c : Claim) (is : IsClaim c) (mean : RulesMean c.position) (apart : (pl
           → Member reply (tuple_of q) ↔ Pre (Without (IsClaimed c ply) (Checked (IsClaimed c ply))) (Safe (Image (IsClaimed c ply))) q
       reply_at fits e =
           let Into : ℕ → Type 0 = λ k. Takes (union rules ply k kind.Reply (pre_items rules loser k quiet reached)) cs (Some reply) in
-          pre-stands p mean ply kind.Reply quiet reply reached cs Quietly (Safe (Image (IsClaimed c ply))) fits (λ h. sound_of h.is_in)
-          (quiet_at fits e) reached_stands (subst Into (sym e) replies)
+          pre-stands p mean ply kind.Reply quiet reply (λ _. reached) cs Quietly (Safe (Image (IsClaimed c ply))) fits (λ h. sound_of h.is_in)
+          (quiet_at fits e) (λ o s i here takes fits_s. reached_stands s fits_s) (subst Into (sym e) replies)
 
       stale_means : ((tuple : List ℤ) → Member quiet tuple → Member reply tuple) ↔ RuleHolds c rule.Stale ply m
       stale_means = (

@@ -31,7 +31,8 @@ use Rattle.winning_sets.specs.Reach.{Reach}
 use Rattle.winning_sets.specs.Solve.{AreSets, HasTuplesOf, IsSolution, IsWithin, Sets, Solution, end_of, kept_at, reach_at}
 use Rattle.winning_sets.proofs.Empties.{tracks_ascend}
 use Rattle.winning_sets.proofs.KeptParts.{two_steps}
-use Rattle.winning_sets.proofs.KeptPlan.{AllReached, IsKept, IsReached, fits_reached, forward-reached, kept-last, kept-next, level-of}
+use Rattle.winning_sets.proofs.KeptBounds.{level-of}
+use Rattle.winning_sets.proofs.KeptPlan.{AllReached, IsKept, IsReached, fits_reached, forward-reached, kept-last, kept-next}
 use Rattle.winning_sets.proofs.MeaningLaws.{mean, some_point}
 use Rattle.loser_session.specs.Unwon.{RestsFit, kept_level, reach_level, rest_part}
 use Rattle.loser_session.proofs.UnwonParts.{are_reached}
@@ -93,12 +94,12 @@ module _ (s : Solution) (valid : IsSolution s) (budget : ℕ) where
 
   reach_level_is : (j : ℕ) (level : Level) → ReachedAt j level → IsLevelOf (Reach s.position j) level
   reach_level_is j level h =
-      level-of s.position valid.sound valid.few means point (turn_at s.position.turn j) (Reach s.position j) level
+      level-of s.position (turn_at s.position.turn j) (Reach s.position j) level
       (fits_reached s.position valid.sound valid.few means point j) h.stands h.fitting
 
   kept_level_is : (j : ℕ) (level : Level) → KeptAt j level → IsLevelOf (Kept s.winner s.position s.moves j) level
   kept_level_is j level h =
-      level-of s.position valid.sound valid.few means point (turn_at s.position.turn j) (Kept s.winner s.position s.moves j) level
+      level-of s.position (turn_at s.position.turn j) (Kept s.winner s.position s.moves j) level
       (λ q k. fits_reached s.position valid.sound valid.few means point j q k.reached) h.stands h.fitting
 
   reach_same : (j : ℕ) (level : Level) → 0 < end_of s → j ≤ end_of s → ReachedAt j level → SameLevels level (reach_level s j)

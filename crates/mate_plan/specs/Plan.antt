@@ -89,8 +89,13 @@ module _ (rules : Rules) where
   pre_item mask source targets o =
       record { formula = rules.pre mask o; sets = two source (targets (rules.target mask o)) }
 
+  -- one item for each option of the side, with the target that the option has
+  abbrev pub pre_items_by : Side → ℕ → SetOf → (Opt → Level) → List Item
+  pre_items_by side mask source into = map (λ o. pre_item mask source (into o) o) (rules.choices side mask)
+
+  -- the same with one target for all options
   abbrev pub pre_items : Side → ℕ → SetOf → Level → List Item
-  pre_items side mask source targets = map (pre_item mask source targets) (rules.choices side mask)
+  pre_items side mask source targets = pre_items_by side mask source (λ _. targets)
 
   abbrev pub bear_item : ℕ → SetOf → Bearing → Item
   bear_item mask source b = record { formula = rules.bear mask b; sets = λ _. source }
@@ -102,9 +107,13 @@ module _ (rules : Rules) where
   abbrev pub image_set : Side → ℕ → ℕ → Level → Program SetOf
   image_set side ply mask level = union ply mask kind.Image (image_items side mask level)
 
-  -- the positions of a set from which the side has a move into a level, as a part of its own
+  -- the positions of a set from which the side has a move into the target of its option, as a part of its own
+  abbrev pub pre_set_by : Side → ℕ → ℕ → Part → SetOf → (Opt → Level) → Program SetOf
+  pre_set_by side ply mask p source into = union ply mask p (pre_items_by side mask source into)
+
+  -- the positions of a set from which the side has a move into a level
   abbrev pub pre_set : Side → ℕ → ℕ → Part → SetOf → Level → Program SetOf
-  pre_set side ply mask p source into = union ply mask p (pre_items side mask source into)
+  pre_set side ply mask p source targets = pre_set_by side ply mask p source (λ _. targets)
 
   -- the positions of a set in which the side is in check
   abbrev pub check_set : Side → ℕ → ℕ → SetOf → Program SetOf
@@ -139,15 +148,24 @@ module _ (rules : Rules) where
   abbrev pub win_level : Side → ℕ → Level → Level → Program Level
   win_level side ply reach kept1 = for_masks rules.masks (win_set side ply reach kept1) no_sets
 
-  -- the kept set of a ply of the loser and a mask, if some position is reached there
-  abbrev pub lost_set : Side → ℕ → ℕ → SetOf → Level → Level → Program SetOf
-  lost_set side ply mask reach reach1 rests = do
-    escape ← pre_set side ply mask kind.Escape reach rests
-    calm ← difference ply mask kind.Calm reach escape
+  -- the positions of a set that are lost: no option of the side leads into its target of `rests`, and the side is in check
+  -- or some option leads into its target of `replies`
+  abbrev pub lost_set_by : Side → ℕ → ℕ → SetOf → (Opt → Level) → (Opt → Level) → Program SetOf
+  lost_set_by side ply mask source replies rests = do
+    escape ← pre_set_by side ply mask kind.Escape source rests
+    calm ← difference ply mask kind.Calm source escape
     check ← check_set side ply mask calm
     quiet ← difference ply mask kind.Quiet calm check
-    reply ← pre_set side ply mask kind.Reply quiet reach1
+    reply ← pre_set_by side ply mask kind.Reply quiet replies
     union_of_two (rules.tracks mask) (name ply mask kind.Lost) check reply
+
+  abbrev pub lost_set_if_by : Side → ℕ → Level → (Opt → Level) → (Opt → Level) → ℕ → Program SetOf
+  lost_set_if_by side ply source replies rests mask =
+      Ask (Empty (source mask ∷ [])) (Give Nothing) (lost_set_by side ply mask (source mask) replies rests)
+
+  -- the kept set of a ply of the loser and a mask, if some position is reached there
+  abbrev pub lost_set : Side → ℕ → ℕ → SetOf → Level → Level → Program SetOf
+  lost_set side ply mask reach reach1 rests = lost_set_by side ply mask reach (λ _. reach1) (λ _. rests)
 
   -- its first two parts: the reached positions without a move into the unkept positions of the next ply
   abbrev pub calm_set : Side → ℕ → ℕ → SetOf → Level → Program SetOf
@@ -162,8 +180,7 @@ module _ (rules : Rules) where
     pre_set side ply mask kind.Reply quiet reach1
 
   abbrev pub lost_set_if : Side → ℕ → Level → Level → Level → ℕ → Program SetOf
-  lost_set_if side ply reach reach1 rests mask =
-      Ask (Empty (reach mask ∷ [])) (Give Nothing) (lost_set side ply mask (reach mask) reach1 rests)
+  lost_set_if side ply reach reach1 rests mask = lost_set_if_by side ply reach (λ _. reach1) (λ _. rests) mask
 
   -- the positions that are reached and not kept, at a ply and a mask
   abbrev pub rest_set : ℕ → Level → Level → ℕ → Program SetOf

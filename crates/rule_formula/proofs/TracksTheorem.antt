@@ -30,7 +30,7 @@ use Rattle.rule_formula.proofs.SizeTheorem.{AreSeated, IsGood, any_set, bear_fit
 use Rattle.rule_formula.specs.Fine.{IsFine}
 
 -- they ascend from n on
-abbrev Rises : ℕ → List Var → Type 0
+abbrev pub Rises : ℕ → List Var → Type 0
 Rises n [] = Unit {0}
 Rises n (x ∷ xs) = (n ≤ x.0) × Rises (suc x.0) xs
 
@@ -42,7 +42,7 @@ rises_pairs n (x ∷ xs) low h = (
 )
 
 -- they ascend from m on, below k
-abbrev Spans : ℕ → ℕ → List Var → Type 0
+abbrev pub Spans : ℕ → ℕ → List Var → Type 0
 Spans m k [] = m ≤ k
 Spans m k (x ∷ xs) = (m ≤ x.0) × Spans (suc x.0) k xs
 
@@ -60,17 +60,17 @@ spans_if true n xs h =
     (spans_more 0 (2 * n) xs (own (suc n)).x (own (suc n)).y (omega arith) (omega arith) h)
 spans_if false n xs h = spans_wider 0 (2 * n) (2 * (n + 1)) xs (omega arith) h
 
-spans_own : (live : ℕ → Bool) (n : ℕ) → Spans 0 (2 * n) (vars_to own live n)
+pub spans_own : (live : ℕ → Bool) (n : ℕ) → Spans 0 (2 * n) (vars_to own live n)
 spans_own live zero = omega arith
 spans_own live (suc n) =
     let e : 2 * (n + 1) ≡ 2 * suc n = omega arith in
     subst (λ k. Spans 0 k (vars_to own live (suc n))) e (spans_if (live (suc n)) n (vars_to own live n) (spans_own live n))
 
-spans_rise : (m k : ℕ) (xs : List Var) → Spans m k xs → Rises m xs
+pub spans_rise : (m k : ℕ) (xs : List Var) → Spans m k xs → Rises m xs
 spans_rise m k [] h = tt
 spans_rise m k (x ∷ xs) h = (h.0, spans_rise (suc x.0) k xs h.1)
 
-risen : (n : ℕ) (xs : List Var) (z : Var) → Rises n xs → IsOneOf z xs → n ≤ z.0
+pub risen : (n : ℕ) (xs : List Var) (z : Var) → Rises n xs → IsOneOf z xs → n ≤ z.0
 risen n [] z h is = absurd is
 risen n (x ∷ xs) z h (inl e) = let same : z.0 ≡ x.0 = ap (λ (v : Var). v.0) e in omega (arith, same, h.0)
 risen n (x ∷ xs) z h (inr is) = let rest = risen (suc x.0) xs z h.1 is in omega (arith, rest, h.0)
@@ -127,7 +127,7 @@ one_of-if true z x y xs =
     (λ h. elim (all.0 h) [ inl k ↦ inl k | inr k ↦ inr (refl, k) ], λ h. all.1 (elim h [ inl k ↦ inl k | inr k ↦ inr k.1 ]))
 one_of-if false z x y xs = (λ h. inl h, λ h. elim h [ inl k ↦ k | inr k ↦ absurd (cc) ])
 
-seated : (seats : ℕ → Seat) (live : ℕ → Bool) (n : ℕ) (z : Var) → IsOneOf z (vars_to seats live n) → IsSeated seats live n z
+pub seated : (seats : ℕ → Seat) (live : ℕ → Bool) (n : ℕ) (z : Var) → IsOneOf z (vars_to seats live n) → IsSeated seats live n z
 seated seats live zero z h = absurd h
 seated seats live (suc n) z h =
     elim ((one_of-if (live (suc n)) z (seats (suc n)).x (seats (suc n)).y (vars_to seats live n)).0 h) [
@@ -219,7 +219,7 @@ swept_free (pos zero) x f z ne h = h
 swept_free (pos (suc d)) x f z ne h = (ne, h)
 swept_free (negsuc d) x f z ne h = (ne, h)
 
-own_low : {live : ℕ → Bool} {n : ℕ} {z : Var} → n ≤ 8 → IsSeated own live n z → z.0 < 16
+pub own_low : {live : ℕ → Bool} {n : ℕ} {z : Var} → n ≤ 8 → IsSeated own live n z → z.0 < 16
 own_low {n} {z} few w =
     let high : w.number ≤ n = w.high in
     let low : 0 < w.number = w.low in
@@ -231,7 +231,7 @@ own_low {n} {z} few w =
 not_var : (z : Var) (n : ℕ) → z.0 < n → z ≢ var n
 not_var z n low e = let same : z.0 ≡ n = ap (λ (v : Var). v.0) e in omega (arith, same, low)
 
-seated_in : {live : ℕ → Bool} {n : ℕ} {z : Var} → IsSeated own live n z → IsOneOf z (vars_to own live n)
+pub seated_in : {live : ℕ → Bool} {n : ℕ} {z : Var} → IsSeated own live n z → IsOneOf z (vars_to own live n)
 seated_in {live} {n} {z} w = seat_in own live n z w.number w.low w.high w.on w.is
 
 pre_free : {n : ℕ} (mask i t s q : ℕ) (r : Ray) {z : Var} → n ≤ 8 → IsSeated own (is_live mask) n z → IsFree z (pre_tree n mask i r t s q)

@@ -95,10 +95,6 @@ Reach-image p q j = (
   λ h. (h.is_in.from, h.is_in.is_in, Moves-safe h.is_in.from q h.is_in.step h.safe),
 )
 
--- a step into what is reached is a move
-Moves-reached : (p q r : Position) (j : ℕ) → Reach p (suc j) r → StepsTo q r → Moves q r
-Moves-reached p q r j (before, reached, moves) step = Moves-safe q r step (safe-moves before r moves)
-
 -- what is reached is sound
 pub reached_sound : (p : Position) → Sound p → (j : ℕ) (q : Position) → Reach p j q → Sound q
 reached_sound p sound zero q is = subst Sound (sym is) sound
@@ -109,80 +105,88 @@ pub turn-reach : (p q : Position) (j : ℕ) → Reach p j q → q.turn ≡ turn_
 turn-reach p q zero e = ap (λ r. r.turn) e
 turn-reach p q (suc j) (before, reached, (i, z, legal)) = legal.step.after.turn ∙ ap other (turn-reach p before j reached)
 
--- a ply of the winner
-module _ (winner : Side) (p : Position) (j r : ℕ) (KeptAfter : Positions) (turn : (q : Position) → Reach p j q → q.turn ≡ winner)
-    (next : (q : Position) → KeptAfter q ↔ (Reach p (suc j) q × Lost winner r q)) where
-  pub win-part : (q : Position) → Pre (Reach p j) KeptAfter q ↔ (Reach p j q × Win winner (suc r) q)
+-- the side that has moved is not in check
+abbrev pub IsSafe : Position → Type 0
+IsSafe q = InCheck q (other q.turn) → ⊥
+
+-- a ply of the winner, over any sets: Here has positions with the winner to move, Kept what his moves are to lead into
+module _ (winner : Side) (r : ℕ) (Here Kept : Positions) (turn : (q : Position) → Here q → q.turn ≡ winner)
+    (safe : (q : Position) → Kept q → IsSafe q)
+    (lost : (q : Position) → Kept q → Lost winner r q)
+    (all : (q next : Position) → Here q → Moves q next → Lost winner r next → Kept next) where
+  pub win-part : (q : Position) → Pre Here Kept q ↔ (Here q × Win winner (suc r) q)
   win-part q = (
     λ h.
-        let (reached, lost) = (next h.next).0 h.leads in
-        let (i, z, legal) = Moves-reached p q h.next j reached h.step in
-        (h.is_in, (turn q h.is_in, (i, z, h.next, legal, lost))),
-    λ (reached, (is, (i, z, q', legal, lost))).
-        let moves : Moves q q' = (i, z, legal) in
-        record {
-          is_in = reached;
-          next = q';
-          step = StepsTo-moves q q' moves;
-          leads = (next q').1 ((q, reached, moves), lost);
-        },
+        let (i, z, legal) = Moves-safe q h.next h.step (safe h.next h.leads) in
+        (h.is_in, (turn q h.is_in, (i, z, h.next, legal, lost h.next h.leads))),
+    λ (here, (is, (i, z, next, legal, loses))).
+        let moves : Moves q next = (i, z, legal) in
+        record { is_in = here; next = next; step = StepsTo-moves q next moves; leads = all q next here moves loses },
   )
 
--- a ply of the loser
-module _ (winner : Side) (p : Position) (sound : Sound p) (j r : ℕ) (KeptAfter : Positions) (turn : (q : Position) → Reach p j q → q.turn ≡ other winner)
-    (next : (q : Position) → KeptAfter q ↔ (Reach p (suc j) q × Win winner r q))
-    (kept_or_not : (q : Position) → Reach p (suc j) q → KeptAfter q ⊎ (KeptAfter q → ⊥)) where
+-- a ply of the loser, over any sets that his moves do not leave: Here has positions with the loser to move, After contains what
+-- his moves lead to, Kept has what is won there
+module _ (winner : Side) (r : ℕ) (Here After Kept : Positions) (turn : (q : Position) → Here q → q.turn ≡ other winner)
+    (sound : (q : Position) → Here q → Sound q)
+    (safe : (q : Position) → After q → IsSafe q)
+    (closed : (q next : Position) → Here q → Moves q next → After next)
+    (kept : (q : Position) → Kept q ↔ (After q × Win winner r q))
+    (kept_or_not : (q : Position) → After q → Kept q ⊎ (Kept q → ⊥)) where
   -- from a calm position each move leads to a win of the other side
-  calm_wins : (q : Position) → Calm (Reach p j) (Reach p (suc j)) KeptAfter q → (i : ℕ) (z : Square) (q' : Position) → Legal q i z q' → Win winner r q'
-  calm_wins q h i z q' legal =
-      let moves : Moves q q' = (i, z, legal) in
-      let reached : Reach p (suc j) q' = (q, h.is_in, moves) in
-      elim (kept_or_not q' reached) [
-        | inl kept ↦ ((next q').0 kept).1
-        | inr off ↦ absurd (h.not_in (record { is_in = h.is_in; next = q'; step = StepsTo-moves q q' moves; leads = record { is_in = reached; not_in = off } }))
+  calm_wins : (q : Position) → Calm Here After Kept q → (i : ℕ) (z : Square) (next : Position) → Legal q i z next → Win winner r next
+  calm_wins q h i z next legal =
+      let moves : Moves q next = (i, z, legal) in
+      let after : After next = closed q next h.is_in moves in
+      elim (kept_or_not next after) [
+        | inl is ↦ ((kept next).0 is).1
+        | inr off ↦ absurd (h.not_in (record { is_in = h.is_in; next = next; step = StepsTo-moves q next moves; leads = record { is_in = after; not_in = off } }))
       ]
 
-  -- where each move leads to a win of the other side, the position is calm
-  wins_calm : (q : Position) → Reach p j q → ((i : ℕ) (z : Square) (q' : Position) → Legal q i z q' → Win winner r q') → Calm (Reach p j) (Reach p (suc j)) KeptAfter q
-  wins_calm q reached wins = record {
-    is_in = reached;
+  -- if each move leads to a win of the other side, the position is calm
+  wins_calm : (q : Position) → Here q → ((i : ℕ) (z : Square) (next : Position) → Legal q i z next → Win winner r next) → Calm Here After Kept q
+  wins_calm q here wins = record {
+    is_in = here;
     not_in = λ e.
-        let (i, z, legal) = Moves-reached p q e.next j e.leads.is_in e.step in
-        e.leads.not_in ((next e.next).1 (e.leads.is_in, wins i z e.next legal));
+        let (i, z, legal) = Moves-safe q e.next e.step (safe e.next e.leads.is_in) in
+        e.leads.not_in ((kept e.next).1 (e.leads.is_in, wins i z e.next legal));
   }
 
-  lost_reached : (q : Position) → LostPart (Reach p j) (Reach p (suc j)) KeptAfter q → Reach p j q
-  lost_reached q (inl c) = c.is_in.is_in
-  lost_reached q (inr h) = h.is_in.is_in.is_in
+  lost_here : (q : Position) → LostPart Here After Kept q → Here q
+  lost_here q (inl c) = c.is_in.is_in
+  lost_here q (inr h) = h.is_in.is_in.is_in
 
-  lost_from : (q : Position) → LostPart (Reach p j) (Reach p (suc j)) KeptAfter q → Lost winner r q
+  lost_from : (q : Position) → LostPart Here After Kept q → Lost winner r q
   lost_from q (inl c) =
-      flat_lost winner (Win winner r) (reached_sound p sound j q c.is_in.is_in) (turn q c.is_in.is_in, inl c.check, calm_wins q c.is_in)
+      flat_lost winner (Win winner r) (sound q c.is_in.is_in) (turn q c.is_in.is_in, inl c.check, calm_wins q c.is_in)
   lost_from q (inr h) =
-      let (i, z, legal) = Moves-reached p q h.next j h.leads h.step in
-      flat_lost winner (Win winner r) (reached_sound p sound j q h.is_in.is_in.is_in) (turn q h.is_in.is_in.is_in, inr (i, z, h.next, legal), calm_wins q h.is_in.is_in)
+      let (i, z, legal) = Moves-safe q h.next h.step (safe h.next h.leads) in
+      flat_lost winner (Win winner r) (sound q h.is_in.is_in.is_in) (turn q h.is_in.is_in.is_in, inr (i, z, h.next, legal), calm_wins q h.is_in.is_in)
 
-  lost_to : (q : Position) → Reach p j q → Lost winner r q → LostPart (Reach p j) (Reach p (suc j)) KeptAfter q
-  lost_to q reached lost =
+  lost_to : (q : Position) → Here q → Lost winner r q → LostPart Here After Kept q
+  lost_to q here lost =
       let (is, first, wins) = lost_flat winner (Win winner r) q lost in
-      let calm = wins_calm q reached wins in
+      let calm = wins_calm q here wins in
       elim (in_check q q.turn) [
         | inl check ↦ inl (record { is_in = calm; check = check })
         | inr none ↦ elim first [
           | inl check ↦ absurd (none check)
-          | inr (i, z, q', legal) ↦
-              let moves : Moves q q' = (i, z, legal) in
+          | inr (i, z, next, legal) ↦
+              let moves : Moves q next = (i, z, legal) in
               inr (record {
                 is_in = record { is_in = calm; not_in = λ c. none c.check };
-                next = q';
-                step = StepsTo-moves q q' moves;
-                leads = (q, reached, moves);
+                next = next;
+                step = StepsTo-moves q next moves;
+                leads = closed q next here moves;
               })
         ]
       ]
 
-  pub lost-part : (q : Position) → LostPart (Reach p j) (Reach p (suc j)) KeptAfter q ↔ (Reach p j q × Lost winner r q)
-  lost-part q = (λ h. (lost_reached q h, lost_from q h), λ (reached, lost). lost_to q reached lost)
+  pub lost-part : (q : Position) → LostPart Here After Kept q ↔ (Here q × Lost winner r q)
+  lost-part q = (λ h. (lost_here q h, lost_from q h), λ (here, lost). lost_to q here lost)
+
+-- in what is reached, the side that has moved is not in check
+reach_safe : (p : Position) (j : ℕ) (q : Position) → Reach p (suc j) q → IsSafe q
+reach_safe p j q (before, reached, moves) = safe-moves before q moves
 
 turn_two : (s : Side) (k : ℕ) → turn_at s (2 * k) ≡ s
 turn_two s zero = refl
@@ -279,7 +283,10 @@ module _ (winner : Side) (p : Position) (sound : Sound p) (n : ℕ) where
   win-step j k e q =
       let next : suc j + (2 * k + 1) ≡ last_ply winner p.turn n = omega (arith, e) in
       let turn = λ (r : Position) (h : Reach p j r). turn-reach p r j h ∙ turn_even winner p.turn n j (suc k) e in
-      let part = win-part winner p j k (Kept winner p n (suc j)) turn (kept_lost winner p n (suc j) k next) q in
+      let kept = kept_lost winner p n (suc j) k next in
+      let part =
+      win-part winner k (Reach p j) (Kept winner p n (suc j)) turn (λ r h. reach_safe p j r ((kept r).0 h).0) (λ r h. ((kept r).0 h).1)
+      (λ r after here moves lost. (kept after).1 ((r, here, moves), lost)) q in
       let here = kept_won winner p n j (suc k) e q in
       (λ h. here.1 (part.0 h), λ h. part.1 (here.0 h))
 
@@ -290,7 +297,9 @@ module _ (winner : Side) (p : Position) (sound : Sound p) (n : ℕ) where
   lost-step j k e decided q =
       let next : suc j + 2 * k ≡ last_ply winner p.turn n = omega (arith, e) in
       let turn = λ (r : Position) (h : Reach p j r). turn-reach p r j h ∙ turn_odd winner p.turn n j k e in
-      let part = lost-part winner p sound j k (Kept winner p n (suc j)) turn (kept_won winner p n (suc j) k next) decided q in
+      let part =
+      lost-part winner k (Reach p j) (Reach p (suc j)) (Kept winner p n (suc j)) turn (reached_sound p sound j) (reach_safe p j)
+      (λ r after here moves. (r, here, moves)) (kept_won winner p n (suc j) k next) decided q in
       let here = kept_lost winner p n j k e q in
       (λ h. here.1 (part.0 h), λ h. part.1 (here.0 h))
 

@@ -31,7 +31,7 @@ use Rattle.winning_sets.proofs.KeptParts.{Reach-image, StepsTo-moves, kept_end, 
 use Rattle.set_plan.proofs.Composition.{Takes-split, none_some}
 use Rattle.set_plan.proofs.Takings.{IsOver, remainder_over, Takes-give, any-map, make-members, difference_set-members, same_some, union_of_two-members, union-members, union_over}
 use Rattle.winning_sets.proofs.KeptSets.{Entries, Stands, bear_have, for_masks-level, game_mask, lost-stands, pre_have, reach_set-stands, reach_set_fitting, reach_set_over, win-stands, in_masks}
-use Rattle.winning_sets.proofs.KeptWithin.{bear_within, pre_within}
+use Rattle.winning_sets.proofs.KeptBounds.{level-of, lost_within_if, union_pre}
 
 -- the level of a mask alone
 level_if : (P : ℕ → SetOf → Type 0) (m mask : ℕ) (s : SetOf) → (m ≡ mask → P m s) → ((m ≡ mask → ⊥) → P m Nothing) → P m (level_with no_sets mask s m)
@@ -171,55 +171,6 @@ module _ (p : Position) (sound : Sound p) (few : length p.men ≤ 8) (mean : Rul
       let (all, count) = forward-reached ply before us first in
       more-reached ply before levels vs all count rest
 
-  free : (m : ℕ) → free_vars (tree.Or (tree.Among 0 (mask_tracks p m)) (tree.Among 1 (mask_tracks p m))) ≡ mask_tracks p m
-  free m = mean.game.tracks m 0 1
-
-  -- the tuples of a union of pre are in its source
-  union_pre : (side : Side) (ply : ℕ) (k : Part) {m : ℕ} (source : SetOf) (targets : Level) (s : SetOf) (xs : Entries) → IsGameMask p m
-      → Takes (union rules ply m k (pre_items rules side m source targets)) xs (Some s) → (tuple : List ℤ) → Member s tuple → Member source tuple
-  union_pre side ply k {m} source targets s xs game t tuple h =
-      let whole = union-members (mask_tracks p m) (name ply m k) (free m) (pre_items rules side m source targets) xs s (pre_have p mean side source targets game) t tuple in
-      let (o, i, member) = (any-map (pre_item rules m source targets) (options_of p.men m side) tuple).0 (whole.0 h) in
-      pre_within p.men m o 0 1 (two source (targets (target_of m o))) tuple few ((mean.options side m o game i).pre_tracks 0 1) member
-
-  -- and so are those of a union of bear
-  union_bear : (side : Side) (ply : ℕ) {m : ℕ} (source s : SetOf) (xs : Entries) → IsGameMask p m
-      → Takes (union rules ply m kind.Check (bear_items rules side m source)) xs (Some s) → (tuple : List ℤ) → Member s tuple → Member source tuple
-  union_bear side ply {m} source s xs game t tuple h =
-      let whole = union-members (mask_tracks p m) (name ply m kind.Check) (free m) (bear_items rules side m source) xs s (bear_have p mean side source game) t tuple in
-      let (b, i, member) = (any-map (bear_item rules m source) (bearings_of p.men m side) tuple).0 (whole.0 h) in
-      bear_within p.men m b.man b.ray b.king 0 (λ _. source) tuple ((mean.bearings m side b game i).bear_tracks 0) member
-
-  lost_within : (side : Side) (ply : ℕ) {m : ℕ} (reach s : SetOf) (reach1 rests : Level) (xs : Entries) → IsGameMask p m → IsOver (mask_tracks p m) reach
-      → Takes (lost_set rules side ply m reach reach1 rests) xs (Some s) → (tuple : List ℤ) → Member s tuple → Member reach tuple
-  lost_within side ply {m} reach s reach1 rests xs game over t tuple h =
-      let (a1, b1, escape, order, t1, r1) = Takes-split (union rules ply m kind.Escape (pre_items rules side m reach rests)) _ xs s t in
-      let (a2, b2, calm, order, t2, r2) = Takes-split (difference rules ply m kind.Calm reach escape) _ b1 s r1 in
-      let (a3, b3, check, order, t3, r3) = Takes-split (union rules ply m kind.Check (bear_items rules (other side) m calm)) _ b2 s r2 in
-      let (a4, b4, quiet, order, t4, r4) = Takes-split (difference rules ply m kind.Quiet calm check) _ b3 s r3 in
-      let (a5, b5, reply, order, t5, r5) = Takes-split (union rules ply m kind.Reply (pre_items rules side m quiet reach1)) _ b4 s r4 in
-      let calm_over = remainder_over (mask_tracks p m) (name ply m kind.Calm) (free m) reach escape a2 calm over t2 in
-      let check_over = union_over (mask_tracks p m) (name ply m kind.Check) (free m) (bear_items rules (other side) m calm) a3 check (bear_have p mean (other side) calm game) t3 in
-      let reply_over = union_over (mask_tracks p m) (name ply m kind.Reply) (free m) (pre_items rules side m quiet reach1) a5 reply (pre_have p mean side quiet reach1 game) t5 in
-      let joined = union_of_two-members (mask_tracks p m) (name ply m kind.Lost) (free m) check reply b5 s check_over reply_over r5 tuple in
-      let calms = difference_set-members (mask_tracks p m) (name ply m kind.Calm) (free m) reach escape a2 calm over t2 tuple in
-      let quiets = difference_set-members (mask_tracks p m) (name ply m kind.Quiet) (free m) calm check a4 quiet calm_over t4 tuple in
-      elim (joined.0 h) [
-        | inl c ↦ (calms.0 (union_bear (other side) ply calm check a3 game t3 tuple c)).0
-        | inr r ↦ (calms.0 (quiets.0 (union_pre side ply kind.Reply quiet reach1 reply a5 game t5 tuple r)).0).0
-      ]
-
-  lost_within_if : (side : Side) (ply : ℕ) {m : ℕ} (reach reach1 rests : Level) (s : SetOf) (xs : Entries) → IsGameMask p m
-      → IsOver (mask_tracks p m) (reach m) → Takes (lost_set_if rules side ply reach reach1 rests m) xs (Some s) → (tuple : List ℤ) → Member s tuple
-      → Member (reach m) tuple
-  lost_within_if side ply reach reach1 rests s xs game over (inl (e, o)) tuple h = none_some o
-  lost_within_if side ply reach reach1 rests s xs game over (inr (inl (inl empty, t))) tuple h =
-      let In_it : SetOf → Type 0 = λ u. Member u tuple in
-      absurd (subst In_it (Takes-give Nothing s xs t) h)
-  lost_within_if side ply reach reach1 rests s xs game over (inr (inl (inr never, t))) tuple h = absurd never
-  lost_within_if side ply {m} reach reach1 rests s xs game over (inr (inr (some, t))) tuple h =
-      lost_within side ply (reach m) s reach1 rests xs game over t tuple h
-
   module _ (winner : Side) (moves : ℕ) where
     abbrev end : ℕ
     end = last_ply winner p.turn moves
@@ -246,7 +197,7 @@ module _ (p : Position) (sound : Sound p) (few : length p.men ≤ 8) (mean : Rul
               let step = win-step winner p sound moves j k e q in
               (λ h. step.0 ((stands q fits).0 h), λ h. (stands q fits).1 (step.1 h));
           fitting = λ m. for_masks-level f (HoldsFitting p (side_at j)) (masks_of p)
-              (λ m i s ys made tuple h. reached.fitting m tuple (union_pre (side_at j) j kind.Win (reach m) kept1 s ys (game_mask p mean m i) made tuple h))
+              (λ m i s ys made tuple h. reached.fitting m tuple (union_pre p few mean (side_at j) j kind.Win (reach m) (λ _. kept1) s ys (game_mask p mean m i) made tuple h))
               no_sets level xs t m (inl (λ tuple h. absurd h));
         }
 
@@ -270,7 +221,7 @@ module _ (p : Position) (sound : Sound p) (few : length p.men ≤ 8) (mean : Rul
               let step = lost-step winner p sound moves j k e kept_or_not q in
               (λ h. step.0 ((stands q fits).0 h), λ h. (stands q fits).1 (step.1 h));
           fitting = λ m. for_masks-level (lost_set_if rules (side_at j) j reach reach1 rests) (HoldsFitting p (side_at j)) (masks_of p)
-              (λ m i s ys made tuple h. reached.fitting m tuple (lost_within_if (side_at j) j reach reach1 rests s ys (game_mask p mean m i) (reached.over m) made tuple h))
+              (λ m i s ys made tuple h. reached.fitting m tuple (lost_within_if p few mean (side_at j) j reach (λ _. reach1) (λ _. rests) s ys (game_mask p mean m i) (reached.over m) made tuple h))
               no_sets level vs last m (inl (λ tuple h. absurd h));
         }
 
@@ -342,23 +293,6 @@ module _ (p : Position) (sound : Sound p) (few : length p.men ≤ 8) (mean : Rul
         let sum : k + suc j ≡ suc k + j = omega arith in
         subst (λ (n : ℕ). IsKept n level) sum there
 
-  -- a level that stands for a set whose positions fit has exactly their tuples
-  pub level-of : (side : Side) (S : Position → Type 0) (level : Level)
-      → ((q : Position) → S q → Fits p side q) → Stands p side level S → ((m : ℕ) → HoldsFitting p side m (level m))
-      → IsLevelOf S level
-  level-of side S level fits stands fitting = record {
-    same = λ m tuple. (
-      λ h.
-          let (q, fit, mask, is) = fitting m tuple h in
-          let At : ℕ → Type 0 = λ k. Member (level k) (tuple_of q) in
-          let here : Member (level m) (tuple_of q) = subst (Member (level m)) (sym is) h in
-          record { position = q; is_in = (stands q fit).0 (subst At (sym mask) here); mask_is = mask; tuple_is = is },
-      λ h.
-          let At : ℕ → Type 0 = λ k. Member (level k) (tuple_of h.position) in
-          subst (Member (level m)) h.tuple_is (subst At h.mask_is ((stands h.position (fits h.position h.is_in)).1 h.is_in)),
-    );
-  }
-
   reached-at : (k : ℕ) (levels : List Level) (level : Level) → AllReached levels → slice_get levels k ≡ Some level → IsReached (length levels - suc k) level
   reached-at k [] level all is = none_some (sym is)
   reached-at zero (first ∷ before) level all is =
@@ -379,7 +313,7 @@ module _ (p : Position) (sound : Sound p) (few : length p.men ≤ 8) (mean : Rul
         each = λ k level is.
             let n : length levels - suc k ≡ ply - k = omega (arith, count) in
             let reached = subst (λ (j : ℕ). IsReached j level) n (reached-at k levels level all is) in
-            level-of (side_at (ply - k)) (Reach p (ply - k)) level (fits_reached (ply - k)) reached.stands reached.fitting;
+            level-of p (side_at (ply - k)) (Reach p (ply - k)) level (fits_reached (ply - k)) reached.stands reached.fitting;
       }
 
   -- what a plan gives
@@ -392,7 +326,7 @@ module _ (p : Position) (sound : Sound p) (few : length p.men ≤ 8) (mean : Rul
         each = λ k level is.
             let n : k + 0 ≡ k = omega arith in
             let kept = subst (λ (j : ℕ). IsKept winner moves j level) n (kept-at winner moves 0 k levels level all is) in
-            level-of (side_at k) (Kept winner p moves k) level (λ q h. fits_reached k q h.reached) kept.stands kept.fitting;
+            level-of p (side_at k) (Kept winner p moves k) level (λ q h. fits_reached k q h.reached) kept.stands kept.fitting;
       }
 
   abbrev IsFirst : List Level → Type 0

@@ -18,7 +18,7 @@ use Rattle.rule_formula.specs.Options.{options_of}
 use Rattle.mask_sets.specs.Tuple.{tuple_of}
 use Rattle.set_plan.specs.Program.{Entry, Give, Takes, each}
 use Rattle.set_plan.specs.Unite.{Made, two}
-use Rattle.mate_plan.specs.Plan.{Level, Program, Rules, bear_item, bear_items, choices_into, difference, for_masks, image_item, image_items, level_with, lost_level, lost_set, lost_set_if, name, narrow, narrow_by, no_sets, pre_item, pre_items, reach_set, rest_set, safe_item, union, win_level, win_set, with_mask}
+use Rattle.mate_plan.specs.Plan.{Level, Program, Rules, bear_item, bear_items, choices_into, difference, for_masks, image_item, image_items, level_with, lost_level, lost_set_by, lost_set_if, lost_set_if_by, name, narrow, narrow_by, no_sets, pre_item, pre_items_by, reach_set, rest_set, safe_item, union, win_level, win_set, with_mask}
 use Rattle.mate_plan.specs.PlanOf.{rules_of}
 use Rattle.mate_plan.specs.declared.names.Part.{Part}
 use Rattle.mate_plan.specs.declared.names.Part.TheVariants as kind
@@ -75,9 +75,9 @@ module _ (p : Position) (mean : RulesMean p) where
   pub in_masks : (side : Side) (q : Position) → Fits p side q → Contains (masks_of p) (mask_of q)
   in_masks side q fits = (mean.game.masks (mask_of q)).1 (mean.game.mask_is side q fits)
 
-  pub pre_have : (side : Side) {m : ℕ} (source : SetOf) (targets : Level) → IsGameMask p m → HaveTracks (mask_tracks p m) (pre_items rules side m source targets)
-  pre_have side {m} source targets game =
-      have-map (mask_tracks p m) (pre_item rules m source targets) (options_of p.men m side) (λ o i. (mean.options side m o game i).pre_tracks 0 1)
+  pub pre_have : (side : Side) {m : ℕ} (source : SetOf) (into : Opt → Level) → IsGameMask p m → HaveTracks (mask_tracks p m) (pre_items_by rules side m source into)
+  pre_have side {m} source into game =
+      have-map (mask_tracks p m) (λ o. pre_item rules m source (into o) o) (options_of p.men m side) (λ o i. (mean.options side m o game i).pre_tracks 0 1)
 
   pub bear_have : (side : Side) {m : ℕ} (source : SetOf) → IsGameMask p m → HaveTracks (mask_tracks p m) (bear_items rules side m source)
   bear_have side {m} source game =
@@ -91,33 +91,39 @@ module _ (p : Position) (mean : RulesMean p) where
       let (j, e) = (contains_filter (λ c. target_of m c == to) (options_of p.men m side) o).0 i in
       (mean.options side m o (game_mask m in_m) j).image_tracks 0 ∙ ap (mask_tracks p) (eqb-true (target_of m o) to e)))
 
-  -- a union of pre over all choices, at a position that fits
-  pub pre-stands : {side : Side} (ply : ℕ) (k : Part) {q : Position} (source s : SetOf) (targets : Level) (xs : Entries) (S Q : Positions)
-      → Fits p side q → (S q → Sound q) → Member source (tuple_of q) ↔ S q → Stands p (other side) targets Q
-      → Takes (union rules ply (mask_of q) k (pre_items rules side (mask_of q) source targets)) xs (Some s) → Member s (tuple_of q) ↔ Pre S Q q
-  pre-stands {side} ply k {q} source s targets xs S Q fits sound sources leads t =
+  -- the target of each option stands for the set, at the positions to which a step by the option leads from a set
+  abbrev pub LeadBy : Side → Position → (Opt → Level) → Positions → Positions → Type 0
+  LeadBy side q into S Q =
+      (o : Opt) (r : Position) → Contains (options_of p.men (mask_of q) side) o → S q → TakesOption o q r → Fits p (other side) r
+      → Member (into o (mask_of r)) (tuple_of r) ↔ Q r
+
+  -- a union of pre over all options, each with its own target, at a position that fits
+  pub pre-stands : {side : Side} (ply : ℕ) (k : Part) {q : Position} (source s : SetOf) (into : Opt → Level) (xs : Entries) (S Q : Positions)
+      → Fits p side q → (S q → Sound q) → Member source (tuple_of q) ↔ S q → LeadBy side q into S Q
+      → Takes (union rules ply (mask_of q) k (pre_items_by rules side (mask_of q) source into)) xs (Some s) → Member s (tuple_of q) ↔ Pre S Q q
+  pre-stands {side} ply k {q} source s into xs S Q fits sound sources leads t =
       let m = mask_of q in
       let game = mean.game.mask_is side q fits in
-      let whole = union-members (mask_tracks p m) (name ply m k) (free m) (pre_items rules side m source targets) xs s (pre_have side source targets game) t (tuple_of q) in
-      let any = any-map (pre_item rules m source targets) (options_of p.men m side) (tuple_of q) in
-      let means = λ (o : Opt) (i : Contains (options_of p.men m side) o). (mean.options side m o game i).pre 0 1 (two source (targets (target_of m o))) q fits refl in (
+      let whole = union-members (mask_tracks p m) (name ply m k) (free m) (pre_items_by rules side m source into) xs s (pre_have side source into game) t (tuple_of q) in
+      let any = any-map (λ o. pre_item rules m source (into o) o) (options_of p.men m side) (tuple_of q) in
+      let means = λ (o : Opt) (i : Contains (options_of p.men m side) o). (mean.options side m o game i).pre 0 1 (two source (into o (target_of m o))) q fits refl in (
         λ h.
             let (o, i, member) = any.0 (whole.0 h) in
             let (here, (r, takes, there)) = (means o i).0 member in
             let (mask, fits_r) = mean.game.target side o q r fits i takes in
-            let At : ℕ → Type 0 = λ n. Member (targets n) (tuple_of r) in
+            let At : ℕ → Type 0 = λ n. Member (into o n) (tuple_of r) in
             let is_in = sources.0 here in
             record {
               is_in = is_in;
               next = r;
               step = (mean.game.steps side q r fits (sound is_in)).1 (o, i, takes);
-              leads = (leads r fits_r).0 (subst At (sym mask) there);
+              leads = (leads o r i is_in takes fits_r).0 (subst At (sym mask) there);
             },
         λ h.
             let (o, i, takes) = (mean.game.steps side q h.next fits (sound h.is_in)).0 h.step in
             let (mask, fits_r) = mean.game.target side o q h.next fits i takes in
-            let At : ℕ → Type 0 = λ n. Member (targets n) (tuple_of h.next) in
-            let member = (means o i).1 (sources.1 h.is_in, (h.next, takes, subst At mask ((leads h.next fits_r).1 h.leads))) in
+            let At : ℕ → Type 0 = λ n. Member (into o n) (tuple_of h.next) in
+            let member = (means o i).1 (sources.1 h.is_in, (h.next, takes, subst At mask ((leads o h.next i h.is_in takes fits_r).1 h.leads))) in
             whole.1 (any.1 (o, i, member)),
       )
 
@@ -128,7 +134,7 @@ module _ (p : Position) (mean : RulesMean p) where
   win-stands side ply reach kept1 level xs AtPly KeptAfter sound reaches keeps t q fits =
       let Is : ℕ → SetOf → Type 0 = λ m s. (ys : Entries) × Takes (win_set rules side ply reach kept1 m) ys (Some s) in
       let (ys, made) = for_masks-level (win_set rules side ply reach kept1) Is (masks_of p) (λ m i s zs h. (zs, h)) no_sets level xs t (mask_of q) (inr (in_masks side q fits)) in
-      pre-stands ply kind.Win (reach (mask_of q)) (level (mask_of q)) kept1 ys AtPly KeptAfter fits (sound q) (reaches q fits) keeps made
+      pre-stands ply kind.Win (reach (mask_of q)) (level (mask_of q)) (λ _. kept1) ys AtPly KeptAfter fits (sound q) (reaches q fits) (λ o r i here takes fits_r. keeps r fits_r) made
 
   checked : {side : Side} {q : Position} → Fits p side q → InCheck q q.turn → InCheck q (other (other side))
   checked {side} {q} fits h =
@@ -172,46 +178,47 @@ module _ (p : Position) (mean : RulesMean p) where
       )
 
   -- the parts of a loser's ply at one mask
-  lost_set-stands : {side : Side} (ply : ℕ) {q : Position} (reach s : SetOf) (reach1 rests : Level) (xs : Entries)
+  lost_set-stands : {side : Side} (ply : ℕ) {q : Position} (reach s : SetOf) (reply rests : Opt → Level) (xs : Entries)
       (AtPly AfterPly KeptAfter : Positions)
       → Fits p side q → (AtPly q → Sound q) → IsOver (mask_tracks p (mask_of q)) reach → Member reach (tuple_of q) ↔ AtPly q
-      → Stands p (other side) reach1 AfterPly → Stands p (other side) rests (Rest AfterPly KeptAfter)
-      → Takes (lost_set rules side ply (mask_of q) reach reach1 rests) xs (Some s) → Member s (tuple_of q) ↔ LostPart AtPly AfterPly KeptAfter q
-  lost_set-stands {side} ply {q} reach s reach1 rests xs AtPly AfterPly KeptAfter fits sound over reaches reaches1 rested t =
+      → LeadBy side q reply AtPly AfterPly → LeadBy side q rests AtPly (Rest AfterPly KeptAfter)
+      → Takes (lost_set_by rules side ply (mask_of q) reach reply rests) xs (Some s) → Member s (tuple_of q) ↔ LostPart AtPly AfterPly KeptAfter q
+  lost_set-stands {side} ply {q} reach s reply rests xs AtPly AfterPly KeptAfter fits sound over reaches replied rested t =
       let m = mask_of q in
       let game = mean.game.mask_is side q fits in
-      let (a1, b1, escape, order, t1, r1) = Takes-split (union rules ply m kind.Escape (pre_items rules side m reach rests)) _ xs s t in
+      let (a1, b1, escape, order, t1, r1) = Takes-split (union rules ply m kind.Escape (pre_items_by rules side m reach rests)) _ xs s t in
       let (a2, b2, calm, order, t2, r2) = Takes-split (difference rules ply m kind.Calm reach escape) _ b1 s r1 in
       let (a3, b3, check, order, t3, r3) = Takes-split (union rules ply m kind.Check (bear_items rules (other side) m calm)) _ b2 s r2 in
       let (a4, b4, quiet, order, t4, r4) = Takes-split (difference rules ply m kind.Quiet calm check) _ b3 s r3 in
-      let (a5, b5, reply, order, t5, r5) = Takes-split (union rules ply m kind.Reply (pre_items rules side m quiet reach1)) _ b4 s r4 in
+      let (a5, b5, replies, order, t5, r5) = Takes-split (union rules ply m kind.Reply (pre_items_by rules side m quiet reply)) _ b4 s r4 in
       let escapes = pre-stands ply kind.Escape reach escape rests a1 AtPly (Rest AfterPly KeptAfter) fits sound reaches rested t1 in
       let calms = difference-stands ply kind.Calm q reach escape calm a2 AtPly (Escape AtPly AfterPly KeptAfter) over reaches escapes t2 in
       let calm_over = remainder_over (mask_tracks p m) (name ply m kind.Calm) (free m) reach escape a2 calm over t2 in
       let checks = check-stands ply calm check a3 (Calm AtPly AfterPly KeptAfter) fits calms t3 in
       let quiets = difference-stands ply kind.Quiet q calm check quiet a4 (Calm AtPly AfterPly KeptAfter) (Check AtPly AfterPly KeptAfter) calm_over calms checks t4 in
-      let replies = pre-stands ply kind.Reply quiet reply reach1 a5 (Quiet AtPly AfterPly KeptAfter) AfterPly fits (λ h. sound h.is_in.is_in) quiets reaches1 t5 in
+      let replying = pre-stands ply kind.Reply quiet replies reply a5 (Quiet AtPly AfterPly KeptAfter) AfterPly fits (λ h. sound h.is_in.is_in) quiets
+      (λ o r i here takes fits_r. replied o r i here.is_in.is_in takes fits_r) t5 in
       let check_over = union_over (mask_tracks p m) (name ply m kind.Check) (free m) (bear_items rules (other side) m calm) a3 check (bear_have (other side) calm game) t3 in
-      let reply_over = union_over (mask_tracks p m) (name ply m kind.Reply) (free m) (pre_items rules side m quiet reach1) a5 reply (pre_have side quiet reach1 game) t5 in
-      let joined = union_of_two-members (mask_tracks p m) (name ply m kind.Lost) (free m) check reply b5 s check_over reply_over r5 (tuple_of q) in (
-        λ h. elim (joined.0 h) [ inl c ↦ inl (checks.0 c) | inr r ↦ inr (replies.0 r) ],
-        λ h. elim h [ inl c ↦ joined.1 (inl (checks.1 c)) | inr r ↦ joined.1 (inr (replies.1 r)) ],
+      let reply_over = union_over (mask_tracks p m) (name ply m kind.Reply) (free m) (pre_items_by rules side m quiet reply) a5 replies (pre_have side quiet reply game) t5 in
+      let joined = union_of_two-members (mask_tracks p m) (name ply m kind.Lost) (free m) check replies b5 s check_over reply_over r5 (tuple_of q) in (
+        λ h. elim (joined.0 h) [ inl c ↦ inl (checks.0 c) | inr r ↦ inr (replying.0 r) ],
+        λ h. elim h [ inl c ↦ joined.1 (inl (checks.1 c)) | inr r ↦ joined.1 (inr (replying.1 r)) ],
       )
 
-  lost_or_empty : {side : Side} (ply : ℕ) {q : Position} (reach reach1 rests : Level) (s : SetOf) (xs : Entries)
+  pub lost_or_empty : {side : Side} (ply : ℕ) {q : Position} (reach : Level) (reply rests : Opt → Level) (s : SetOf) (xs : Entries)
       (AtPly AfterPly KeptAfter : Positions)
       → Fits p side q → (AtPly q → Sound q) → IsOver (mask_tracks p (mask_of q)) (reach (mask_of q))
-      → Member (reach (mask_of q)) (tuple_of q) ↔ AtPly q → Stands p (other side) reach1 AfterPly
-      → Stands p (other side) rests (Rest AfterPly KeptAfter) → Takes (lost_set_if rules side ply reach reach1 rests (mask_of q)) xs (Some s)
+      → Member (reach (mask_of q)) (tuple_of q) ↔ AtPly q → LeadBy side q reply AtPly AfterPly
+      → LeadBy side q rests AtPly (Rest AfterPly KeptAfter) → Takes (lost_set_if_by rules side ply reach reply rests (mask_of q)) xs (Some s)
       → Member s (tuple_of q) ↔ LostPart AtPly AfterPly KeptAfter q
-  lost_or_empty ply reach reach1 rests s xs AtPly AfterPly KeptAfter fits sound over reaches reaches1 rested (inl (e, o)) = none_some o
-  lost_or_empty ply {q} reach reach1 rests s xs AtPly AfterPly KeptAfter fits sound over reaches reaches1 rested (inr (inl (inl empty, t))) =
+  lost_or_empty ply reach reply rests s xs AtPly AfterPly KeptAfter fits sound over reaches replied rested (inl (e, o)) = none_some o
+  lost_or_empty ply {q} reach reply rests s xs AtPly AfterPly KeptAfter fits sound over reaches replied rested (inr (inl (inl empty, t))) =
       let is : s ≡ Nothing = Takes-give Nothing s xs t in
       let none = λ (h : AtPly q). empty (tuple_of q) (reaches.1 h) in
       rw is (λ h. absurd h, λ h. elim h [ inl c ↦ none c.is_in.is_in | inr r ↦ none r.is_in.is_in.is_in ])
-  lost_or_empty ply reach reach1 rests s xs AtPly AfterPly KeptAfter fits sound over reaches reaches1 rested (inr (inl (inr never, t))) = absurd never
-  lost_or_empty ply {q} reach reach1 rests s xs AtPly AfterPly KeptAfter fits sound over reaches reaches1 rested (inr (inr (some, t))) =
-      lost_set-stands ply (reach (mask_of q)) s reach1 rests xs AtPly AfterPly KeptAfter fits sound over reaches reaches1 rested t
+  lost_or_empty ply reach reply rests s xs AtPly AfterPly KeptAfter fits sound over reaches replied rested (inr (inl (inr never, t))) = absurd never
+  lost_or_empty ply {q} reach reply rests s xs AtPly AfterPly KeptAfter fits sound over reaches replied rested (inr (inr (some, t))) =
+      lost_set-stands ply (reach (mask_of q)) s reply rests xs AtPly AfterPly KeptAfter fits sound over reaches replied rested t
 
   -- each set of the level is over the tracks of its mask
   abbrev pub AreOver : Level → Type 0
@@ -234,7 +241,8 @@ module _ (p : Position) (mean : RulesMean p) where
       let set_of = lost_set_if rules side ply reach reach1 rests in
       let Is : ℕ → SetOf → Type 0 = λ m s. (ys : Entries) × Takes (set_of m) ys (Some s) in
       let (ys, made) = for_masks-level set_of Is (masks_of p) (λ m i s zs h. (zs, h)) no_sets level vs last (mask_of q) (inr (in_masks side q fits)) in
-      lost_or_empty ply reach reach1 rests (level (mask_of q)) ys AtPly AfterPly KeptAfter fits (sound q) (over (mask_of q)) (reaches q fits) reaches1 rested made
+      lost_or_empty ply reach (λ _. reach1) (λ _. rests) (level (mask_of q)) ys AtPly AfterPly KeptAfter fits (sound q) (over (mask_of q)) (reaches q fits)
+      (λ o r i here takes fits_r. reaches1 r fits_r) (λ o r i here takes fits_r. rested r fits_r) made
 
   -- what the union of images has, tuple by tuple
   record IsImageTuple (side : Side) (to : ℕ) (reach : Level) (tuple : List ℤ) : Type 0 where
@@ -339,7 +347,7 @@ module _ (p : Position) (mean : RulesMean p) where
         λ (c, none). more.1 ((is.same (tuple_of r)).1 (safe.1 (c, λ bears. none b (contains_head b bearings) bears)), λ k j bears. none k (contains_rest b bearings k j) bears),
       )
 
-  narrow-stands : {side : Side} (ply : ℕ) {r : Position} (s u : SetOf) → Fits p side r → (bearings : List Bearing)
+  pub narrow-stands : {side : Side} (ply : ℕ) {r : Position} (s u : SetOf) → Fits p side r → (bearings : List Bearing)
       → ((b : Bearing) → Contains bearings b → BearingsMean p (mask_of r) b) → (xs : Entries)
       → Takes (narrow rules ply (mask_of r) bearings s) xs (Some u)
       → Member u (tuple_of r) ↔ (Member s (tuple_of r) × ((b : Bearing) → Contains bearings b → BearsOnKing b r → ⊥))
@@ -360,7 +368,7 @@ module _ (p : Position) (mean : RulesMean p) where
       let later = each_within ply m last tuple bearings (λ c i. means c (contains_rest b bearings c i)) next vs rest h in
       (means b (contains_head b bearings)).safe_within 0 (λ _. made.0) tuple ((is.same tuple).0 later)
 
-  narrow_within : (ply m : ℕ) (s u : SetOf) (tuple : List ℤ) (bearings : List Bearing) → ((b : Bearing) → Contains bearings b → BearingsMean p m b)
+  pub narrow_within : (ply m : ℕ) (s u : SetOf) (tuple : List ℤ) (bearings : List Bearing) → ((b : Bearing) → Contains bearings b → BearingsMean p m b)
       → (xs : Entries) → Takes (narrow rules ply m bearings s) xs (Some u) → Member u tuple → Member s tuple
   narrow_within ply m s u tuple bearings means xs t h =
       let (us, vs, last, order, first, given) = Takes-split (each bearings (narrow_by rules ply m) (s, 1)) (λ made. Give made.0) xs u t in

@@ -1,6 +1,7 @@
 pub mod KeptParts
 pub mod KeptSets
 pub mod KeptWithin
+pub mod KeptBounds
 pub mod KeptPlan
 pub mod KeptNames
 pub mod KeptKeeps
