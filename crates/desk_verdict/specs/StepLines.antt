@@ -29,6 +29,8 @@ part_word part.First = codes "first"
 part_word part.Answer = codes "answer"
 part_word part.Left = codes "left"
 part_word part.Stale = codes "stale"
+part_word part.Place = codes "place"
+part_word part.Moved = codes "moved"
 
 -- the fault line of a step that exceeds the budget
 abbrev pub budget_line : StepName → List ℕ

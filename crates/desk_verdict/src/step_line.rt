@@ -69,5 +69,7 @@ fn part_word(part: Part) -> &'static [u8]
         Part::Answer => b"answer",
         Part::Left => b"left",
         Part::Stale => b"stale",
+        Part::Place => b"place",
+        Part::Moved => b"moved",
     }
 }

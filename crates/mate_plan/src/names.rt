@@ -37,6 +37,10 @@ pub enum Part {
     Left,
     /// The loser is stalemated.
     Stale,
+    /// All positions with the loser's king on 0 0, for a table.
+    Place,
+    /// A set of a table, moved with the loser's king.
+    Moved,
 }
 
 /// The name of a part of a plan: a part at a ply, for the positions whose live men are those of a mask.

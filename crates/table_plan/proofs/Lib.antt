@@ -1,0 +1,11 @@
+pub mod ShiftTracks
+pub mod Shifts
+pub mod MovedSets
+pub mod Places
+pub mod Universes
+pub mod KingSteps
+pub mod MovedBack
+pub mod MovedLevels
+pub mod Levels
+pub mod Rows
+pub mod NearForms
