@@ -5,7 +5,7 @@ use Rattle.std.proofs.lemmas.List.{append-nil}
 use Rattle.desk_base.specs.Faults.{HasRisen}
 use Rattle.desk_base.specs.Files.{Files}
 use Rattle.desk_base.specs.Lines.{Lines, ended, lines_of}
-use Rattle.game_rules.specs.Game.{Sound}
+use Rattle.game_rules.specs.Game.{SoundWithKings}
 use Rattle.chess_game.specs.Unsoundness.{IsFirstUnsoundness}
 use Rattle.chess_game.specs.declared.unsoundness.Unsound.{Unsound}
 use Rattle.chess_text.specs.PositionText.{text_of_lines}
@@ -105,7 +105,7 @@ module _ (r : Reading Problem) (says : Problem → Lines → Report → Type 0) 
           sym (append_assoc (text_of_lines t.takes.lines) pending t.rest) ∙ ap (λ b. b ++ t.rest) (sym t.takes.bytes) in
           subst P same (t.reads (pending ++ t.rest))
 
-      pub behind_text : (Holds : Problem → Type 0) → Sound problem.position → Holds problem → IsBehindTextOf r Holds t.bytes
+      pub behind_text : (Holds : Problem → Type 0) → SoundWithKings problem.position → Holds problem → IsBehindTextOf r Holds t.bytes
       behind_text Holds sound holds =
           let P : List ℕ → Type 0 = λ b. IsTextOf r (lines_of b) (whole problem ended) in
           record {
@@ -136,7 +136,7 @@ module _ (r : Reading Problem) (says : Problem → Lines → Report → Type 0) 
       }
 
       -- the command ends as what answers of the problem does, which has the sink alone
-      pub sound_ends : Sound problem.position → (status : Status) (lack : Type 0) → (lack → may_lack t.bytes)
+      pub sound_ends : SoundWithKings problem.position → (status : Status) (lack : Type 0) → (lack → may_lack t.bytes)
           → RunEndsAs status (says problem (lines_of (pending ++ t.rest))) lack NeverMisses (of_sink files written writes) (of_sink files later writes_later) → Ends status
       sound_ends sound status lack lacks ends =
           let reports : Report → Type 0 = says problem (lines_of (pending ++ t.rest)) in

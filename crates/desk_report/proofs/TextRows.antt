@@ -2,7 +2,7 @@
 use Rattle.std.proofs.Common.{false, ap}
 use Rattle.desk_base.specs.Files.{Files}
 use Rattle.desk_base.specs.Lines.{Lines}
-use Rattle.game_rules.specs.Game.{Position, Sound}
+use Rattle.game_rules.specs.Game.{Position, SoundWithKings}
 use Rattle.chess_game.specs.Unsoundness.{IsFirstUnsoundness}
 use Rattle.chess_game.proofs.UnsoundnessLemmas.{unsound_refuted}
 use Rattle.chess_text.specs.declared.reader.ReaderState.TheVariants.{Header}
@@ -21,7 +21,7 @@ sound_row says files p one =
     either_row
     (due_of_row (IsFirstUnsoundness p) (λ why. refusal_as files is.Unsound (unsound_line why) false) (λ why e. absurd (cc))
     (λ e f a b. ap (λ why. refusal_as files is.Unsound (unsound_line why) false) (once_fault a b)))
-    (and_row (Sound p) one)
+    (and_row (SoundWithKings p) one)
     (λ r s fault sound. unsound_refuted fault.0 p fault.1 sound.0)
 
 read_row : (says : Problem → Lines → Report → Type 0) (files : Files) → ((problem : Problem) (rest : Lines) → IsOne (says problem rest))

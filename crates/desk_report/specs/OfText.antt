@@ -2,7 +2,7 @@
 use Rattle.std.specs.Prelude.{◌≡◌, ◌⊎◌, ℕ, ◌≤◌, List, ◌++◌, length, false}
 use Rattle.desk_base.specs.Files.{Files}
 use Rattle.desk_base.specs.Lines.{Lines, ended, lines_of}
-use Rattle.game_rules.specs.Game.{Position, Sound}
+use Rattle.game_rules.specs.Game.{Position, SoundWithKings}
 use Rattle.chess_game.specs.Unsoundness.{IsFirstUnsoundness}
 use Rattle.chess_game.specs.declared.unsoundness.Unsound.{Unsound}
 use Rattle.desk_report.specs.FaultLines.{unsound_line}
@@ -15,7 +15,7 @@ use Rattle.desk_text.specs.declared.problem.Problem.{Problem}
 abbrev pub OfSound : (Report → Type 0) → Files → Position → Report → Type 0
 OfSound reports files p report =
     ((why : Unsound) × IsFirstUnsoundness p why × (report ≡ refusal_as files is.Unsound (unsound_line why) false))
-    ⊎ (Sound p × reports report)
+    ⊎ (SoundWithKings p × reports report)
 
 -- the report of a text is that it is refused, or it is as `reports` says of its problem, if that is sound, and of the
 -- lines after it
@@ -32,7 +32,7 @@ OfLines r reports files lines report = (text : Text Problem) × IsTextOf r lines
 -- it.
 pub record IsBehindTextOf (r : Reading Problem) (Holds : Problem → Type 0) (taken : List ℕ) : Type 0 where
   pub problem : Problem
-  pub sound : Sound problem.position
+  pub sound : SoundWithKings problem.position
   pub holds : Holds problem
   pub front : List ℕ
   pub pending : List ℕ
