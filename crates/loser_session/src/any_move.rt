@@ -48,8 +48,8 @@ fn leads_for(search: &mut Search, aim: &Aim, man: u8) -> bool
     false
 }
 
-/// Returns whether some legal move leads into the sets, to any square of the board. Allocates nothing: the search has
-/// room for each of the sets.
+/// Returns whether some legal move leads into the sets, to any square of the board. A failed allocation only
+/// makes it slower.
 pub(crate) fn has_move_into(search: &mut Search, sets: &MaskSets, p: &Position) -> bool
     requires sound { Sound p.now }
     requires next { AreNext p.now sets.now }

@@ -147,7 +147,7 @@ impl Defence {
     }
 
     /// Returns the state of the game. If the loser is to answer, some legal move of his, to any square of the board,
-    /// leads to a position from which the winner does not mate within the moves left. Allocates nothing.
+    /// leads to a position from which the winner does not mate within the moves left. A failed allocation only makes it slower.
     pub fn stand(&mut self) -> Stand
         ensures stands { StandsAs (seen self.old) result }
         ensures defends { result ≡ Stand.Answer → CanDefend (seen self.old) }
@@ -216,7 +216,7 @@ impl Defence {
 
     /// Makes the loser's first move, by man, ray and distance, that goes to a square of the frame and leads to a
     /// position from which the winner does not mate within the moves left; captures are included. The error is that
-    /// there is no such move in the frame. Allocates nothing.
+    /// there is no such move in the frame. A failed allocation only makes it slower.
     pub fn answer(&mut self) -> Result<Move, TooWide>
         requires left { HasMovesLeft (seen self.old) }
         requires turn { IsLosersTurn (seen self.old) }

@@ -53,7 +53,7 @@ fn of_any(search: &mut Search, aim: &Aim, man: u8) -> Option<Choice>
 }
 
 /// Returns the first legal move, by man, ray and distance, that goes to a square of the frame and leads into the sets;
-/// captures are included. Allocates nothing: the search has room for each of the sets.
+/// captures are included. A failed allocation only makes it slower.
 pub fn first_move(search: &mut Search, aim: &Aim) -> Option<Choice>
     requires few { HaveAtMost search.old aim.now.sets.now }
     ensures pick { Pick (IsIn aim.now.sets.now) aim.now.frame aim.now.position.now result }

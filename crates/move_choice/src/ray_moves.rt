@@ -157,7 +157,7 @@ fn count_captures(along: &AimedRay, hits: Option<u8>) -> Few
 }
 
 /// Returns the number of the man's moves along the ray that lead into the sets; captures are included. It does not look
-/// for the nearest of them. Allocates nothing: the search has room for each of the sets.
+/// for the nearest of them. A failed allocation only makes it slower.
 pub fn count_along(search: &mut Search, along: &AimedRay) -> Few
     requires few { HaveAtMost search.old along.now.aim.now.sets.now }
     ensures few { HasFew result (MoveInto along.now) }
@@ -190,7 +190,7 @@ fn least_along(search: &mut Search, along: &AimedRay) -> Option<u128>
 }
 
 /// Returns the number of the man's moves along the ray that lead into the sets, captures included, and the least
-/// distance of those to a square of the frame. Allocates nothing: the search has room for each of the sets.
+/// distance of those to a square of the frame. A failed allocation only makes it slower.
 pub fn moves_along(search: &mut Search, along: &AimedRay) -> RayMoves
     requires few { HaveAtMost search.old along.now.aim.now.sets.now }
     ensures few { HasFew result.few (MoveInto along.now) }

@@ -23,7 +23,7 @@ pub struct FirstLine {
 }
 
 /// Returns the winner's first moves along a ray after which he still mates in time; captures are included. Returns
-/// `None` if there is none. Allocates nothing: the search has room for each of the kept sets.
+/// `None` if there is none. A failed allocation only makes it slower.
 pub fn first_moves(
     solved: &Solved,
     search: &mut Search,

@@ -137,7 +137,7 @@ impl Session {
 
     /// Makes the winner's first move, by man, ray and distance, that goes to a square of the frame and leads into the
     /// sets of the next ply; captures are included. The winner then still mates within the moves left. The error is
-    /// that there is no such move in the frame. Allocates nothing.
+    /// that there is no such move in the frame. A failed allocation only makes it slower.
     pub fn win_move(&mut self) -> Result<Played, TooWide>
         requires turn { self.old.position.turn ≡ self.old.solution.winner }
         ensures picked { IfOk result (λ played. IsPicked self.old (choice_of played) self.new) }
