@@ -1,5 +1,5 @@
 -- The reduced sets of a claim that has a file.
-use Rattle.std.proofs.Common.{◌≡◌, ℕ, ◌≤◌, List, [], ◌∷◌, map, refl, sym, ap, ◌∙◌, subst}
+use Rattle.std.proofs.Common.{◌≡◌, ℕ, ◌≤◌, List, [], ◌∷◌, map, refl, sym, ap, ◌∙◌, subst, arith}
 use Rattle.rule_formula.specs.Fits.{masks_of}
 use Rattle.mate_plan.specs.Claim.{Claim, every_second, losers_plies}
 use Rattle.claim_plan.specs.SameClaims.{IsSameClaim}
@@ -35,7 +35,7 @@ module _ (c : Claim) (s : ClaimedSets) (file : HasFileOf c) (position : s.positi
         moves = subst few (sym moves) file.moves;
         claim = (same_claims_are_checked_alike c (claim_in s) same_claim).claims.0 (files_are_claims Shared c file);
         reduced = reduced_are c.sets (sets_from 0 (masks_of s.position) s.plies.items) are;
-        few = reduced_few c.sets (sets_from 0 (masks_of s.position) s.plies.items) are (IsFormed c.position) (λ d formed. formed.few) file.sets;
+        few = reduced_few c.sets (sets_from 0 (masks_of s.position) s.plies.items) are (IsFormed c.position) (λ d formed. let few = formed.few in omega (arith, few)) file.sets;
       }
 
 -- its sets stand at every second ply

@@ -2,6 +2,7 @@
 use Rattle.std.proofs.Common.{◌≡◌, ◌↔◌, ℕ, ◌≤◌, ◌&&◌, ◌==◌, if◌then◌else◌, Bool, true, false, List, [], ◌∷◌, ◌++◌, length, Option, Some, None, refl, sym, ap, ◌∙◌, subst, arith}
 use Rattle.std.specs.List.{All}
 use Rattle.std.proofs.lemmas.List.Elements.{All-head, All-tail}
+use Rattle.limits.specs.declared.numbers.TheConstants.{MOST_STATES}
 use Rattle.auto_core.specs.Automaton.{Accepts, Automaton}
 use Rattle.auto_core.specs.Reduced.{IsReduced}
 use Rattle.track_word.specs.Word.{IsWord}
@@ -106,14 +107,14 @@ module _ (cs ds : List ClaimedSet) (are : AreReduced cs ds) where
   pub reduced_are : (ply mask : ℕ) (b : Automaton) → claimed_in ds ply mask ≡ Some b → IsReduced b
   reduced_are ply mask b e = (from_some (claimed_in cs ply mask) (claimed_in ds ply mask) b (looked_up cs ds ply mask are) e).2.reduced
 
-  pub reduced_few : (P : ClaimedSet → Type 0) → ((s : ClaimedSet) → P s → length s.set.accept ≤ 200000) → All P cs → (ply mask : ℕ) (b : Automaton)
-      → claimed_in ds ply mask ≡ Some b → length b.accept ≤ 200000
+  pub reduced_few : (P : ClaimedSet → Type 0) → ((s : ClaimedSet) → P s → length s.set.accept ≤ MOST_STATES) → All P cs → (ply mask : ℕ) (b : Automaton)
+      → claimed_in ds ply mask ≡ Some b → length b.accept ≤ MOST_STATES
   reduced_few P few all ply mask b e =
       let (a, there, is) = from_some (claimed_in cs ply mask) (claimed_in ds ply mask) b (looked_up cs ds ply mask are) e in
       let (s, known, same) = one_of P cs ply mask a all there in
-      let most : length s.set.accept ≤ 200000 = few s known in
-      let At : Automaton → Type 0 = λ x. length x.accept ≤ 200000 in
-      let here : length a.accept ≤ 200000 = subst At same most in
+      let most : length s.set.accept ≤ MOST_STATES = few s known in
+      let At : Automaton → Type 0 = λ x. length x.accept ≤ MOST_STATES in
+      let here : length a.accept ≤ MOST_STATES = subst At same most in
       let fewer = is.fewer in
       omega (arith, here, fewer)
 

@@ -1,6 +1,7 @@
 //! The rows, each a call of `strategy_file` or `strategy_writer`.
 
 ghost use Rattle.std.specs.Prelude.{◌≡◌, IfOk};
+ghost use Rattle.game_rules.specs.Game.{HasBothKings};
 ghost use Rattle.winning_sets.specs.declared.origin.Origin.TheVariants.{Plan};
 ghost use Rattle.strategy_file.specs.Claims.{claim_of};
 ghost use Rattle.strategy_file.specs.Fitting.{HasFileOf};
@@ -142,7 +143,8 @@ fn accepts_row(bytes: &[u8], row: &mut Row) -> Result<(), RowError> {
 /// What is solved for the position, the winner and the number of moves of a claim.
 fn solved_of(alloc: Global, claim: &Claim) -> Result<Solved, RowError>
     requires { HasFileOf (claim_of claim.now) }
-    ensures { IfOk result (λ solved. solved.origin ≡ Plan) }
+    ensures plan { IfOk result (λ solved. solved.origin ≡ Plan) }
+    ensures kings { IfOk result (λ solved. HasBothKings solved.position) }
 {
     match solve(
         alloc,
@@ -159,7 +161,8 @@ fn solved_of(alloc: Global, claim: &Claim) -> Result<Solved, RowError>
 
 /// The same for the claim of a file that is one.
 fn solved_in(alloc: Global, bytes: &[u8]) -> Result<Solved, RowError>
-    ensures { IfOk result (λ solved. solved.origin ≡ Plan) }
+    ensures plan { IfOk result (λ solved. solved.origin ≡ Plan) }
+    ensures kings { IfOk result (λ solved. HasBothKings solved.position) }
 {
     let claim = claim_in(alloc, bytes)?;
     solved_of(alloc, &claim)
@@ -180,6 +183,9 @@ fn write_result(
     match file {
         Ok(bytes) => write_sameness(row, bytes.as_slice(), other),
         Err(WriteFileError::TooLarge { length }) => row.write_labelled("too large ", length),
+        Err(WriteFileError::SetTooLarge { states }) => {
+            row.write_labelled("set too large ", states);
+        }
         Err(WriteFileError::Memory) => return Err(RowError::Memory),
     }
     Ok(())

@@ -27,6 +27,7 @@ use Rattle.strategy_writer.specs.Laws.{FileIsKept, KeptFileIsClaim, OneKeptFile}
 use Rattle.strategy_writer.specs.SolvedFile.{IsClaimOf, IsOfKeptSet}
 use Rattle.strategy_file.specs.StrategyFile.{charts_of}
 use Rattle.strategy_writer.proofs.AlikeFiles.{AreAlike, AreAlikeClaims, alike_by_words, bytes_alike, length_alike, lengths_alike, sets_alike}
+use Rattle.strategy_writer.proofs.LargestSets.{few_alike, formed_few, most_alike, too_many}
 use Rattle.strategy_file.proofs.FileClaims.{IsFound, file_is_claim, found_in, place_of}
 use Rattle.strategy_file.proofs.SameReads.{read_is_same}
 use Rattle.strategy_writer.proofs.WrittenLemmas.{written_is_read}
@@ -75,6 +76,11 @@ one_kept_file = λ version winner p moves. record {
   one_file = λ a b ha hb. bytes_alike version (same_claim winner p moves ha.kept hb.kept) ha.bytes_are hb.bytes_are;
   one_size = λ a b ha hb. lengths_alike version (same_claim winner p moves ha.kept hb.kept) ha.size_is hb.size_is;
   same_size = λ bytes size h large. length_alike version bytes (same_claim winner p moves h.kept large.kept) h.bytes_are large.size_is;
+  one_set = λ a b ha hb. most_alike (same_claim winner p moves ha.kept hb.kept) (same_claim winner p moves hb.kept ha.kept) ha.most hb.most;
+  no_file = λ bytes states h large.
+      let few = few_alike (same_claim winner p moves large.kept h.kept) (formed_few h.claim h.has_file) in
+      too_many few large.most large.large;
+  no_size = λ size states h large. too_many (few_alike (same_claim winner p moves large.kept h.kept) h.few) large.most large.large;
 }
 
 -- ---- it is that of a solved position
@@ -111,7 +117,8 @@ module _ (s : Solution) (valid : IsSolution s) where
 pub file_is_kept : FileIsKept
 file_is_kept = λ version s valid. record {
   file = λ bytes h. record { claim = h.claim; kept = kept_claim_of s valid h.of; has_file = h.has_file; bytes_are = h.bytes_are };
-  size = λ size h. record { claim = h.claim; kept = kept_claim_of s valid h.of; size_is = h.size_is; large = h.large };
+  size = λ size h. record { claim = h.claim; kept = kept_claim_of s valid h.of; few = h.few; size_is = h.size_is; large = h.large };
+  set = λ states h. record { claim = h.claim; kept = kept_claim_of s valid h.of; most = h.most; large = h.large };
 }
 
 -- ---- it is read as a claim that is won

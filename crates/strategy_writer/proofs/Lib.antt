@@ -9,6 +9,7 @@ pub mod AlikeFiles
 pub mod SetCounts
 pub mod KeptClaims
 pub mod SharedWriting
+pub mod LargestSets
 pub mod SolvedFiles
 pub mod Narrows
 pub mod WrittenClaims

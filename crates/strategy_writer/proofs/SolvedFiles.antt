@@ -1,7 +1,6 @@
 -- The claim of a solved position has a file, and the position has one file.
-use Rattle.std.proofs.Common.{◌≡◌, ◌↔◌, ℕ, zero, suc, ◌≤◌, List, length, Option, Some, None, All, refl, sym, ap, ◌∙◌, subst, arith}
+use Rattle.std.proofs.Common.{◌≡◌, ◌↔◌, ℕ, zero, suc, ◌≤◌, List, length, get_or, Option, Some, None, All, refl, sym, ap, ◌∙◌, subst, arith}
 use Rattle.std.specs.Prelude.{Contains, IsSome, IsSomeAnd}
-use Rattle.std.proofs.lemmas.List.Elements.{All-weaker}
 use Rattle.std.proofs.lemmas.Option.{slice_get_within}
 use Rattle.track_word.specs.declared.tracks.Var.{Var}
 use Rattle.track_word.specs.Word.{IsWord}
@@ -15,12 +14,14 @@ use Rattle.chess_game.specs.Near.{IsNarrowPosition}
 use Rattle.mate_plan.specs.Claim.{Claim, ClaimedSet}
 use Rattle.winning_sets.specs.Solve.{IsSolution, Solution, kept_at}
 use Rattle.strategy_file.specs.Fitting.{FitsVersion, HasFile, IsFormed}
+use Rattle.strategy_file.specs.declared.most.TheConstants.{MOST_FILED_STATES}
+use Rattle.strategy_writer.specs.Files.{HasFiledSets}
 use Rattle.strategy_writer.specs.Laws.{OneFile}
 use Rattle.strategy_writer.specs.SolvedFile.{IsClaimOf, IsFileRefusal, IsOfKeptSet}
 use Rattle.strategy_file.specs.StrategyFile.{places_of}
 use Rattle.strategy_writer.specs.WriteRefusal.{IsWriteRefusal}
 use Rattle.strategy_writer.specs.declared.writing.WriteFileError.{WriteFileError}
-use Rattle.strategy_writer.specs.declared.writing.WriteFileError.TheVariants.{TooLarge, Memory}
+use Rattle.strategy_writer.specs.declared.writing.WriteFileError.TheVariants.{TooLarge, SetTooLarge, Memory}
 use Rattle.strategy_file.specs.declared.version.Version.{Version}
 use Rattle.strategy_writer.proofs.AlikeFiles.{AreAlike, AreAlikeClaims, alike_by_words, bytes_alike, sets_alike}
 use Rattle.strategy_file.proofs.FileClaims.{place_of}
@@ -84,15 +85,17 @@ two_men p kings =
     two_kings p w.number b.number w.king b.king w.is_man b.is_man w.is_king.0 b.is_king.0
 
 module _ (s : Solution) (valid : IsSolution s) where
-  formed_of : (c : ClaimedSet) → IsOfKeptSet s c → IsFormed s.position c
-  formed_of c h =
+  formed_of : (c : ClaimedSet) → length c.set.accept ≤ MOST_FILED_STATES → IsOfKeptSet s c → IsFormed s.position c
+  formed_of c few h =
       let kept = valid.kept.formed c.ply c.mask h.kept h.is_there in
-      let few = kept.few in
-      let fewer = h.fewer in
-      record { tracks = h.tracks ∙ kept.tracks; valid = h.in_order.valid; few = omega (arith, few, fewer) }
+      record { tracks = h.tracks ∙ kept.tracks; valid = h.in_order.valid; few = few }
 
-  pub claim_has_file : (version : Version) → HasBothKings s.position → FitsVersion version s.winner s.position → IsNarrowPosition s.position → (c : Claim) → IsClaimOf s c → HasFile version c
-  claim_has_file version kings fits narrow c h =
+  all_formed : (cs : List ClaimedSet) → All (λ d. length d.set.accept ≤ MOST_FILED_STATES) cs → All (IsOfKeptSet s) cs → All (IsFormed s.position) cs
+  all_formed cs few of k d inside = formed_of (get_or cs k d) (few k d inside) (of k d inside)
+
+  pub claim_has_file : (version : Version) → HasBothKings s.position → FitsVersion version s.winner s.position → IsNarrowPosition s.position → (c : Claim) → IsClaimOf s c → HasFiledSets c
+      → HasFile version c
+  claim_has_file version kings fits narrow c h few =
       let same = sym h.position in
       record {
         fits = rw (h.winner, h.position) fits;
@@ -101,7 +104,7 @@ module _ (s : Solution) (valid : IsSolution s) where
         least = rw h.position (two_men s.position kings);
         narrow = rw h.position narrow;
         places = h.places ∙ rw (h.winner, h.position, h.moves) refl;
-        sets = subst (λ (p : Position). All (IsFormed p) c.sets) same (All-weaker (IsOfKeptSet s) (IsFormed s.position) formed_of c.sets h.sets);
+        sets = subst (λ (p : Position). All (IsFormed p) c.sets) same (all_formed c.sets few h.sets);
       }
 
   -- at each of the places there is a kept set
@@ -116,6 +119,8 @@ module _ (s : Solution) (valid : IsSolution s) where
       some_of (Some x) P h = refl
 
 -- why a claim is not written is why its solved position is not
-pub file_refusal : (version : Version) (s : Solution) (c : Claim) → IsClaimOf s c → (e : WriteFileError) → IsWriteRefusal version c e → IsFileRefusal version s e
-file_refusal version s c of (TooLarge n) h = record { claim = c; of = of; size_is = h.0; large = h.1 }
-file_refusal version s c of Memory h = tt
+pub file_refusal : (version : Version) (s : Solution) (c : Claim) → IsClaimOf s c → HasFiledSets c → (e : WriteFileError) → IsWriteRefusal version c e
+    → IsFileRefusal version s e
+file_refusal version s c of few (TooLarge n) h = record { claim = c; of = of; few = few; size_is = h.0; large = h.1 }
+file_refusal version s c of few (SetTooLarge n) h = absurd h
+file_refusal version s c of few Memory h = tt

@@ -14,7 +14,8 @@ use Rattle.strategy_file.specs.Claims.{claim_with}
 use Rattle.strategy_file.specs.Fitting.{HasFile}
 use Rattle.strategy_file.specs.StrategyFile.{Charts, File, places_of}
 use Rattle.strategy_writer.specs.Written.{most_bytes}
-use Rattle.strategy_writer.specs.Files.{IsBytesOf, IsLengthOf}
+use Rattle.strategy_writer.specs.Files.{HasFiledSets, IsBytesOf, IsLengthOf, IsMostStatesOf}
+use Rattle.strategy_file.specs.declared.most.TheConstants.{MOST_FILED_STATES}
 use Rattle.strategy_file.specs.declared.version.Version.{Version}
 
 -- The set decides a set of integers and contains the coordinates of the positions kept at its ply with the live men of
@@ -41,12 +42,20 @@ pub record IsKeptFile (version : Version) (winner : Side) (p : Position) (moves 
   pub has_file : HasFile version claim
   pub bytes_are : IsBytesOf version claim bytes
 
--- that file would have this number of bytes, which is too many
+-- that file would have this number of bytes, which is too many; each of its sets has few enough states
 pub record IsKeptTooLarge (version : Version) (winner : Side) (p : Position) (moves : ℕ) (size : ℕ) : Type 0 where
   pub claim : Claim
   pub kept : IsKeptClaim winner p moves claim
+  pub few : HasFiledSets claim
   pub size_is : IsLengthOf version claim size
   pub large : most_bytes < size
+
+-- the largest set of that claim has this number of states, which is too many for a file
+pub record HasLargeKeptSet (winner : Side) (p : Position) (moves : ℕ) (states : ℕ) : Type 0 where
+  pub claim : Claim
+  pub kept : IsKeptClaim winner p moves claim
+  pub most : IsMostStatesOf claim states
+  pub large : MOST_FILED_STATES < states
 
 -- the bytes are read as tables whose claim, of this position, winner and number of moves, is won
 pub record IsReadAsWon (winner : Side) (p : Position) (moves : ℕ) (bytes : List ℕ) : Type 0 where

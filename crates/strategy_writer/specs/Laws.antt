@@ -8,8 +8,8 @@ use Rattle.winning_sets.specs.Solve.{IsSolution, Solution}
 use Rattle.claim_plan.specs.SameClaims.{IsSameClaim}
 use Rattle.strategy_file.specs.Claims.{claim_with}
 use Rattle.strategy_file.specs.Fitting.{HasFile, HasFileOf}
-use Rattle.strategy_writer.specs.KeptFile.{IsKeptFile, IsKeptTooLarge, IsReadAsWon}
-use Rattle.strategy_writer.specs.SolvedFile.{IsFileOf, IsTooLarge}
+use Rattle.strategy_writer.specs.KeptFile.{HasLargeKeptSet, IsKeptFile, IsKeptTooLarge, IsReadAsWon}
+use Rattle.strategy_writer.specs.SolvedFile.{HasLargeSet, IsFileOf, IsTooLarge}
 use Rattle.strategy_writer.specs.Written.{most_bytes}
 use Rattle.strategy_writer.specs.Files.{IsBytesOf}
 use Rattle.strategy_writer.specs.ReducedClaims.{IsWrittenOf, IsWrittenTooLarge}
@@ -45,20 +45,24 @@ WrittenIsSame =
 abbrev pub OneFile : Type 0
 OneFile = (version : Version) (s : Solution) (a b : List ℕ) → IsFileOf version s a → IsFileOf version s b → a ≡ b
 
--- the kept sets have one file, or one size if that is too large
+-- the kept sets have one file, or one size if that is too large, or one largest set if that is too large
 pub record HasOneKeptFile (version : Version) (winner : Side) (p : Position) (moves : ℕ) : Type 0 where
   pub one_file : (a b : List ℕ) → IsKeptFile version winner p moves a → IsKeptFile version winner p moves b → a ≡ b
   pub one_size : (a b : ℕ) → IsKeptTooLarge version winner p moves a → IsKeptTooLarge version winner p moves b → a ≡ b
   pub same_size : (bytes : List ℕ) (size : ℕ) → IsKeptFile version winner p moves bytes → IsKeptTooLarge version winner p moves size
       → size ≡ length bytes
+  pub one_set : (a b : ℕ) → HasLargeKeptSet winner p moves a → HasLargeKeptSet winner p moves b → a ≡ b
+  pub no_file : (bytes : List ℕ) (states : ℕ) → IsKeptFile version winner p moves bytes → HasLargeKeptSet winner p moves states → ⊥
+  pub no_size : (size states : ℕ) → IsKeptTooLarge version winner p moves size → HasLargeKeptSet winner p moves states → ⊥
 
 abbrev pub OneKeptFile : Type 0
 OneKeptFile = (version : Version) (winner : Side) (p : Position) (moves : ℕ) → HasOneKeptFile version winner p moves
 
--- the file of a solved position is that of its kept sets, and so is its size
+-- the file of a solved position is that of its kept sets, and so are its size and its largest set
 pub record HasKeptFile (version : Version) (s : Solution) : Type 0 where
   pub file : (bytes : List ℕ) → IsFileOf version s bytes → IsKeptFile version s.winner s.position s.moves bytes
   pub size : (size : ℕ) → IsTooLarge version s size → IsKeptTooLarge version s.winner s.position s.moves size
+  pub set : (states : ℕ) → HasLargeSet s states → HasLargeKeptSet s.winner s.position s.moves states
 
 abbrev pub FileIsKept : Type 0
 FileIsKept = (version : Version) (s : Solution) → IsSolution s → HasKeptFile version s

@@ -5,7 +5,7 @@ use Rattle.auto_reduce.specs.Tables.{AcceptSameWords, IsInOrder}
 use Rattle.mate_plan.specs.Claim.{Claim, ClaimedSet}
 use Rattle.strategy_file.specs.declared.version.Version.TheVariants as versions
 use Rattle.strategy_writer.specs.declared.writing.WriteFileError.{WriteFileError}
-use Rattle.strategy_writer.specs.declared.writing.WriteFileError.TheVariants.{TooLarge, Memory}
+use Rattle.strategy_writer.specs.declared.writing.WriteFileError.TheVariants.{TooLarge, SetTooLarge, Memory}
 use Rattle.strategy_writer.specs.Files.{IsBytesOf, IsLengthOf}
 use Rattle.strategy_writer.specs.Written.{most_bytes}
 
@@ -41,4 +41,5 @@ pub record IsWrittenTooLarge (c : Claim) (size : ℕ) : Type 0 where
 
 abbrev pub IsWriteClaimRefusal : Claim → WriteFileError → Type 0
 IsWriteClaimRefusal c (TooLarge size) = IsWrittenTooLarge c size
+IsWriteClaimRefusal c (SetTooLarge states) = ⊥
 IsWriteClaimRefusal c Memory = Unit {0}

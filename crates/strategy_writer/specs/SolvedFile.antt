@@ -8,10 +8,11 @@ use Rattle.winning_sets.specs.Solve.{Solution, kept_at}
 use Rattle.strategy_file.specs.StrategyFile.{places_of}
 use Rattle.strategy_file.specs.Fitting.{HasFile}
 use Rattle.strategy_writer.specs.Written.{most_bytes}
-use Rattle.strategy_writer.specs.Files.{IsBytesOf, IsLengthOf}
+use Rattle.strategy_writer.specs.Files.{HasFiledSets, IsBytesOf, IsLengthOf, IsMostStatesOf}
+use Rattle.strategy_file.specs.declared.most.TheConstants.{MOST_FILED_STATES}
 use Rattle.strategy_file.specs.declared.version.Version.{Version}
 use Rattle.strategy_writer.specs.declared.writing.WriteFileError.{WriteFileError}
-use Rattle.strategy_writer.specs.declared.writing.WriteFileError.TheVariants.{TooLarge, Memory}
+use Rattle.strategy_writer.specs.declared.writing.WriteFileError.TheVariants.{TooLarge, SetTooLarge, Memory}
 
 -- The set accepts the words that the kept set of its ply and mask accepts. It is minimal, and its states are numbered
 -- in the order of a breadth-first traversal in ascending letters.
@@ -38,14 +39,23 @@ pub record IsFileOf (version : Version) (s : Solution) (bytes : List ℕ) : Type
   pub has_file : HasFile version claim
   pub bytes_are : IsBytesOf version claim bytes
 
--- that file would have this number of bytes, which is too many
+-- that file would have this number of bytes, which is too many; each of its sets has few enough states
 pub record IsTooLarge (version : Version) (s : Solution) (size : ℕ) : Type 0 where
   pub claim : Claim
   pub of : IsClaimOf s claim
+  pub few : HasFiledSets claim
   pub size_is : IsLengthOf version claim size
   pub large : most_bytes < size
+
+-- the largest set of the solved position's claim has this number of states, which is too many for a file
+pub record HasLargeSet (s : Solution) (states : ℕ) : Type 0 where
+  pub claim : Claim
+  pub of : IsClaimOf s claim
+  pub most : IsMostStatesOf claim states
+  pub large : MOST_FILED_STATES < states
 
 -- why the file of a solved position is not written
 abbrev pub IsFileRefusal : Version → Solution → WriteFileError → Type 0
 IsFileRefusal version s (TooLarge size) = IsTooLarge version s size
+IsFileRefusal version s (SetTooLarge states) = HasLargeSet s states
 IsFileRefusal version s Memory = Unit {0}

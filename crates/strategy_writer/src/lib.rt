@@ -6,6 +6,7 @@
 
 mod kept;
 mod kept_claim;
+mod largest;
 pub mod laws;
 mod writing;
 mod writing_shared;

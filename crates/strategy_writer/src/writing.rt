@@ -10,18 +10,22 @@ ghost use Rattle.game_rules.specs.Game.{HasBothKings};
 ghost use Rattle.strategy_file.specs.Fitting.{FitsVersion, HasFileOf};
 ghost use Rattle.strategy_writer.specs.ReducedClaims.{IsWriteClaimRefusal, IsWrittenOf};
 ghost use Rattle.strategy_file.specs.Claims.{claim_of};
-ghost use Rattle.strategy_writer.specs.SolvedFile.{IsFileOf, IsFileRefusal};
+ghost use Rattle.strategy_file.specs.declared.version.Version.{Version as AnyVersion};
+ghost use Rattle.strategy_writer.specs.Files.{HasFiledSets};
+ghost use Rattle.strategy_writer.specs.SolvedFile.{IsClaimOf, IsFileOf, IsFileRefusal};
+ghost use Rattle.winning_sets.specs.Solve.{IsSolution};
 ghost use Rattle.strategy_writer.specs.WriteRefusal.{IsWriteRefusal};
 ghost use Rattle.strategy_writer.specs.Written.{most_bytes, written_dense};
 
 use crate::kept::{kept_claim, reduced_claim};
 use crate::kept_claim::{KeptClaim, KeptSet};
+use crate::largest::largest_set;
 use crate::writing_shared::write_shared;
 use auto_core::Auto;
 use chess_game::{Man, Place, Position};
 use limits::MOST_FILE_BYTES;
 use std::alloc::{AllocError, Global};
-use strategy_file::{Claim, Version, kind_number, side_number, turn_number};
+use strategy_file::{Claim, MOST_FILED_STATES, Version, kind_number, side_number, turn_number};
 use winning_sets::{Origin, Solved};
 
 /// Why a file is not written.
@@ -29,6 +33,8 @@ use winning_sets::{Origin, Solved};
 pub enum WriteFileError {
     /// It would have this many bytes, which is more than a file may have.
     TooLarge { length: u128 },
+    /// A set would have this many states, which is more than a set in a file may have.
+    SetTooLarge { states: u32 },
     Memory,
 }
 
@@ -254,10 +260,27 @@ fn write_dense(alloc: Global, claim: &KeptClaim) -> Result<Vec<u8>, WriteFileErr
     Ok(out)
 }
 
+/// Returns the claim of a solved position, if a file has room for each of its sets. The error is that a set is too
+/// large, or that an allocation failed.
+fn filed_claim(alloc: Global, solved: &Solved) -> Result<KeptClaim, WriteFileError>
+    requires plan { solved.now.origin ≡ Origin.Plan }
+    ensures claim { IfOk result (λ c. IsClaimOf solved.now (as_claim c)) }
+    ensures valid { OnOk result (IsSolution solved.now) }
+    ensures few { IfOk result (λ c. HasFiledSets (as_claim c)) }
+    ensures refused { (version : AnyVersion) → IfErr result (IsFileRefusal version solved.now) }
+{
+    let claim = kept_claim(alloc, solved)?;
+    let states = largest_set(&claim);
+    if states > MOST_FILED_STATES {
+        return Err(WriteFileError::SetTooLarge { states });
+    }
+    Ok(claim)
+}
+
 /// Returns the file, of version 2, of a position solved by the plan. If the winner does not mate in time, it is the
 /// file of a claim that is not won.
 ///
-/// Errors: the file would have too many bytes, or an allocation failed.
+/// Errors: a set would have too many states, the file would have too many bytes, or an allocation failed.
 pub fn write_file(alloc: Global, solved: &Solved) -> Result<Vec<u8>, WriteFileError>
     requires plan { solved.now.origin ≡ Origin.Plan }
     requires kings { HasBothKings solved.now.position }
@@ -265,7 +288,7 @@ pub fn write_file(alloc: Global, solved: &Solved) -> Result<Vec<u8>, WriteFileEr
     ensures small { IfOk result (λ bytes. length bytes.items ≤ most_bytes) }
     ensures refused { IfErr result (IsFileRefusal Version.Shared solved.now) }
 {
-    let claim = kept_claim(alloc, solved)?;
+    let claim = filed_claim(alloc, solved)?;
     let bytes = write_shared(alloc, &claim)?;
     Ok(bytes)
 }
@@ -280,13 +303,14 @@ pub fn write_file_1(alloc: Global, solved: &Solved) -> Result<Vec<u8>, WriteFile
     ensures small { IfOk result (λ bytes. length bytes.items ≤ most_bytes) }
     ensures refused { IfErr result (IsFileRefusal Version.Dense solved.now) }
 {
-    let claim = kept_claim(alloc, solved)?;
+    let claim = filed_claim(alloc, solved)?;
     let bytes = write_dense(alloc, &claim)?;
     Ok(bytes)
 }
 
-/// Returns the file, of version 2, of a claim that was read from a file of either version. Its sets are reduced. Errors
-/// as in `write_file`.
+/// Returns the file, of version 2, of a claim that was read from a file of either version. Its sets are reduced.
+///
+/// Errors: the file would have too many bytes, or an allocation failed. A set is never too large, since it was read.
 pub fn write_claim(alloc: Global, claim: &Claim) -> Result<Vec<u8>, WriteFileError>
     requires { HasFileOf (claim_of claim.now) }
     ensures file { IfOk result (λ bytes. IsWrittenOf (claim_of claim.now) bytes.items) }

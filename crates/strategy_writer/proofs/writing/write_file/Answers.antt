@@ -15,6 +15,6 @@ returns-clause-file c =
     record {
       claim = as_claim c.in_ok-claim.claim;
       of = of;
-      has_file = claim_has_file s valid Shared c.requires.kings (fits_newest s.winner s.position valid.few) narrow (as_claim c.in_ok-claim.claim) of;
+      has_file = claim_has_file s valid Shared c.requires.kings (fits_newest s.winner s.position valid.few) narrow (as_claim c.in_ok-claim.claim) of c.in_ok-claim.ensures.few;
       bytes_are = c.in_ok-bytes.ensures.written;
     }

@@ -13,6 +13,6 @@ returns-clause-file c =
     record {
       claim = as_claim c.in_ok-claim.claim;
       of = of;
-      has_file = claim_has_file s c.in_ok-claim.ensures.valid Dense c.requires.kings c.requires.fits narrow (as_claim c.in_ok-claim.claim) of;
+      has_file = claim_has_file s c.in_ok-claim.ensures.valid Dense c.requires.kings c.requires.fits narrow (as_claim c.in_ok-claim.claim) of c.in_ok-claim.ensures.few;
       bytes_are = c.in_ok-bytes.ensures.written;
     }
