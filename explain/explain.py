@@ -541,6 +541,8 @@ def of_file(told, words, folder):
         return said("file missing", name=name)
     if told[:2] == ["too", "large"]:
         return said("file too large", length=told[2])
+    if told[:3] == ["set", "too", "large"]:
+        return said("file set too large", states=told[3])
     if told[:2] == ["too", "long"]:
         return said("file too long", name=name)
     if told[0] == "cut":

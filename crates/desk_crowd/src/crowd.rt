@@ -1,7 +1,7 @@
 //! Whether the winner of a crowd mates within a number of moves.
 
 ghost use Rattle.std.specs.Prelude.{◌≡◌, ◌↔◌, ◌≤◌, [], IfErr, IsOk};
-ghost use Rattle.game_rules.specs.Game.{Sound};
+ghost use Rattle.game_rules.specs.Game.{SoundWithKings};
 ghost use Rattle.chess_text.specs.Grammar.{crowds};
 ghost use Rattle.chess_game.specs.Unsoundness.{IsFirstUnsoundness};
 ghost use Rattle.chess_text.specs.PositionText.{IsDraftOf, drafted};
@@ -68,7 +68,7 @@ fn refuse_text<K: Sink>(sink: &mut K, end: TextEnd) -> Status
 
 /// Whether the position that a text says is sound; and if not, the first reason.
 fn draft_soundness(draft: &Draft) -> Result<(), Unsound>
-    ensures ok { IsOk result ↔ Sound (drafted draft.now) }
+    ensures ok { IsOk result ↔ SoundWithKings (drafted draft.now) }
     ensures reason { IfErr result (IsFirstUnsoundness (drafted draft.now)) }
 {
     crowd_soundness(draft.men(), draft.turn())
@@ -88,7 +88,7 @@ fn crowd_of<'a>(draft: &'a Draft) -> Crowd<'a>
 
 /// Writes whether the winner mates.
 fn answer<K: Sink>(alloc: Global, crowd: &Crowd, moves: u8, budget: Budget, sink: &mut K) -> Status
-    requires sound { Sound (position_of crowd.now) }
+    requires sound { SoundWithKings (position_of crowd.now) }
     requires moves { moves ≤ MOST_CROWD_MOVES }
     ensures ends { EndsOnSink K.Sink result (CrowdReports moves budget (problem_in crowd.now)) (Unit {0}) sink.old sink.new }
 {

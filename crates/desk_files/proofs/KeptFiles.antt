@@ -21,7 +21,7 @@ use Rattle.desk_verdict.proofs.Values.{none_mates}
 use Rattle.desk_files.specs.Keep.{HasFileToKeep, IsFileToKeep, KeepReports, kept_file}
 use Rattle.desk_files.specs.Keeping.{FileReports, FileToKeep, IsThere, Keeps, MissesKeep, no_file_line, no_file_status, unkept, unwritten}
 use Rattle.desk_files.specs.declared.no_file.NoFile.{NoFile}
-use Rattle.desk_files.specs.declared.no_file.NoFile.TheVariants.{TooLarge, Fault, Memory}
+use Rattle.desk_files.specs.declared.no_file.NoFile.TheVariants.{TooLarge, SetTooLarge, Fault, Memory}
 use Rattle.desk_files.proofs.Shelves.{same_kept}
 
 -- the bytes were put under the name
@@ -70,6 +70,7 @@ printed_leaving is.WriteFault reports may_lack may_miss due old new right left (
 
 pub unwritten_no_fault : (error : WriteFileError) → unwritten error ≡ Fault → ⊥
 unwritten_no_fault (write_error.TooLarge size) e = absurd (cc)
+unwritten_no_fault (write_error.SetTooLarge states) e = absurd (cc)
 unwritten_no_fault write_error.Memory e = absurd (cc)
 
 pub unkept_failed : (error : KeepError) → unkept error ≡ Fault → error ≡ keep_error.Failed
@@ -79,9 +80,10 @@ unkept_failed keep_error.Memory e = absurd (cc)
 module _ (file : FileToKeep) (name : List ℕ) where
   -- a file that was not written is not kept
   pub unwritten_keeps : (error : WriteFileError) (told : Option Files) → ((size : ℕ) → error ≡ write_error.TooLarge size → file.is_too_large size)
-      → Keeps file name (Err (unwritten error)) told told
-  unwritten_keeps (write_error.TooLarge size) told large = (large size refl, same_kept told)
-  unwritten_keeps write_error.Memory told large = same_kept told
+      → ((states : ℕ) → error ≡ write_error.SetTooLarge states → file.has_large_set states) → Keeps file name (Err (unwritten error)) told told
+  unwritten_keeps (write_error.TooLarge size) told large set = (large size refl, same_kept told)
+  unwritten_keeps (write_error.SetTooLarge states) told large set = (set states refl, same_kept told)
+  unwritten_keeps write_error.Memory told large set = same_kept told
 
   -- nor one that the shelf does not keep
   pub unkept_keeps : (error : KeepError) (bytes : List ℕ) (old new : Option Files) → file.is_file bytes
@@ -95,17 +97,20 @@ module _ (file : FileToKeep) (name : List ℕ) where
       → Keeps file name result old new
   keeps_from (Ok done) old between new stay (bytes, is', gain) = (bytes, is', go_from (λ before after. after ≡ finite.insert before name bytes) old between new stay gain)
   keeps_from (Err (TooLarge size)) old between new stay (large, same) = (large, go_from (λ before after. after ≡ before) old between new stay same)
+  keeps_from (Err (SetTooLarge states)) old between new stay (large, same) = (large, go_from (λ before after. after ≡ before) old between new stay same)
   keeps_from (Err Fault) old between new stay (there, others) =
       (there, go_from (λ before after. (other : List ℕ) → other ≢ name → finite.get after other ≡ finite.get before other) old between new stay others)
   keeps_from (Err Memory) old between new stay same = go_from (λ before after. after ≡ before) old between new stay same
 
   -- another file is kept so
   pub keeps_as : (other : FileToKeep) (result : Result (Unit {0}) NoFile) (old new : Option Files) → ((bytes : List ℕ) → file.is_file bytes → other.is_file bytes)
-      → ((size : ℕ) → file.is_too_large size → other.is_too_large size) → Keeps file name result old new → Keeps other name result old new
-  keeps_as other (Ok done) old new fits large (bytes, is', gain) = (bytes, fits bytes is', gain)
-  keeps_as other (Err (TooLarge size)) old new fits large (is', same) = (large size is', same)
-  keeps_as other (Err Fault) old new fits large ((bytes, is'), others) = ((bytes, fits bytes is'), others)
-  keeps_as other (Err Memory) old new fits large same = same
+      → ((size : ℕ) → file.is_too_large size → other.is_too_large size) → ((states : ℕ) → file.has_large_set states → other.has_large_set states)
+      → Keeps file name result old new → Keeps other name result old new
+  keeps_as other (Ok done) old new fits large set (bytes, is', gain) = (bytes, fits bytes is', gain)
+  keeps_as other (Err (TooLarge size)) old new fits large set (is', same) = (large size is', same)
+  keeps_as other (Err (SetTooLarge states)) old new fits large set (is', same) = (set states is', same)
+  keeps_as other (Err Fault) old new fits large set ((bytes, is'), others) = ((bytes, fits bytes is'), others)
+  keeps_as other (Err Memory) old new fits large set same = same
 
   module _ (files : Files) (old new : Seen) (kept : IfSome old.files (λ told. told ≡ files)) where
     abbrev Ends : Status → Type 0
@@ -124,7 +129,9 @@ module _ (file : FileToKeep) (name : List ℕ) where
     pub unkept_ends : (why : NoFile) → Keeps file name (Err why) old.files new.files → (why ≡ Fault → HasRisen old.shelf_faults new.shelf_faults)
         → Writes [] (no_file_line why) old.written new.written (WriteFailed old new) → Ends (no_file_status why)
     unkept_ends (TooLarge size) (large, same) failed wrote =
-        (_, inr (size, large, refl), record { reported = refl; written = wrote; files = go_same files (λ before after. after ≡ files) old.files new.files same kept refl })
+        (_, inr (inl (size, large, refl)), record { reported = refl; written = wrote; files = go_same files (λ before after. after ≡ files) old.files new.files same kept refl })
+    unkept_ends (SetTooLarge states) (large, same) failed wrote =
+        (_, inr (inr (states, large, refl)), record { reported = refl; written = wrote; files = go_same files (λ before after. after ≡ files) old.files new.files same kept refl })
     unkept_ends Fault (there, others) failed wrote = (Some name, (there, refl), record { failed = failed refl; written = wrote; files = others })
     unkept_ends Memory same failed wrote = (tt, record { written = wrote; files = same })
 

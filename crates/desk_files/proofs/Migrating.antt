@@ -63,7 +63,7 @@ module _ (c : Claim) where
   too_large_told size h = record { reduced = h.reduced; is = reduced h.is; size_is = h.size_is; large = h.large }
 
   pub keeps_told : (name : List ℕ) (result : Result (Unit {0}) NoFile) (old new : Option Files) → Keeps (migrated_file c) name result old new → Keeps (migrated_file told) name result old new
-  keeps_told name result old new keeps = keeps_as (migrated_file c) name (migrated_file told) result old new migrated_told too_large_told keeps
+  keeps_told name result old new keeps = keeps_as (migrated_file c) name (migrated_file told) result old new migrated_told too_large_told (λ states none. none) keeps
 
 -- `migrate` ends as the file of the claim that was read is kept
 pub claim_migrates : (from to : List ℕ) (files : Files) (charts : Charts) → IsReadAs from files (Ok charts) → (status : Status) (old new : Seen)

@@ -27,28 +27,38 @@ use Rattle.desk_verdict.specs.StepLines.{budget_line}
 use Rattle.desk_verdict.specs.Verdict.{mate_line, no_mate_line}
 use Rattle.desk_verdict.proofs.Rows.{within_row}
 use Rattle.desk_files.specs.Check.{CheckReports}
-use Rattle.desk_files.specs.FileLines.{file_line, file_refused, not_kept_line, too_large_line}
+use Rattle.desk_files.specs.FileLines.{file_line, file_refused, not_kept_line, set_too_large_line, too_large_line}
 use Rattle.desk_files.specs.FileClaim.{OfBytes, OfChecked, OfClaim, OfFile, OfFound, OfOutcome, OfRules}
 use Rattle.desk_files.specs.Keep.{KeepReports, kept_file}
 use Rattle.desk_files.specs.Keeping.{FileReports, FileToKeep}
 use Rattle.desk_files.specs.Migrate.{MigrateReports, migrated_file}
 use Rattle.desk_files.proofs.OneFinding.{check_exceeds_once, found_exceeds, found_once}
 
--- there is one file to keep, or it has one size that is too large
+-- there is one file to keep, or one size or one largest set that is too large
 record IsOneFile (file : FileToKeep) : Type 0 where
   once : (a b : List ℕ) → file.is_file a → file.is_file b → a ≡ b
   size_once : (a b : ℕ) → file.is_too_large a → file.is_too_large b → a ≡ b
+  set_once : (a b : ℕ) → file.has_large_set a → file.has_large_set b → a ≡ b
   not_both : (bytes : List ℕ) (size : ℕ) → file.is_file bytes → file.is_too_large size → ⊥
+  no_file : (bytes : List ℕ) (states : ℕ) → file.is_file bytes → file.has_large_set states → ⊥
+  no_size : (size states : ℕ) → file.is_too_large size → file.has_large_set states → ⊥
 
 -- a file that is kept
 file_row : (file : FileToKeep) (name : List ℕ) (files : Files) → IsOneFile file → IsOne (FileReports file name files)
 file_row file name files one =
     let kept : List ℕ → Report = λ bytes. done_with (map.insert files name bytes) file.line in
     let large : ℕ → Report = λ size. file_refused files (too_large_line size) in
+    let set : ℕ → Report = λ states. file_refused files (set_too_large_line states) in
     either_row
     (due_of_row file.is_file kept (λ bytes e. absurd (cc)) (λ x y a b. ap kept (one.once x y a b)))
+    (either_row
     (due_of_row file.is_too_large large (λ size e. absurd (cc)) (λ x y a b. ap large (one.size_once x y a b)))
-    (λ r s is' large'. one.not_both is'.0 large'.0 is'.1 large'.1)
+    (due_of_row file.has_large_set set (λ states e. absurd (cc)) (λ x y a b. ap set (one.set_once x y a b)))
+    (λ r s large' set'. one.no_size large'.0 set'.0 large'.1 set'.1))
+    (λ r s is' or'. elim or' [
+      | inl large' ↦ one.not_both is'.0 large'.0 is'.1 large'.1
+      | inr set' ↦ one.no_file is'.0 set'.0 is'.1 set'.1
+    ])
 
 one_kept : (winner : Side) (p : Position) (n : ℕ) → IsOneFile (kept_file winner p n)
 one_kept winner p n =
@@ -56,7 +66,10 @@ one_kept winner p n =
     record {
       once = λ a b h k. one.one_file a b h.file k.file;
       size_once = one.one_size;
+      set_once = one.one_set;
       not_both = λ bytes size h k. let e = one.same_size bytes size h.file k in omega (arith, e, h.small, k.large);
+      no_file = λ bytes states h k. one.no_file bytes states h.file k;
+      no_size = one.no_size;
     }
 
 one_migrated : (c : Claim) → IsOneFile (migrated_file c)
@@ -65,7 +78,10 @@ one_migrated c =
     record {
       once = λ a b h k. one.one_file a b h.file k.file;
       size_once = one.one_size;
+      set_once = λ a b none. absurd none;
       not_both = λ bytes size h k. let e = one.same_size bytes size h.file k in omega (arith, e, h.small, k.large);
+      no_file = λ bytes states h none. none;
+      no_size = λ size states h none. none;
     }
 
 pub keep_row : (n budget : ℕ) (problem : Problem) (name : List ℕ) (files : Files) → IsOne (KeepReports n budget problem name files)

@@ -57,6 +57,10 @@ not_kept_line failed =
 abbrev pub too_large_line : ℕ → List ℕ
 too_large_line size = codes "file too large " ++ decimal size ++ codes "\n"
 
+-- the fault line of a file in which a set would have this number of states, which is too many
+abbrev pub set_too_large_line : ℕ → List ℕ
+set_too_large_line states = codes "file set too large " ++ decimal states ++ codes "\n"
+
 -- a run that refuses a file with this line and leaves these files
 abbrev pub file_refused : Files → List ℕ → Report
 file_refused files line = refusal_as files is.File line false

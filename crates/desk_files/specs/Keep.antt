@@ -6,7 +6,7 @@ use Rattle.desk_base.specs.declared.files.Shelf.{Ghosts as ShelfModel}
 use Rattle.desk_base.specs.declared.sink.Sink.{Ghosts as SinkModel}
 use Rattle.game_rules.specs.Game.{Position, Value}
 use Rattle.game_rules.specs.declared.men.Side.{Side}
-use Rattle.strategy_writer.specs.KeptFile.{IsKeptFile, IsKeptTooLarge}
+use Rattle.strategy_writer.specs.KeptFile.{HasLargeKeptSet, IsKeptFile, IsKeptTooLarge}
 use Rattle.strategy_writer.specs.Written.{most_bytes}
 use Rattle.strategy_file.specs.declared.version.Version.TheVariants.{Shared}
 use Rattle.desk_report.specs.Outcome.{RunEndsAs, Report, done_with}
@@ -24,7 +24,12 @@ pub record IsFileToKeep (winner : Side) (p : Position) (n : ℕ) (bytes : List �
 
 abbrev pub kept_file : Side → Position → ℕ → FileToKeep
 kept_file winner p n =
-    record { is_file = IsFileToKeep winner p n; is_too_large = IsKeptTooLarge Shared winner p n; line = mate_line n }
+    record {
+      is_file = IsFileToKeep winner p n;
+      is_too_large = IsKeptTooLarge Shared winner p n;
+      has_large_set = HasLargeKeptSet winner p n;
+      line = mate_line n;
+    }
 
 -- this if the winner mates within n moves of his own; otherwise that he does not, and no file is stored
 abbrev pub KeptReports : (n : ℕ) → Problem → (name : List ℕ) → Files → Report → Type 0

@@ -23,7 +23,13 @@ pub record IsMigrated (c : Claim) (bytes : List ℕ) : Type 0 where
   pub same : IsReadAsSame c bytes
 
 abbrev pub migrated_file : Claim → FileToKeep
-migrated_file c = record { is_file = IsMigrated c; is_too_large = IsWrittenTooLarge c; line = codes "migrated\n" }
+migrated_file c =
+    record {
+      is_file = IsMigrated c;
+      is_too_large = IsWrittenTooLarge c;
+      has_large_set = λ states. ⊥;
+      line = codes "migrated\n";
+    }
 
 -- the claim of the file `from` is stored under the name `to`, which may be the same, or the first reason why not
 abbrev pub MigrateReports : (from to : List ℕ) → Files → Report → Type 0

@@ -43,6 +43,13 @@ pub fn too_large_line(size: u128) -> LineBuffer
     large_line(b"file too large ", size)
 }
 
+/// Returns the line that reports how many states a set of a file would have, which is too many.
+pub fn set_too_large_line(states: u32) -> LineBuffer
+    ensures { result ≡ specs.set_too_large_line states }
+{
+    large_line(b"file set too large ", u128::from(states))
+}
+
 /// Returns the line that reports which field of a file is refused, and why.
 pub fn byte_line(at: u64, why: ByteWhy) -> LineBuffer
     ensures { result ≡ specs.file_line (layout.Byte at why) }

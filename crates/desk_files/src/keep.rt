@@ -2,6 +2,7 @@
 
 ghost use Rattle.std.specs.Prelude.{◌≡◌, IsErrOf};
 ghost use Rattle.desk_base.specs.Faults.{HasRisen};
+ghost use Rattle.game_rules.specs.Game.{HasBothKings};
 ghost use Rattle.winning_sets.specs.declared.origin.Origin.TheVariants.{Plan};
 ghost use Rattle.desk_files.specs.Keep.{KeepEndsOn, kept_file};
 ghost use Rattle.desk_files.specs.Keeping.{Keeps};
@@ -53,6 +54,7 @@ fn keep_solved<H: Shelf>(
     shelf: &mut H,
 ) -> Result<(), NoFile>
     requires plan { solved.now.origin ≡ Plan }
+    requires kings { HasBothKings solved.now.position }
     ensures keeps { Keeps (kept_file solved.now.winner solved.now.position solved.now.moves) name.now result (H.files shelf.old) (H.files shelf.new) }
     ensures failed { IsErrOf result NoFile.Fault → HasRisen (H.faults shelf.old) (H.faults shelf.new) }
 {

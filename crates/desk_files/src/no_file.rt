@@ -5,7 +5,7 @@ ghost use Rattle.desk_files.specs.Keeping.{no_file_line, no_file_status, unkept,
 ghost use Rattle.desk_report.specs.Outcome.{Writes};
 ghost use Rattle.desk_report.specs.Ports.{OnSink};
 
-use crate::file_line::too_large_line;
+use crate::file_line::{set_too_large_line, too_large_line};
 use desk_base::{KeepError, Sink};
 use desk_report::{Status, refuse};
 use strategy_writer::WriteFileError;
@@ -15,6 +15,8 @@ use strategy_writer::WriteFileError;
 pub enum NoFile {
     /// It would have this many bytes, which are too many.
     TooLarge(u128),
+    /// A set of it would have this many states, which are too many.
+    SetTooLarge(u32),
     /// The shelf has failed.
     Fault,
     /// There is no memory for the file.
@@ -27,6 +29,7 @@ impl From<WriteFileError> for NoFile {
     fn from(error: WriteFileError) -> NoFile {
         match error {
             WriteFileError::TooLarge { length } => NoFile::TooLarge(length),
+            WriteFileError::SetTooLarge { states } => NoFile::SetTooLarge(states),
             WriteFileError::Memory => NoFile::Memory,
         }
     }
@@ -52,6 +55,11 @@ pub(crate) fn refuse_keeping<K: Sink>(sink: &mut K, why: NoFile) -> Status
     match why {
         NoFile::TooLarge(length) => {
             let line = too_large_line(length);
+            refuse(sink, line.as_slice());
+            Status::File
+        }
+        NoFile::SetTooLarge(states) => {
+            let line = set_too_large_line(states);
             refuse(sink, line.as_slice());
             Status::File
         }

@@ -13,6 +13,7 @@ use Rattle.game_rules.specs.declared.men.Square.{Square}
 use Rattle.game_laws.specs.Symmetry.{place_on}
 use Rattle.game_laws.proofs.BoardMaps.{shift_keeps}
 use Rattle.game_laws.proofs.CheckLemmas.{any_is}
+use Rattle.game_laws.proofs.KingLemmas.{both_kings}
 use Rattle.desk_solve.specs.Drill.{case_position, offset, position_of, rooks_position}
 
 abbrev at : ℤ → ℤ → Square
@@ -140,7 +141,7 @@ module _ (king first second : Square) (clear : AreClear king first second) where
       not_attacked ((as_man _ man.1 IsChecked fourth man.3).2)
 
   clear_sound : Sound p
-  clear_sound = record { kings = kings; apart = apart; other_safe = other_safe }
+  clear_sound = record { kings = both_kings kings; apart = apart; other_safe = other_safe }
 
 -- tests tell these
 abbrev differs : ℤ → ℤ → Type 0

@@ -3,7 +3,7 @@
 use Rattle.std.specs.Prelude.{◌≡◌, ◌⊎◌, ℕ, ◌≤◌, List, ◌++◌, length, Result, IfErr, codes}
 use Rattle.std.specs.Fmt.{decimal}
 use Rattle.limits.specs.declared.numbers.TheConstants.{MOST_MOVES}
-use Rattle.game_rules.specs.Game.{Sound, Value}
+use Rattle.game_rules.specs.Game.{HasBothKings, Sound, Value}
 use Rattle.mate_plan.specs.PlanOf.{plan_of}
 use Rattle.winning_sets.specs.Solve.{IsWithin, IsSolveError}
 use Rattle.winning_sets.specs.declared.names.SolveError.{SolveError}
@@ -59,7 +59,8 @@ HasSomeToPlay task = ¬ HasNothingToPlay task.moves task.problem
 abbrev pub OfTask : {A : Type 1} → (ℕ → ℕ → Problem → A) → Task → A
 OfTask this task = this task.moves task.budget task.problem
 
--- the position is sound and the number of moves is within its limit
+-- the position is sound, with a king on each side, and the number of moves is within its limit
 pub record IsTask (task : Task) : Type 0 where
   pub sound : Sound task.problem.position
+  pub kings : HasBothKings task.problem.position
   pub moves : task.moves ≤ MOST_MOVES

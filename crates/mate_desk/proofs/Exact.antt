@@ -2,7 +2,7 @@
 use Rattle.std.proofs.Common.{◌≡◌, ◌↔◌, ◌⊎◌, ℕ, List, Result, Ok, inl, inr, refl, ap, sym, subst, ◌∙◌, get_or, arith}
 use Rattle.desk_base.specs.Files.{Files}
 use Rattle.desk_base.specs.Lines.{Lines, lines_of}
-use Rattle.game_rules.specs.Game.{Position, Sound, Value}
+use Rattle.game_rules.specs.Game.{Position, SoundWithKings, Value}
 use Rattle.chess_game.proofs.UnsoundnessLemmas.{unsound_refuted}
 use Rattle.chess_text.specs.declared.reader.ReaderState.TheVariants.{Header}
 use Rattle.lin_formula.specs.Tree.{Tree}
@@ -28,7 +28,7 @@ use Rattle.desk_args.proofs.OneOrder.{once_words}
 use Rattle.desk_text.proofs.OneText.{once_text}
 
 -- what is reported of the text of a sound problem is what its order says
-pub of_sound : (says : Report → Type 0) (files : Files) (problem : Problem) (report : Report) → Sound problem.position → OfSound says files problem.position report → says report
+pub of_sound : (says : Report → Type 0) (files : Files) (problem : Problem) (report : Report) → SoundWithKings problem.position → OfSound says files problem.position report → says report
 of_sound says files problem report sound (inl (why, fault, is')) = absurd (unsound_refuted why problem.position fault sound)
 of_sound says files problem report sound (inr (also, right)) = right
 
@@ -44,7 +44,7 @@ module _ (r : Reading Problem) (says : Problem → Lines → Report → Type 0) 
       let Q : Text Problem → Type 0 = λ t. OfRead says files t report in
       subst Q (once_text r Header 1 lines read.0 (whole problem rest) read.1 at) read.2
 
-  pub of_lines : Sound problem.position → OfLines r says files lines report → says problem rest report
+  pub of_lines : SoundWithKings problem.position → OfLines r says files lines report → says problem rest report
   of_lines sound read = of_sound (says problem rest) files problem report sound (as_read read)
 
   -- and where it is done, its position is sound
@@ -52,7 +52,7 @@ module _ (r : Reading Problem) (says : Problem → Lines → Report → Type 0) 
   done_text done read = done_sound (says problem rest) files problem.position report done (as_read read)
 
 pub of_text : (says : Problem → Lines → Report → Type 0) (files : Files) (bytes : List ℕ) (problem : Problem) (rest : Lines) (report : Report)
-    → TextAt bytes (whole problem rest) → Sound problem.position → OfText says files bytes report → says problem rest report
+    → TextAt bytes (whole problem rest) → SoundWithKings problem.position → OfText says files bytes report → says problem rest report
 of_text says files bytes problem rest report at sound read = of_lines problems says files (lines_of bytes) problem rest report at sound read
 
 -- what is reported of words is what is reported of the order that they are

@@ -8,7 +8,7 @@ use Rattle.claim_plan.proofs.ClaimLemmas.{won_is_value}
 use Rattle.claim_plan.specs.CheckPlan.{check_plan}
 use Rattle.desk_base.specs.Files.{Files, Go}
 use Rattle.desk_base.specs.Lines.{Lines, lines_of}
-use Rattle.game_rules.specs.Game.{Sound, Value}
+use Rattle.game_rules.specs.Game.{SoundWithKings, Value}
 use Rattle.mate_plan.specs.Claim.{Claim}
 use Rattle.set_plan.specs.Outcome as plan
 use Rattle.strategy_writer.proofs.KeptFiles.{kept_file_is_claim}
@@ -79,7 +79,7 @@ resume_keeps words bytes files budget name report ordered named reports =
 -- what a run of `keep` that is done with its line has left
 record Leaves (n : ℕ) (name : List ℕ) (files given : Files) : Type 0 where
   problem : Problem
-  sound : Sound problem.position
+  sound : SoundWithKings problem.position
   value : Value problem.winner n problem.position
   bytes : List ℕ
   file : IsFileToKeep problem.winner problem.position n bytes
@@ -87,13 +87,14 @@ record Leaves (n : ℕ) (name : List ℕ) (files given : Files) : Type 0 where
 
 module _ (n budget : ℕ) (name : List ℕ) (files given : Files) (report : Report) (done : report.status ≡ is.Done)
     (wrote : report.fault ≡ [] → report.text ≡ mate_line n) (left : files ≡ report.files) where
-  keep_leaves : (problem : Problem) → Sound problem.position → KeepReports n budget problem name given report → Leaves n name files given
+  keep_leaves : (problem : Problem) → SoundWithKings problem.position → KeepReports n budget problem name given report → Leaves n name files given
   keep_leaves problem sound (inl (step, over, is')) = let e : is.Done ≡ is.Budget = sym done ∙ ap (λ r. r.status) is' in absurd (cc)
   keep_leaves problem sound (inr (fits, inl (none, is'))) =
       absurd (one_line n (sym (wrote (ap (λ r. r.fault) is')) ∙ ap (λ r. r.text) is'))
   keep_leaves problem sound (inr (fits, inr (value, inl (bytes, file, is')))) =
       record { problem = problem; sound = sound; value = value; bytes = bytes; file = file; left = left ∙ ap (λ r. r.files) is' }
-  keep_leaves problem sound (inr (fits, inr (value, inr (size, large, is')))) = let e : is.Done ≡ is.File = sym done ∙ ap (λ r. r.status) is' in absurd (cc)
+  keep_leaves problem sound (inr (fits, inr (value, inr (inl (size, large, is'))))) = let e : is.Done ≡ is.File = sym done ∙ ap (λ r. r.status) is' in absurd (cc)
+  keep_leaves problem sound (inr (fits, inr (value, inr (inr (states, large, is'))))) = let e : is.Done ≡ is.File = sym done ∙ ap (λ r. r.status) is' in absurd (cc)
 
   abbrev Says : Problem → Lines → Report → Type 0
   Says problem rest r = KeepReports n budget problem name given r
@@ -144,7 +145,7 @@ module _ (words : List (List ℕ)) (n budget : ℕ) (name : List ℕ) (files : F
 -- the file is there, as it was kept, and its claim is won
 module _ (n other : ℕ) (name : List ℕ) (files kept given : Files) (l : Leaves n name kept given) (still : map.get files name ≡ map.get kept name) (report : Report) where
   won : IsReadAsWon l.problem.winner l.problem.position n l.bytes
-  won = kept_file_is_claim Shared l.problem.winner l.problem.position n l.bytes l.sound l.value l.file.small l.file.file
+  won = kept_file_is_claim Shared l.problem.winner l.problem.position n l.bytes l.sound.sound l.value l.file.small l.file.file
 
   abbrev c : Claim
   c = claim_with won.charts
@@ -209,7 +210,8 @@ module _ (from to : List ℕ) (given before after : Files) (before_is : before �
   outcome_carried bytes at short (Err refusal) file is' = absurd (no_refusal (file_line refusal) is')
   outcome_carried bytes at short (Ok charts) file (inl (kept, migrated, is')) =
       put_carried charts kept (record { bytes = bytes; found = at; short = short; file = file }) migrated (left ∙ ap (λ r. r.files) is')
-  outcome_carried bytes at short (Ok charts) file (inr (size, large, is')) = absurd (no_refusal (too_large_line size) is')
+  outcome_carried bytes at short (Ok charts) file (inr (inl (size, large, is'))) = absurd (no_refusal (too_large_line size) is')
+  outcome_carried bytes at short (Ok charts) file (inr (inr (states, none, is'))) = absurd none
 
   found_carried : (found : Option (List ℕ)) → map.get given from ≡ found → OfFound Migrates given found report → IsCarried from to before after
   found_carried None at is' = absurd (no_refusal (codes "file missing\n") is')

@@ -5,7 +5,7 @@ use Rattle.std.specs.List.{All}
 use Rattle.std.proofs.lemmas.Bool.{and_parts, leb-true}
 use Rattle.std.proofs.lemmas.List.Elements.{All-contains, All-nil, All-cons}
 use Rattle.auto_core.specs.Automaton.{Automaton}
-use Rattle.game_rules.specs.Game.{Position, Sound}
+use Rattle.game_rules.specs.Game.{Position, SoundWithKings}
 use Rattle.mate_plan.specs.Claim.{Claim, ClaimedSet, IsClaim}
 use Rattle.rule_formula.specs.Mean.{mask_tracks}
 use Rattle.strategy_file.proofs.FileClaims.{found_in, place_of, at_place, is_some_in}
@@ -115,12 +115,12 @@ module _ (p : Position) where
 
 -- so it is of all charts of a file
 record IsRead (charts : Charts) : Type 0 where
-  sound : Sound charts.position
+  sound : SoundWithKings charts.position
   few : length charts.position.men ≤ 8
   places_are : map place_of (claim_with charts).sets ≡ places_of charts.winner charts.position charts.moves
   over : All (IsOver charts.position) (claim_with charts).sets
 
-charts_read : (start : Start) (charts : Charts) → Sound start.position → length start.position.men ≤ 8 → CanGive (charts_layout start) charts → IsRead charts
+charts_read : (start : Start) (charts : Charts) → SoundWithKings start.position → length start.position.men ≤ 8 → CanGive (charts_layout start) charts → IsRead charts
 unfolding charts_layout
 charts_read start charts sound few h =
     let sets = in_turn (sets_layout start) (λ xs. Give (charts_with start xs)) charts h in
@@ -150,7 +150,7 @@ module _ (charts : Charts) (h : IsRead charts) where
 
   charts_claim : IsClaim c
   charts_claim = record {
-    sound = h.sound;
+    sound = h.sound.sound;
     few = h.few;
     found = λ ply mask losers game.
         is_some_in c.sets ply mask

@@ -7,7 +7,7 @@ use Rattle.std.proofs.lemmas.List.{append-nil}
 use Rattle.desk_base.specs.Faults.{HasRisen}
 use Rattle.desk_base.specs.Files.{Files, Go, no_files}
 use Rattle.desk_base.specs.Lines.{Lines, ended, lines_of}
-use Rattle.game_rules.specs.Game.{Sound}
+use Rattle.game_rules.specs.Game.{SoundWithKings}
 use Rattle.chess_game.specs.Unsoundness.{IsFirstUnsoundness}
 use Rattle.chess_game.specs.declared.unsoundness.Unsound.{Unsound}
 use Rattle.chess_text.specs.PositionText.{text_of_lines}
@@ -208,11 +208,11 @@ module _ (words : List (List ℕ)) (old new : Seen) (same : new.files ≡ old.fi
           sym (append_assoc (text_of_lines t.takes.lines) pending t.rest) ∙ ap (λ b. b ++ t.rest) (sym t.takes.bytes) in
           subst P same (t.reads (pending ++ t.rest))
 
-      pub of_problem : (says : Problem → Lines → Report → Type 0) → Sound problem.position → (report : Report)
+      pub of_problem : (says : Problem → Lines → Report → Type 0) → SoundWithKings problem.position → (report : Report)
           → says problem (lines_of (pending ++ t.rest)) report → OfText says files (t.bytes ++ t.rest) report
       of_problem says sound report right = (whole problem (lines_of (pending ++ t.rest)), is_whole, inr (sound, right))
 
-      pub behind_text : (Holds : Problem → Type 0) → Sound problem.position → Holds problem → IsBehindText Holds t.bytes
+      pub behind_text : (Holds : Problem → Type 0) → SoundWithKings problem.position → Holds problem → IsBehindText Holds t.bytes
       behind_text Holds sound holds =
           let P : List ℕ → Type 0 = λ b. TextAt b (whole problem ended) in
           record {
@@ -252,7 +252,7 @@ module _ (words : List (List ℕ)) (old new : Seen) (same : new.files ≡ old.fi
 
 -- so it is with each command that asks something of a problem alone
 module _ (words : List (List ℕ)) (old new : Seen) (same : new.files ≡ old.files) (pending : List ℕ) (problem : Problem)
-    (t : TextRead (Ok problem) pending old.left new.left) (sound : Sound problem.position) (status : Status) where
+    (t : TextRead (Ok problem) pending old.left new.left) (sound : SoundWithKings problem.position) (status : Status) where
   abbrev EndsWithSink : (Files → Report → Type 0) → Type 0 → Type 0
   EndsWithSink reports may_lack = (files : Files) → RunEndsAs status (reports files) may_lack NeverMisses (of_sink files old.written old.write_faults) (of_sink files new.written new.write_faults)
 
@@ -269,7 +269,7 @@ module _ (words : List (List ℕ)) (old new : Seen) (same : new.files ≡ old.fi
 
 -- `keep` has the shelf too
 module _ (words : List (List ℕ)) (old new : Seen) (pending : List ℕ) (problem : Problem)
-    (t : TextRead (Ok problem) pending old.left new.left) (sound : Sound problem.position) (status : Status) where
+    (t : TextRead (Ok problem) pending old.left new.left) (sound : SoundWithKings problem.position) (status : Status) where
   -- what was read, with the files as they were
   abbrev read : Seen
   read = record { left = new.left; written = old.written; files = old.files; read_faults = old.read_faults; write_faults = old.write_faults; shelf_faults = old.shelf_faults }

@@ -19,7 +19,7 @@ use Rattle.std.proofs.Common.{append_assoc}
 use Rattle.chess_text.specs.declared.reader.ReaderState.TheVariants.{Header}
 use Rattle.desk_text.specs.Text.{TextAt, problems}
 use Rattle.desk_text.proofs.OneText.{once_text}
-use Rattle.game_rules.specs.Game.{Sound}
+use Rattle.game_rules.specs.Game.{SoundWithKings}
 use Rattle.desk_args.proofs.OneOrder.{once_words}
 use Rattle.mate_desk.proofs.Headline.{given_bytes}
 use Rattle.desk_text.proofs.MoreLines.{text_more}
@@ -94,7 +94,7 @@ ordered_not_usage words order status old new ordered run usage =
 
 -- the text of a problem that memory was wanting for is the one that the source told
 same_problem : (problem : Problem) (rest : Lines) (input taken more : List ℕ) (Holds : Problem → Type 0) → TextAt input (whole problem rest) → input ≡ taken ++ more
-    → IsBehindText Holds taken → Sound problem.position × Holds problem
+    → IsBehindText Holds taken → SoundWithKings problem.position × Holds problem
 same_problem problem rest input taken more Holds at is lack =
     let before = text_more problems lack.problem ended lack.front lack.text in
     let behind = before.behind ++ (lack.pending ++ more) in
@@ -103,7 +103,7 @@ same_problem problem rest input taken more Holds at is lack =
     let told : TextAt input (whole lack.problem (lines_of behind)) = subst Q bytes (before.reads (lack.pending ++ more)) in
     let texts = once_text problems Header 1 (lines_of input) (whole lack.problem (lines_of behind)) (whole problem rest) told at in
     let same : lack.problem ≡ problem = cc in
-    let IsSound : Problem → Type 0 = λ p. Sound p.position in
+    let IsSound : Problem → Type 0 = λ p. SoundWithKings p.position in
     (subst IsSound same lack.sound, subst Holds same lack.holds)
 
 pub memory_last : MemoryLast

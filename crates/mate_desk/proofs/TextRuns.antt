@@ -6,7 +6,7 @@ use Rattle.std.proofs.lemmas.List.Elements.{All-append}
 use Rattle.desk_base.specs.Faults.{HasRisen}
 use Rattle.desk_base.specs.Files.{Files}
 use Rattle.desk_base.specs.Lines.{IsLine, Lines, ended, lines_of}
-use Rattle.game_rules.specs.Game.{Sound}
+use Rattle.game_rules.specs.Game.{SoundWithKings}
 use Rattle.chess_game.proofs.UnsoundnessLemmas.{number_cases}
 use Rattle.chess_text.specs.PositionText.{text_of_lines}
 use Rattle.desk_text.specs.Taken.{TakesLines}
@@ -57,7 +57,7 @@ module _ (words : List (List ℕ)) (old new : Seen) (same : new.files ≡ old.fi
     (more : (bytes : List ℕ) (files : Files) (report : Report) → OfText (λ p rest. says p rest files) files bytes report → ReportsOrder order words bytes files report)
     (lacks : (taken : List ℕ) → IsBehindText takes taken → OrderMayLack order taken)
     (held pending : List ℕ) (mid : Option (List ℕ)) (reads : ℕ) (later : old.read_faults ≤ reads) (problem : Problem)
-    (t : TextRead (Ok problem) held old.left mid) (sound : Sound problem.position) where
+    (t : TextRead (Ok problem) held old.left mid) (sound : SoundWithKings problem.position) where
   abbrev files : Files
   files = files_of old.files
 

@@ -5,7 +5,7 @@ use Rattle.std.specs.Io.KnownBytes.{Consumes}
 use Rattle.desk_base.specs.Faults.{HasRisen}
 use Rattle.desk_base.specs.Files.{Files}
 use Rattle.desk_base.specs.Lines.{Lines, full, lines_of}
-use Rattle.game_rules.specs.Game.{Position, Least, Lost, Sound, Value}
+use Rattle.game_rules.specs.Game.{Position, Least, Lost, SoundWithKings, Value}
 use Rattle.game_rules.specs.declared.men.Side.{Side}
 use Rattle.chess_text.specs.PositionText.{IsWritable, position_text}
 use Rattle.winner_player.specs.WinnerRules.{Match, winner_rules}
@@ -71,7 +71,7 @@ pub record HasRun (words : List (List ℕ)) (order : Order) (p : Position) (winn
   pub behind : List ℕ
   pub ordered : Ordered words (Ok order)
   pub writable : IsWritable p
-  pub sound : Sound p
+  pub sound : SoundWithKings p
   pub input : old.left ≡ Some (position_text p winner ++ behind)
   pub output : old.written ≡ Some out
   pub ends : RunEnds words is.Done old new
@@ -105,7 +105,7 @@ pub record LacksSome (words : List (List ℕ)) (old new : Seen) : Type 0 where
   pub lacks : MayLackMemory words taken
   pub of_text : (order : Order) (bytes : List ℕ) (problem : Problem) (rest : Lines) → Ordered words (Ok order)
       → IsOfText order → old.left ≡ Some bytes → TextAt bytes (whole problem rest)
-      → Sound problem.position × TakesMemory order problem
+      → SoundWithKings problem.position × TakesMemory order problem
 
 -- memory runs out only then
 abbrev pub MemoryLast : Type 0
@@ -140,7 +140,7 @@ DecidesExactly =
     (report : Report)
     → Ordered words (Ok (orders.Decide n budget))
     → TextAt bytes (whole problem rest)
-    → Sound problem.position
+    → SoundWithKings problem.position
     → Reports words bytes files report
     → IsExact n budget problem report
 
@@ -160,7 +160,7 @@ CrowdDecides =
     (report : Report)
     → Ordered words (Ok (orders.Crowd n budget))
     → IsTextOf crowd_texts (lines_of bytes) (whole problem rest)
-    → Sound problem.position
+    → SoundWithKings problem.position
     → Reports words bytes files report
     → DecidesCrowd n budget problem files report
 
@@ -228,7 +228,7 @@ PlayKeeps =
     (report : Report)
     → Ordered words (Ok (orders.Play n budget))
     → TextAt bytes (whole problem rest)
-    → Sound problem.position
+    → SoundWithKings problem.position
     → Reports words bytes files report
     → PlaysGame n budget problem rest files report
 
@@ -254,7 +254,7 @@ Defends =
     (report : Report)
     → Ordered words (Ok (orders.Defend n budget))
     → TextAt bytes (whole problem rest)
-    → Sound problem.position
+    → SoundWithKings problem.position
     → Reports words bytes files report
     → DefendsGame n budget problem rest files report
 
@@ -365,7 +365,7 @@ pub record IsTold (words : List (List ℕ)) (order : Order) (p : Position) (winn
   pub behind : List ℕ
   pub ordered : Ordered words (Ok order)
   pub writable : IsWritable p
-  pub sound : Sound p
+  pub sound : SoundWithKings p
   pub input : old.left ≡ Some (position_text p winner ++ behind)
 
 -- The bytes `out` are followed by this text and this fault line: the whole of them, unless the sink failed.

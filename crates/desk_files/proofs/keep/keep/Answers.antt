@@ -1,5 +1,6 @@
-use Rattle.std.proofs.Common.{◌≡◌, inl, inr, refl, sym, ap, ◌∙◌}
+use Rattle.std.proofs.Common.{◌≡◌, inl, inr, refl, sym, ap, ◌∙◌, subst}
 use Rattle.std.specs.Prelude.{Err}
+use Rattle.game_rules.specs.Game.{HasBothKings}
 use Rattle.desk_files.specs.Keep.{HasFileToKeep, KeepReports, kept_file}
 use Rattle.desk_files.specs.Keeping.{MissesKeep}
 use Rattle.desk_report.specs.Outcome.{NeverMisses, done_with}
@@ -8,6 +9,11 @@ use Rattle.desk_files.proofs.KeptFiles.{kept_ends, solved_ends, unkept_ends}
 use Rattle.desk_files.proofs.Shelves.{same_kept}
 use Rattle.desk_report.proofs.Writing.{at_sink, ends_as}
 use Rattle.desk_files.proofs.keep.keep.Goals as goal
+
+pub keep_solved-requires-kings : goal.keep_solved-requires-kings
+keep_solved-requires-kings g c =
+    let of = rw (c.in-Ok-Some.field-0-is, c.new-solver.ensures.problem) at c.in-Ok-Some.ensures.found in
+    subst HasBothKings (sym of.position) c.requires.task.kings
 
 pub returns-in-Ok : goal.returns-in-Ok
 returns-in-Ok g c = record {

@@ -19,7 +19,8 @@ returns-in_err-bytes-clause-keeps g c =
     let p = err_from_is_err_and c.from_residual.result c.from_residual.ensures.1 in
     rw (p.1, p.2)
     (unwritten_keeps (kept_file s.winner s.position s.moves) c.args.name.now error (g.H.Shelf.files c.args.shelf.now)
-    (λ size is. (file_is_kept Shared s valid).size size (subst (IsFileRefusal Shared s) is c.in_err-bytes.ensures.refused)))
+    (λ size is. (file_is_kept Shared s valid).size size (subst (IsFileRefusal Shared s) is c.in_err-bytes.ensures.refused))
+    (λ states is. (file_is_kept Shared s valid).set states (subst (IsFileRefusal Shared s) is c.in_err-bytes.ensures.refused)))
 
 pub returns-in_err-bytes-clause-failed : goal.returns-in_err-bytes-clause-failed
 returns-in_err-bytes-clause-failed g c = λ failed.

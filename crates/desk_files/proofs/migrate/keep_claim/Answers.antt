@@ -15,7 +15,8 @@ returns-in_err-bytes-clause-keeps g c =
     let p = err_from_is_err_and c.from_residual.result c.from_residual.ensures.1 in
     rw (p.1, p.2)
     (unwritten_keeps (migrated_file claim) c.args.name.now c.in_err-bytes.field-0.0 (g.H.Shelf.files c.args.shelf.now)
-    (λ size is. subst (IsWriteClaimRefusal claim) is c.in_err-bytes.ensures.refused))
+    (λ size is. subst (IsWriteClaimRefusal claim) is c.in_err-bytes.ensures.refused)
+    (λ states is. subst (IsWriteClaimRefusal claim) is c.in_err-bytes.ensures.refused))
 
 pub returns-in_err-bytes-clause-failed : goal.returns-in_err-bytes-clause-failed
 returns-in_err-bytes-clause-failed g c = λ failed.
