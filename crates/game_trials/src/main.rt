@@ -4,6 +4,7 @@
 //! command of the program `mate` makes. `docs/TESTING.md` describes the rows.
 #![tactic(auto)]
 
+mod kings;
 mod ports;
 mod positions;
 mod sessions;

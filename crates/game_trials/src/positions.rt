@@ -4,6 +4,7 @@
 ghost use Rattle.std.specs.Prelude.{◌≡◌};
 ghost use Rattle.game_rules.specs.Game.{Sound};
 
+use crate::kings::is_sound;
 use crate::sessions::game_row;
 use crate::solving::solver_row;
 use chess_game::{
@@ -87,14 +88,14 @@ pub fn of_position(positions: &Named<Position>, kind: &str, row: &mut Row) -> Re
     }
 }
 
-/// Writes the result of a row of this kind for a sound position.
+/// Writes the result of a row of this kind for a sound position, in which a side may have no king.
 fn of_sound_position(
     positions: &Named<Position>,
     position: &Position,
     kind: &str,
     row: &mut Row,
 ) -> Result<(), RowError> {
-    if soundness(position).is_err() {
+    if !is_sound(position) {
         return Err(RowError::Condition);
     }
     match kind {
@@ -164,7 +165,7 @@ fn move_row(position: &Position, row: &mut Row) -> Result<(), RowError>
 }
 
 fn write_made(row: &mut Row, made: &Position) -> Result<(), RowError> {
-    if soundness(made).is_err() {
+    if !is_sound(made) {
         return Err(RowError::Condition);
     }
     row.write_labelled("legal men ", made.mask());

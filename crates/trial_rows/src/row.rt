@@ -84,7 +84,7 @@ impl<'a> Row<'a> {
         numbers(self.alloc, self.fields.word()?)
     }
 
-    /// A budget of states, from 1 to 200000.
+    /// Parses the next field as a budget, from 1 to 16777216 states.
     pub fn budget(&mut self) -> Result<Budget, RowError> {
         Budget::checked(self.number()?).ok_or(RowError::Number)
     }
