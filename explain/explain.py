@@ -10,6 +10,7 @@ import collections
 import difflib
 import os
 import re
+import shlex
 import stat
 import sys
 from dataclasses import dataclass, field
@@ -27,8 +28,14 @@ SHAPES = {
 }
 # The commands that play a game.
 GAMES = ("play", "resume", "defend")
-# The commands that are the script's own.
-OF_SCRIPT = ["help", "version", "cost", "unproved"]
+# The commands that are the script's own, and the scripts beside it.
+OF_SCRIPT = ["help", "version", "program", "manual", "completion", "cost", "unproved", "solve", "map", "board", "convert"]
+# The commands that read nothing from standard input, and those whose position `crowd` reads too.
+TEXTLESS = ("check", "migrate", "drill")
+OF_CROWD = ("decide", "least", "first", "describe", "play", "defend", "keep")
+# How ./mate was called, and what stands for the input's file in advice if its name is not known.
+CALL = os.environ.get("MATE_CALL", "./mate")
+FILE = "FILE"
 LIMITS = {MOVES: (0, 20), "L": (0, 20), BUDGET: (1, 200000), SEED: (0, 2**64 - 1), COUNT: (0, 100)}
 CROWD_MOVES = (0, 2)
 SAID = {MOVES: "the number of moves", "L": "the number of moves", BUDGET: "the budget", SEED: "the seed", COUNT: "the number of positions"}
@@ -57,8 +64,21 @@ def table():
 SENTENCES = table()
 
 
+class Advice:
+    """What sentences name so that a command in them can be pasted: the file that the run read, as a shell takes its name."""
+
+    file = FILE
+
+
 def said(reason, **values):
-    return SENTENCES[reason].format(**values)
+    sentence = SENTENCES[reason].format(**{"file": Advice.file, **values})
+    return re.sub(r"(?<![\w./])\./mate\b", lambda _: CALL, sentence)
+
+
+def pasted(words):
+    """Returns words of ./mate as a shell takes them, with the input that the command reads."""
+    reads = bool(words) and words[0] in SHAPES and words[0] not in TEXTLESS
+    return " ".join(shlex.quote(it) for it in words) + f" < {Advice.file}" * reads
 
 
 def quoted(line):
@@ -107,7 +127,7 @@ def of_words(why, words):
         named = next((it for it in behind if is_file(it)), None)
         rest = [it for it in behind if it != named]
         if named and least <= len(rest) <= len(shape) and command not in ("check", "resume", "migrate", "drill"):
-            return said("count / file", word=named, mended=" ".join([command, *rest]))
+            return said("count / file", word=shlex.quote(named), mended=" ".join([command, *rest]))
         return said("count / few" if len(behind) < least else "count / many", command=command, usage=usage)
     for at, (what, word) in enumerate(zip(shape, behind)):
         if what in NAMES:
@@ -130,7 +150,7 @@ def of_unknown(command, words):
     near = near_to(command, OF_SCRIPT)
     later = [it for it in words[1:] if it in SHAPES]
     if later and not near:
-        return said("unknown / order", word=command, mended=" ".join([later[0], *[it for it in words if it != later[0]]]))
+        return said("unknown / order", word=command, mended=pasted([later[0], *[it for it in words if it != later[0]]]))
     if is_file(command):
         return said("unknown / file", word=command)
     near = near_to(command, [*SHAPES, *OF_SCRIPT])
@@ -168,7 +188,7 @@ def of_limit(command, behind, at, what):
     last = len(turned) - 1
     if SHAPES[command][-1] == BUDGET and at == 0 and last > 1 and NATURAL.fullmatch(behind[-1]) and len(behind[-1]) <= 2 and is_within((least, most), behind[-1]):
         turned[1], turned[last] = turned[last], turned[1]
-        return said("limit / order", mended=" ".join(turned), **told)
+        return said("limit / order", mended=pasted(turned), **told)
     return said("limit", **told)
 
 
@@ -481,16 +501,20 @@ def of_budget(told, words):
     if command == "drill":
         return said("over budget / drill")
     budget = int(words[len(shape)]) if len(words) > len(shape) else DEFAULT_BUDGET
-    values = dict(budget=budget, greatest=MOST_BUDGET, mended=" ".join([*words[: len(shape)], str(MOST_BUDGET)]))
+    values = dict(budget=budget, greatest=MOST_BUDGET, mended=pasted([*words[: len(shape)], str(MOST_BUDGET)]))
     greatest = ", greatest" if budget == MOST_BUDGET else ""
     if told[0] in ("arith", "crowd"):
         return said(f"over budget / {told[0]}{greatest}", step=told[1], **values)
     if told[0] == "describe":
         return said(f"over budget / describe{greatest}", man=told[2], **values)
+    if command in ("check", "resume") and greatest:
+        return said("over budget / file, greatest", **values)
     moves = int(told[1])
+    values["crowd"] = f"crowd {moves} {MOST_BUDGET}"
+    short = " / short" if command in OF_CROWD and moves <= CROWD_MOVES[1] else ""
     if command == "least" and moves > 1:
-        return said(f"over budget / least{greatest}", fewer=counted(moves - 1, "move"), moves=moves, **values)
-    return said("over budget / greatest" if greatest else "over budget", **values)
+        return said(f"over budget / least{greatest}{short}", fewer=counted(moves - 1, "move"), moves=moves, **values)
+    return said(("over budget / greatest" if greatest else "over budget") + short, **values)
 
 
 def of_memory(command):
@@ -698,8 +722,24 @@ def read_head(path):
 
 # The whole
 
-def sentences(code, told, words, text, folder="."):
-    """Returns the sentences on a run: its code, what it wrote or the last line of that, its words, its input (bytes, FOLDER, CLOSED or None), its folder."""
+def of_answer(told, words, text, file=None):
+    """Returns the sentences on an answer: why one of `first` or `describe` lists no move."""
+    if told.split() != ["end"] or words[:1] not in (["first"], ["describe"]) or not isinstance(text, bytes):
+        return []
+    Advice.file = shlex.quote(file) if file else FILE
+    try:
+        position = chess.read_text(text)[0]
+    except chess.Refused:
+        return []
+    mover, winner = chess.SIDES[position.turn], chess.SIDES[position.winner]
+    reason = "no first move" if position.turn == position.winner else "no first move / loser"
+    return [said(reason, mover=mover, winner=winner, moves=counted(int(words[1]), "move"), mended=" ".join(words))]
+
+
+def sentences(code, told, words, text, folder=".", file=None):
+    """Returns the sentences on a run: its code, what it wrote or the last line of that, its words, its input (bytes, FOLDER, CLOSED or None), its folder,
+    and the name of the input's file if it is known."""
+    Advice.file = shlex.quote(file) if file else FILE
     lines = told.splitlines()
     fields = lines[-1].split(" ") if lines else []
     words = words[1:] if words[:1] == ["cost"] else words
@@ -763,6 +803,20 @@ def given():
     return CLOSED
 
 
+def named():
+    """Returns the name of the input's file from this folder on, or None."""
+    for descriptor in (3, 0):
+        try:
+            kind, path = os.fstat(descriptor), os.readlink(f"/proc/self/fd/{descriptor}")
+        except OSError:
+            continue
+        if not stat.S_ISREG(kind.st_mode) or not os.path.isfile(path):
+            return None
+        near = os.path.relpath(path)
+        return path if near.startswith("../..") else near
+    return None
+
+
 def is_nothing(kind):
     """Returns whether an input is /dev/null."""
     return stat.S_ISCHR(kind.st_mode) and kind.st_rdev == os.stat(os.devnull).st_rdev
@@ -779,7 +833,7 @@ def main(words):
     if len(words) < 2 or not words[0].isdigit():
         print(__doc__, end="", file=sys.stderr)
         return 2
-    for it in sentences(int(words[0]), words[1], words[2:], given()):
+    for it in sentences(int(words[0]), words[1], words[2:], given(), file=named()):
         print(it)
     return 0
 

@@ -3,6 +3,9 @@
 
 Tests explain.py by the rows of rows.txt: the sentences and, if a program is given, the code and the last line of each run. Also lists the reasons of
 sentences.txt that have no row. The exit code is 0 if nothing differs, otherwise 1.
+
+  explain/trial.py            the sentences alone
+  explain/trial.py ./mate     the runs too
 """
 import os
 import re
@@ -115,7 +118,9 @@ def differs(program, row):
         before = os.getcwd()
         os.chdir(folder)
         try:
-            made = explain.sentences(row.code, told, row.words, None if row.is_piped else row.input, folder)
+            text = None if row.is_piped else row.input
+            made = explain.sentences(row.code, told, row.words, text, folder)
+            made += explain.of_answer(told, row.words, text) if row.code == 0 else []
         finally:
             os.chdir(before)
         return None if made == row.says else f"says {made}"
@@ -139,6 +144,12 @@ def unused():
 
 
 def main(words):
+    if words[:1] in (["help"], ["--help"], ["-h"]):
+        print(__doc__, end="")
+        return 0
+    if len(words) > 1 or (words and not os.access(words[0], os.X_OK)):
+        print(__doc__, end="", file=sys.stderr)
+        return 2
     program = [os.path.abspath(words[0])] if words else None
     count = wrong = 0
     for head, why, _ in tried(program):

@@ -1,11 +1,18 @@
 #!/usr/bin/env python3
-"""usage: gallery/make.py [--mate PROGRAM] [--stored] [--quick] [--kept] [--only WORD]
+"""usage: gallery/make.py [--unproved | --mate PROGRAM] [--stored] [--quick] [--kept] [--only WORD]
 
-Asks ./mate, or another build of it, what positions.py lists, compares each answer with what is claimed there, and writes docs/GALLERY.md with
-its pictures docs/gallery/*.svg; maps are made by ./map, and solutions by ./solve. Every answer is put into gallery/answers.json, with the program that gave it; with --stored those that stand
-there are taken, and only the others are asked for. --quick looks for the budget among the numbers 256, 512, 1024 and so on alone. With --kept
-nothing is asked for, and what has no kept answer is left out of the page, which says so. --only asks for the entries and families whose names
-have the word, and writes no page. The code is 0 where all claims hold, else 1.
+Asks the program what positions.py lists, compares each answer with what is claimed there, and writes docs/GALLERY.md with its pictures
+docs/gallery/*.svg; maps are made by ./map, and solutions by ./solve. Every answer is put into gallery/answers.json, with the program that gave it.
+
+  --stored         takes the answers that are in answers.json, and asks only for the others
+  --kept           asks for nothing, and leaves what has no kept answer out of the page, which says so
+  --only WORD      asks for the entries and families whose names have the word; it writes no page and keeps no answer. With --stored or --kept it
+                   takes answers from answers.json too. Each line says how many answers were asked for, and how many were taken
+  --quick          looks for the budget among the numbers 256, 512, 1024 and so on alone
+  --unproved       asks the program without proofs (./mate help unproved); so does the variable MATE_PROGRAM
+  --mate PROGRAM   asks another program, whatever it is
+
+The code is 0 if all claims are true, else 1, and 2 if no name has the word.
 """
 import importlib.machinery
 import importlib.util
@@ -15,12 +22,13 @@ import resource
 import subprocess
 import sys
 import tempfile
-import threading
 
 HERE = os.path.dirname(os.path.realpath(__file__))
 TOP = os.path.dirname(HERE)
-sys.path.insert(0, HERE)
+sys.path[:0] = [HERE, f"{TOP}/python"]
 sys.dont_write_bytecode = True
+from gezhumai_mate import program as programs  # noqa: E402
+from gezhumai_mate.ends import NoProgram  # noqa: E402
 from positions import CROWDS, DEFENCES, ENTRIES, FAMILIES, MAPS, SEARCH, SOLUTIONS, TRIED  # noqa: E402
 
 ANSWERS = f"{HERE}/answers.json"
@@ -62,12 +70,20 @@ class Engine:
     """The program, with the answers that it gave: what it wrote, its code, and the user seconds that it took."""
 
     def __init__(self, program, words):
-        self.program, self.fresh, self.answers = program, 0, {}
-        self.name = OWN if os.path.realpath(program) == f"{TOP}/mate" else "another build"
-        self.is_quick, self.asks = "--quick" in words, "--kept" not in words
-        if {"--stored", "--kept", "--only"} & set(words) and os.path.exists(ANSWERS):
+        self.fresh, self.taken, self.answers, self.fresh_keys = 0, 0, {}, set()
+        self.is_quick, self.asks, self.keeps = "--quick" in words, "--kept" not in words, "--only" not in words
+        self.program = program
+        self.name = OWN if program is None or os.path.realpath(program) == programs.PROVED_PATH else "another build"
+        if {"--stored", "--kept"} & set(words) and os.path.exists(ANSWERS):
             with open(ANSWERS, encoding="utf-8") as it:
                 self.answers = json.load(it)
+
+    def count(self, key):
+        """Counts an answer that was asked for by this run, or taken from those that are kept."""
+        if key in self.fresh_keys:
+            self.fresh += 1
+        else:
+            self.taken += 1
 
     def ask(self, words, text, most_seconds=None):
         key = words + "\n" + text
@@ -75,8 +91,9 @@ class Engine:
             raise Missing
         if key not in self.answers:
             self.answers[key] = self.run(words, text, most_seconds)
-            self.fresh += 1
+            self.fresh_keys.add(key)
             self.store()
+        self.count(key)
         return self.answers[key]
 
     def made(self, words, text, make):
@@ -86,11 +103,12 @@ class Engine:
             raise Missing
         if key not in self.answers:
             before = resource.getrusage(resource.RUSAGE_CHILDREN).ru_utime
-            wrote = make(maps.mate.program() if self.name == OWN else self.program)
+            wrote = make(self.program)
             seconds = resource.getrusage(resource.RUSAGE_CHILDREN).ru_utime - before
             self.answers[key] = {"wrote": wrote, "code": 0, "seconds": round(seconds, 2), "states": [], "by": self.name}
-            self.fresh += 1
+            self.fresh_keys.add(key)
             self.store()
+        self.count(key)
         return self.answers[key]
 
     def run(self, words, text, most_seconds):
@@ -107,6 +125,8 @@ class Engine:
         return {"wrote": done.stdout.decode(), "code": done.returncode, "seconds": round(seconds, 2), "states": states, "by": self.name}
 
     def store(self):
+        if not self.keeps:
+            return
         with open(ANSWERS, "w", encoding="utf-8") as it:
             json.dump(self.answers, it, indent=1, sort_keys=True)
             it.write("\n")
@@ -246,7 +266,7 @@ def map_lines(engine, drawn):
     """Returns the section of a map, of which each square is as it is claimed to be."""
     words = [str(drawn.man), str(drawn.moves), f"{drawn.files[0]}:{drawn.files[1]}", f"{drawn.ranks[0]}:{drawn.ranks[1]}", *drawn.budget]
     asked = maps.asked_of(words, position_of(drawn.men, drawn.turn))
-    make = lambda program: maps.as_csv(asked, maps.answers(program, asked, threading.Event()))
+    make = lambda program: maps.as_csv(asked, maps.answers(program, asked))
     told = engine.made(" ".join(["map", *words]), text_of(drawn.men, drawn.turn), make)
     found = {}
     for row in told["wrote"].splitlines()[1:]:
@@ -337,8 +357,13 @@ def search_lines(engine):
 
 
 def collected(engine, only):
-    """Returns the lines of all entries, those of all families, what is not as it is claimed, and what is left out."""
-    entries, families, wrong, left_out = [], [], [], []
+    """Returns the lines of all entries, those of all families, what is not as it is claimed, what is left out, and how many were tried."""
+    entries, families, wrong, left_out, tried_names = [], [], [], [], []
+
+    def collect(lines, wrong, left_out, name, made):
+        tried_names.append(name)
+        collect_one(engine, lines, wrong, left_out, name, made)
+
     for number, entry in enumerate(ENTRIES, 1):
         if only in entry.name:
             collect(entries, wrong, left_out, entry.name, lambda: entry_lines(engine, number, entry))
@@ -363,13 +388,14 @@ def collected(engine, only):
     if not only:
         collect(tried, wrong, left_out, "what passes every budget", lambda: tried_lines(engine))
         collect(search, wrong, left_out, "the longest least number", lambda: search_lines(engine))
-    return {"Positions": entries, "Crowds": crowds, "Maps": drawn, "Solutions": solved, "Defences": defended, "Families": families, "What the engine cannot decide": tried, "The longest least number": search}, wrong, left_out
+    return {"Positions": entries, "Crowds": crowds, "Maps": drawn, "Solutions": solved, "Defences": defended, "Families": families, "What the engine cannot decide": tried, "The longest least number": search}, wrong, left_out, len(tried_names)
 
 
-def collect(lines, wrong, left_out, name, made):
+def collect_one(engine, lines, wrong, left_out, name, made):
+    fresh, taken = engine.fresh, engine.taken
     try:
         lines += made()
-        print(f"as claimed  {name}", flush=True)
+        print(f"as claimed  {name}  ({engine.fresh - fresh} asked, {engine.taken - taken} taken from answers.json)", flush=True)
     except Wrong as why:
         wrong.append(str(why))
         print(f"WRONG       {why}", flush=True)
@@ -404,17 +430,28 @@ def option(words, name, default):
 def main(words):
     if {"-h", "--help", "help"} & set(words):
         print(__doc__, end="")
-        return 2
-    engine = Engine(option(words, "--mate", f"{TOP}/mate"), words)
+        return 0
+    named = option(words, "--mate", None)
+    only = option(words, "--only", "")
+    words = programs.take_option(words)
+    engine = Engine(named or (programs.path() if "--kept" not in words else None), words)
     os.makedirs(f"{TOP}/docs/gallery", exist_ok=True)
-    sections, wrong, left_out = collected(engine, option(words, "--only", ""))
-    if not wrong and "--only" not in words:
+    sections, wrong, left_out, tried = collected(engine, only)
+    if not tried:
+        print(f"no entry and no family has a name with {only!r}")
+        return 2
+    if not wrong and engine.keeps:
         with open(f"{TOP}/docs/GALLERY.md", "w", encoding="utf-8") as it:
             it.write(page_of(engine, sections, left_out))
     seconds = sum(it["seconds"] for it in engine.answers.values())
-    print(f"{len(ENTRIES)} positions, {len(CROWDS)} crowds, {len(MAPS)} maps, {len(SOLUTIONS)} solutions, {len(DEFENCES)} defences, {len(FAMILIES)} families, {len(wrong)} wrong; {engine.fresh} asked for, {seconds:.0f} s of the program in all")
+    whole = f"{len(ENTRIES)} positions, {len(CROWDS)} crowds, {len(MAPS)} maps, {len(SOLUTIONS)} solutions, {len(DEFENCES)} defences, {len(FAMILIES)} families"
+    print(f"{whole if engine.keeps else f'{tried} tried'}, {len(wrong)} wrong; {engine.fresh} answers asked for, {engine.taken} taken from answers.json, {seconds:.0f} s of the program in all")
     return 1 if wrong else 0
 
 
 if __name__ == "__main__":
-    sys.exit(main(sys.argv[1:]))
+    try:
+        sys.exit(main(sys.argv[1:]))
+    except NoProgram:
+        print("there is no program, and it could not be built", file=sys.stderr)
+        sys.exit(1)

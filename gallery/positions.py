@@ -487,16 +487,16 @@ SOLUTIONS = [
    1... k4 0 1   2. A3 -1 -1#
 """),
     Solved("Three rooks", "K 50 50, R 5 1, R 5 7, R -9 -1 / K 0 0", 2,
-           "One rook is in the other's way. Either gets out of it, as far as it likes, but not to where the king would take the one that guards or the one that mates; the lines of `describe` list the squares.",
+           "One rook is in the other's way. Either gets out of it, as far as it likes, but not to where the king would take the one that guards or the one that mates; the words after the nearest square name the others.",
            """White to move: mate in 2
 
-1. R2 6 1!  threat R3 5 0#  (man 2 step 1 0 runs none from 1 every 1 rests 0)
+1. R2 6 1!, or any from 7 on  threat R3 5 0#
    1... k5 1 0, k5 -1 0   2. R3 5 0#
-1. R2 4 1!  threat R3 5 0#  (man 2 step -1 0 runs 1-2 from 8 every 1 rests 0)
+1. R2 4 1!, or any of 3, from -3 down  threat R3 5 0#
    1... k5 1 0, k5 -1 0   2. R3 5 0#
-1. R3 6 7!  threat R3 6 0#  (man 3 step 1 0 runs none from 1 every 1 rests 0)
+1. R3 6 7!, or any from 7 on  threat R3 6 0#
    1... k5 1 0, k5 -1 0   2. R3 6 0#
-1. R3 4 7!  threat R3 4 0#  (man 3 step -1 0 runs 1-2,4-4,6-6 from 8 every 1 rests 0)
+1. R3 4 7!, or any of 3, 1, -1, from -3 down  threat R3 4 0#
    1... k5 1 0, k5 -1 0   2. R3 4 0#
 """),
 ]

@@ -1,8 +1,9 @@
 #!/usr/bin/env python3
 """usage: script/build.py MATE [WORD..]   |   script/build.py version
 
-Called by ./mate. Makes sure that there is a program of the sources as they are, and becomes MATE with these words, in the same process.
-With the word `unproved` before the others the program is one that is built without its proofs, by `rt try`.
+Called by ./mate. Makes sure that there is a program of the sources as they are, and becomes MATE with these words, in the same process. `cost` and
+`unproved` may come before the others. If the variable MATE_PROGRAM is `unproved`, the program is one that is built without its proofs, by `rt try`;
+if it is a path, it is the program there, which must have a stamp of these sources and of this kit next to it.
 
 A program is of these sources if their bytes have the same sums as those that it was built from, whatever their times are. If it is not, the
 crates that it depends on are proved and built as the gate does it: `rt ci` runs in a room, a folder with the sources of these crates alone and
@@ -24,8 +25,8 @@ import time
 from forecast import Forecast
 from processes import end_process, in_builder, pause, started
 from room import ROOM, clear, furnish, hold
-from sources import BUILT, MAIN, PROGRAM, TOP, Ended, check_kit, end, is_built, kit_in_path, note, now, say, sources_of, tell_end_of, text_of
-from unproved import build_unproved, is_unproved_built
+from sources import BUILT, MAIN, PROGRAM, TOP, Ended, check_elsewhere, check_kit, end, is_built, kit_in_path, note, now, say, sources_of, stamp_of, tell_end_of, text_of
+from unproved import UNPROVED, build_unproved, is_unproved_built
 from words import refuse
 
 # Seconds between two lines that say how far a build is.
@@ -115,6 +116,10 @@ def build():
 def become(mate, words):
     """Becomes ./mate, which runs the program."""
     os.environ["MATE_BUILT"] = str(os.getpid())
+    kept = os.environ.pop("MATE_INPUT", None)
+    if kept:
+        os.dup2(int(kept), 0)
+        os.close(int(kept))
     for it in (signal.SIGPIPE, signal.SIGXFSZ):
         signal.signal(it, signal.SIG_DFL)
     os.execv(mate, [mate, *words])
@@ -145,28 +150,59 @@ def is_still_built():
 
 
 def see_to_unproved(words):
+    """Returns whether there is a program without proofs of these sources, or one could be built."""
     refuse(words)
-    kit = check_kit()
-    if is_unproved_built(kit, sources_of(TOP)):
+    if is_unproved_built(kit_in_path(), sources_of(TOP)):
         say("this run is not proved")
         return True
+    kit = check_kit()
     say("this run is not proved: its program is now built without proofs, which takes two or three minutes; later runs start at once")
     return in_builder(lambda: build_unproved(kit))
 
 
+def see_to_elsewhere(words, path):
+    """Returns whether the program of this path, which was built elsewhere, may be run as one of these sources."""
+    refuse(words)
+    if not check_elsewhere(path):
+        say("this run is not proved")
+    return True
+
+
+def number_of_version():
+    """Returns the number of the version, which is that of the first heading of CHANGELOG."""
+    heads = [it.split()[1] for it in text_of(f"{TOP}/CHANGELOG.md").splitlines() if it.startswith("## ")]
+    return heads[0] if heads else "unknown"
+
+
+def state_of(stamp, how, makes):
+    """Returns what is known of a program of this stamp: whether it was built from these sources."""
+    kit, *lines = stamp.splitlines() or [""]
+    if lines == sources_of(TOP).all_lines(MAIN):
+        return f"built {how} from these sources, by {kit}"
+    return f"built from other sources; {makes}"
+
+
 def version():
-    """Writes the commit, the kit, and whether the program that is there was built from these sources."""
+    """Prints the number of the version, the commit, the kit, and which programs are there and whether they were built from these sources."""
+    signal.signal(signal.SIGPIPE, signal.SIG_DFL)
     git = lambda *words: subprocess.run(["git", "-C", TOP, *words], stdin=subprocess.DEVNULL, capture_output=True, text=True).stdout.strip()
     commit = git("log", "-1", "--format=%h of %cs") if shutil.which("git") and git("rev-parse", "--show-toplevel") == TOP else ""
-    changes = ", and what is changed since" if commit and git("status", "--porcelain") else ""
-    print(f"mate: commit {commit}{changes}" if commit else "mate: of no commit that is known here")
-    print(f"kit: {kit_in_path() or 'there is no rt in PATH'}")
-    if not os.path.isfile(PROGRAM):
-        print("program: not built yet; the first command that needs it builds it, with its proofs")
-    elif is_built(sources_of(TOP).all_lines(MAIN)):
-        print(f"program: built with its proofs from these sources, by {text_of(BUILT).partition(chr(10))[0]}")
+    changes = ", with changes since" if commit and git("status", "--porcelain", "--untracked-files=no") else ""
+    lines = [f"mate: version {number_of_version()}, " + (f"commit {commit}{changes}" if commit else "of no commit that is known here")]
+    lines.append(f"kit: {kit_in_path() or 'there is no rt in PATH'}")
+    if os.path.isfile(PROGRAM):
+        lines.append("program: " + state_of(text_of(BUILT), "with its proofs", "the next command that needs it builds it again, with its proofs"))
     else:
-        print("program: built from other sources; the next command that needs it builds it anew, with its proofs")
+        lines.append("program: not built yet; the first command that needs it builds it, with its proofs")
+    if os.path.isfile(f"{UNPROVED}/mate"):
+        lines.append("unproved program: " + state_of(stamp_of(f"{UNPROVED}/mate")[0], "without proofs", "the next `unproved` builds it again"))
+    if os.environ.get("MATE_PROGRAM"):
+        lines.append(f"asked by MATE_PROGRAM: {os.environ['MATE_PROGRAM']}")
+    try:
+        os.write(1, "".join(f"{it}\n" for it in lines).encode())
+    except OSError:
+        # Standard output is closed.
+        return 6
     return 0
 
 
@@ -175,8 +211,14 @@ def main(words):
         return version()
     mate, *words = words
     try:
-        behind = words[1:] if words[:1] in (["unproved"], ["cost"]) else words
-        is_there = see_to_unproved(behind) if words[:1] == ["unproved"] else see_to_proved(behind)
+        rest = words
+        while rest[:1] in (["unproved"], ["cost"]):
+            rest = rest[1:]
+        asked = os.environ.get("MATE_PROGRAM", "")
+        if not asked:
+            is_there = see_to_proved(rest)
+        else:
+            is_there = see_to_unproved(rest) if asked == "unproved" else see_to_elsewhere(rest, asked)
     except Ended:
         return 1
     if not is_there:

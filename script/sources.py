@@ -96,6 +96,33 @@ def bytes_of(path):
         return it.read()
 
 
+# The stamps of a program, in the folder of its file: that of one built without its proofs, and that of one with them.
+UNPROVED_STAMP, PROVED_STAMP = "sums", "mate.built"
+
+
+def stamp_of(path):
+    """Returns the text of the stamp beside a program and whether the program is proved; the text is empty if there is no stamp."""
+    folder = os.path.dirname(os.path.realpath(path))
+    unproved = text_of(f"{folder}/{UNPROVED_STAMP}")
+    return (unproved, False) if unproved else (text_of(f"{folder}/{PROVED_STAMP}"), True)
+
+
+def check_elsewhere(path):
+    """Returns whether a program that was built elsewhere is proved; ends if it is none of these sources, or of another kit than that in PATH."""
+    if not os.path.isfile(path) or not os.access(path, os.X_OK):
+        end(f"MATE_PROGRAM is {path}, which is no program; it is `unproved`, or the path of a program")
+    stamp, is_proved = stamp_of(path)
+    kit, *lines = stamp.splitlines() or [""]
+    if not lines:
+        end(f"beside {path} there is no stamp, a file `{UNPROVED_STAMP}` or `{PROVED_STAMP}`, so it is not known of which sources it is")
+    if lines != sources_of(TOP).all_lines(MAIN):
+        end(f"{path} was built from other sources than those here")
+    here = kit_in_path()
+    if here and here != kit:
+        end(f"{path} was built by {kit}, and the rt in PATH is {here}")
+    return is_proved
+
+
 def tell_end_of(log):
     """Writes on standard error what a log tells of errors, or else its last lines."""
     lines = bytes_of(log).decode(errors="replace").splitlines()
@@ -117,15 +144,15 @@ def is_built(lines):
     return os.access(PROGRAM, os.X_OK) and text_of(BUILT).splitlines()[1:] == lines
 
 
-def note(kit, lines, seen):
-    """Writes down what the program was built from. What changes from the moment `seen` on is looked at anew."""
+def note(kit, lines, seen, built=BUILT, watches=WATCHED):
+    """Writes down what the program was built from. What changes from the moment `seen` on is looked at again."""
     sources = sources_of(TOP)
     watched = ["../crates.txt"]
     for it in sources.below(MAIN):
         files, folders = sources.files_and_folders(it)
         watched += folders + files
-    write(WATCHED, "".join(f"{path}\0" for path in watched), seen)
-    write(BUILT, "".join(f"{line}\n" for line in [kit, *lines]), seen)
+    write(watches, "".join(f"{path}\0" for path in watched), seen)
+    write(built, "".join(f"{line}\n" for line in [kit, *lines]), seen)
 
 
 def write(path, text, seen):
@@ -137,9 +164,9 @@ def write(path, text, seen):
     os.replace(made, path)
 
 
-def now():
+def now(built=BUILT):
     """Returns the time as the file system of the program has it."""
-    made = f"{BUILT}.{os.getpid()}"
+    made = f"{built}.{os.getpid()}"
     os.makedirs(os.path.dirname(made), exist_ok=True)
     with open(made, "w"):
         seen = os.stat(made).st_mtime_ns

@@ -1,9 +1,9 @@
 #!/usr/bin/env python3
-"""usage: script/watch.py PROGRAM WORD..
+"""usage: script/watch.py [--cost] PROGRAM WORD..
 
-Called by ./mate at a terminal, for a game, and where the input is typed or piped, so that it cannot be read again. Runs the program, hands on what
-is read and what it writes as it comes, and says on standard error why a reply is refused, and behind the last line what it means. Ends with the
-program's status. What it says it asks of explain/explain.py.
+Called by ./mate at a terminal. Runs the program and passes on what is read and what it writes as it comes. Standard error has how long the run has
+taken so far, if that is more than three seconds, why a reply is refused, and after the last line what it means. Ends with the program's status.
+What it says comes from explain/explain.py. With --cost the program is run by script/cost.sh.
 """
 import os
 import select
@@ -15,6 +15,7 @@ import sys
 TOP = os.path.dirname(os.path.dirname(os.path.realpath(__file__)))
 sys.path.insert(0, f"{TOP}/explain")
 import explain  # noqa: E402
+import life  # noqa: E402
 
 # How much is read at a time: as much as the program itself may take behind its last line.
 AT_ONCE = 256
@@ -23,8 +24,8 @@ MOST_REFUSALS = 100
 REFUSALS = (b"illegal\n", b"unreadable\n")
 # Milliseconds without a word from either side, after which it is said what is waited for.
 SILENCE = 300
-POSED = ("decide", "least", "first", "describe", "keep", "show")
-TYPED = {"arith": "a formula, in one line", "crowd": "a crowd's text, up to its line `end`", **dict.fromkeys(POSED, "a position, up to its line `end`")}
+POSED = [it for it in explain.SHAPES if it not in (*explain.GAMES, *explain.TEXTLESS)]
+TYPED = {**dict.fromkeys(POSED, "a position, up to its line `end`"), "arith": "a formula, in one line", "crowd": "a crowd's text, up to its line `end`"}
 REPLIES = "the loser's replies, a line each: the man's number and the square that he goes to, as 4 0 0, or quit"
 MOVES = "the winner's moves, a line each: the man's number and the square that he goes to, as 3 5 0, or quit"
 WRITE_FAILED = 6
@@ -50,21 +51,25 @@ def as_by_a_shell():
 class Run:
     """A run of the program: what it was given, where that can be known, and what it has written."""
 
-    def __init__(self, program, words):
-        self.words, self.is_live = words, is_live()
-        self.given = bytearray() if self.is_live else explain.given()
+    def __init__(self, command, words):
+        self.words, self.is_live = words, is_live() and words[:1] not in [[it] for it in explain.TEXTLESS]
+        self.given, self.file = bytearray() if self.is_live else explain.given(), explain.named()
         self.told, self.has_failed, self.refusals = b"", False, 0
         given = subprocess.PIPE if self.is_live else None
         how = {"stdin": given, "stdout": subprocess.PIPE, "restore_signals": False, "preexec_fn": as_by_a_shell}
-        self.process = subprocess.Popen([program, *words], **how)
+        self.process = subprocess.Popen([*command, *words], **how)
+        self.signs = life.Signs(self.process.pid)
 
     def sentences(self, code, told):
-        text = bytes(self.given) if self.is_live else self.given
-        return explain.sentences(code, told, self.words, text)
+        return explain.sentences(code, told, self.words, self.text(), file=self.file)
+
+    def text(self):
+        return bytes(self.given) if self.is_live else self.given
 
     def take(self):
         """Hands on what was typed or piped, and returns whether more can come."""
         data = os.read(0, AT_ONCE)
+        self.signs.clear()
         self.given += data
         try:
             os.write(self.process.stdin.fileno(), data)
@@ -77,6 +82,7 @@ class Run:
     def hand_on(self):
         """Hands on what the program wrote, and returns whether more can come."""
         data = os.read(self.process.stdout.fileno(), 1 << 16)
+        self.signs.clear()
         for line in data.splitlines(keepends=True):
             try:
                 at = 0
@@ -109,10 +115,12 @@ class Run:
         if is_open:
             waiting.register(0, select.POLLIN)
         while True:
-            ready = dict(waiting.poll(SILENCE if is_open and not is_invited else None))
-            if not ready:
+            ready = dict(waiting.poll(SILENCE if is_open and not is_invited else life.BETWEEN * 1000))
+            if not ready and is_open and not is_invited:
                 is_invited = True
                 self.invite()
+            elif not ready:
+                self.signs.tick()
             if self.process.stdout.fileno() in ready and not self.hand_on():
                 break
             if 0 in ready and not self.take():
@@ -124,9 +132,17 @@ class Run:
             code = WRITE_FAILED
         if code > 0:
             say(self.sentences(code, self.told.decode().splitlines()[-1] if self.told else ""))
+        elif code == 0 and not self.refusals:
+            say(explain.of_answer(self.told.decode(), self.words, self.text(), self.file))
         return code if code >= 0 else 128 - code
 
 
-if __name__ == "__main__":
+def main(words):
+    costs = words[:1] == ["--cost"]
+    program, *words = words[costs:]
     signal.signal(signal.SIGINT, signal.SIG_DFL)
-    sys.exit(Run(sys.argv[1], sys.argv[2:]).go())
+    return Run(["sh", f"{TOP}/script/cost.sh", program] if costs else [program], words).go()
+
+
+if __name__ == "__main__":
+    sys.exit(main(sys.argv[1:]))

@@ -32,7 +32,9 @@ def refusal(explain, words):
 
 
 def refuse(words):
-    """Ends as the program does where it refuses the words, with a sentence behind its line."""
+    """Ends as the program does if it refuses the words, with a sentence after its line."""
+    if words == ["program"]:
+        return
     sys.path.insert(0, f"{TOP}/explain")
     with contextlib.suppress(ImportError):
         import explain
