@@ -452,6 +452,9 @@ def main(words):
 if __name__ == "__main__":
     try:
         sys.exit(main(sys.argv[1:]))
+    except KeyboardInterrupt:
+        sys.modules["runs"].stop_all()
+        sys.exit(130)
     except NoProgram:
         print("there is no program, and it could not be built", file=sys.stderr)
         sys.exit(1)

@@ -3,14 +3,20 @@ import signal
 import subprocess
 import threading
 import time
+import weakref
 
 import life
+
+
+# All that there are, so that they can be ended with the script.
+ALL = weakref.WeakSet()
 
 
 class Runs:
     """The runs that go on now, each with what it is asked and since when."""
 
     def __init__(self):
+        ALL.add(self)
         self.lock, self.running, self.stopped, self.count = threading.Lock(), {}, threading.Event(), 0
 
     def end_of(self, program, words, text, what="", folder=None):
@@ -46,3 +52,16 @@ class Runs:
         now = time.monotonic()
         found = [f"{what} ({life.spelled(now - since)})" for what, since in list(self.running.values())]
         return found[0] if found else ""
+
+
+def stop_all():
+    """Ends the runs of all that there are."""
+    for it in list(ALL):
+        it.stop()
+
+
+def on_interrupt(act):
+    """Has an interrupt, an end of the terminal or a request to end do this; the runs are in sessions of their own, and are not reached by these."""
+    for it in (signal.SIGINT, signal.SIGTERM, signal.SIGHUP):
+        if signal.getsignal(it) != signal.SIG_IGN:
+            signal.signal(it, lambda *_: act())

@@ -107,8 +107,15 @@ class Run:
         elif command in TYPED and os.isatty(0):
             say([f"reading {TYPED[command]}"])
 
+    def interrupted(self, number, _):
+        """Takes the sign of life away, and ends as an interrupt ends a program."""
+        self.signs.clear()
+        signal.signal(number, signal.SIG_DFL)
+        os.kill(os.getpid(), number)
+
     def go(self):
         """Runs the program to its end, and returns its status."""
+        signal.signal(signal.SIGINT, self.interrupted)
         waiting, is_invited = select.poll(), False
         waiting.register(self.process.stdout, select.POLLIN)
         is_open = self.is_live
