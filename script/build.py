@@ -196,8 +196,11 @@ def version():
         lines.append("program: not built yet; the first command that needs it builds it, with its proofs")
     if os.path.isfile(f"{UNPROVED}/mate"):
         lines.append("unproved program: " + state_of(stamp_of(f"{UNPROVED}/mate")[0], "without proofs", "the next `unproved` builds it again"))
-    if os.environ.get("MATE_PROGRAM"):
-        lines.append(f"asked by MATE_PROGRAM: {os.environ['MATE_PROGRAM']}")
+    asked = os.environ.get("MATE_PROGRAM")
+    if asked and asked != "unproved":
+        stamp, is_proved = stamp_of(asked)
+        state = state_of(stamp, "with its proofs" if is_proved else "without proofs", "it is refused") if stamp else "no stamp beside it; it is refused"
+        lines.append(f"program of MATE_PROGRAM: {state}")
     try:
         os.write(1, "".join(f"{it}\n" for it in lines).encode())
     except OSError:
