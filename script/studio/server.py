@@ -24,6 +24,10 @@ MOST_BODY, MOST_FILE, MOST_CONNECTIONS, MOST_SECONDS, PATIENCE = 1 << 14, 1 << 2
 WORD = re.compile(r"[a-z0-9_]{1,32}")
 NAME = re.compile(r"[a-z0-9_]{1,32}")
 MOST_WORDS = 6
+ABOUT = {
+    "proved": "The program is the proved one", "unproved": "The program is built without its proofs: its answers are not proved",
+    "named": "The program was named at the start: whether it is proved is not known here",
+}
 POLICY = "default-src 'none'; script-src 'self'; style-src 'self'; img-src 'self' data: blob:; connect-src 'self'; base-uri 'none'; form-action 'none'; frame-ancestors 'none'"
 
 
@@ -38,8 +42,9 @@ class Refused(Exception):
 class Studio:
     """What all requests share: the token, the program and its runs, and the files of the page."""
 
-    def __init__(self, program, about, folder):
-        self.token, self.about, self.runs, self.facts = secrets.token_urlsafe(24), about, Runs(program, folder), ask.facts()
+    def __init__(self, program, kind, folder):
+        self.token, self.runs = secrets.token_urlsafe(24), Runs(program, folder)
+        self.facts = {**ask.facts(), "kind": kind, "about": ABOUT[kind], "processors": self.runs.most}
         self.files = {name: f"{HERE}/page/{name}" for name in os.listdir(f"{HERE}/page") if os.path.splitext(name)[1] in KINDS}
 
     def kept(self, name):
@@ -127,7 +132,7 @@ class Handler(BaseHTTPRequestHandler):
             self.send(200, KINDS[os.path.splitext(name)[1]], it.read())
 
     def get_facts(self):
-        self.send_json({**self.studio.facts, "about": self.studio.about, "processors": self.studio.runs.most})
+        self.send_json(self.studio.facts)
 
     def get_files(self):
         made = []
@@ -311,7 +316,7 @@ class Server(ThreadingHTTPServer):
 
 
 def program_of(path, is_unproved):
-    """Returns the program that is asked, and what the page says of it."""
+    """Returns the program that is asked, and of which kind it is."""
     path = path or (not is_unproved and os.environ.get("MATE_PROGRAM"))
     made = f"{ask.TOP}/out/unproved/mate"
     if path == "unproved":
@@ -319,13 +324,13 @@ def program_of(path, is_unproved):
     if path:
         if not os.access(path, os.X_OK) or not os.path.isfile(path):
             raise SystemExit(f"studio: {path} is no program")
-        return os.path.realpath(path), "a program named at the start; whether it is proved is not known here"
+        return os.path.realpath(path), "unproved" if os.path.realpath(path) == os.path.realpath(made) else "named"
     if is_unproved:
         if subprocess.run([f"{ask.TOP}/mate", "unproved", "drill", "0", "0"], stdin=subprocess.DEVNULL, stdout=subprocess.DEVNULL).returncode:
             raise SystemExit("studio: there is no program, and it could not be built")
-        return made, "the program without proofs: its answers are not proved"
+        return made, "unproved"
     try:
-        return ask.mate.program(), "the proved program"
+        return ask.mate.program(), "proved"
     except ask.mate.NoProgram:
         raise SystemExit("studio: there is no program, and it could not be built") from None
 
@@ -360,16 +365,16 @@ def stop(*_):
 def main(words, usage):
     port, path, is_unproved = words_of(words, usage)
     try:
-        program, about = program_of(path, is_unproved)
+        program, kind = program_of(path, is_unproved)
         with tempfile.TemporaryDirectory(prefix="studio-") as folder:
             try:
                 server = Server(port)
             except OSError as why:
                 raise SystemExit(f"studio: port {port} cannot be taken: {why.strerror}") from None
-            studio = Handler.studio = Studio(program, about, folder)
+            studio = Handler.studio = Studio(program, kind, folder)
             signal.signal(signal.SIGTERM, stop)
             print(f"http://{ADDRESS}:{server.server_address[1]}/{studio.token}/", flush=True)
-            print(f"studio: {about}. Ctrl-C ends.", file=sys.stderr, flush=True)
+            print(f"studio: {ABOUT[kind]}. Ctrl-C ends.", file=sys.stderr, flush=True)
             try:
                 server.serve_forever()
             finally:

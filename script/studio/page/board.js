@@ -1,6 +1,6 @@
 // The board: what is seen of a position, and what is marked on it. Pointers are in pointer.js, keys in keys.js.
 import { Axis, View } from "./axis.js";
-import { drawing } from "./draw.js";
+import { drawing, short } from "./draw.js";
 import { find } from "./dom.js";
 import { isSame, manOn, nameOf, squareName } from "./position.js";
 
@@ -76,10 +76,14 @@ export class Board {
     });
   }
 
-  /** Returns the width of the names of the ranks, and the height of those of the files. */
+  /** Returns the width of the names of the ranks, and the height of those of the files, of what is seen and of the men. */
   inset() {
-    const isLong = this.men().some(({ man }) => man.at.some((it) => it > 9999n || it < -999n));
-    return isLong ? [66, 62] : [38, 22];
+    const [columns, rows] = this.view.slots(this.axes), ends = (line) => [line[0], line.at(-1)].filter((it) => it && !it.fold).map((it) => it.at);
+    const shown = [columns, rows].map((line, axis) => {
+      const near = this.axes[axis].folds.length ? this.men().map((it) => it.man.at[axis]) : [];
+      return Math.max(1, ...[...ends(line), ...near].map((it) => short(it).length));
+    });
+    return [Math.max(30, shown[1] * 7.5 + 14), shown[0] > 4 ? shown[0] * 7.5 + 12 : 22];
   }
 
   /** Takes a position, and keeps in the middle what is there. */
@@ -98,6 +102,7 @@ export class Board {
   /** Folds what is empty: all but the squares of the men, of marks and of what was opened. */
   fold() {
     const kept = [...this.men().map((it) => it.man.at), ...this.opened, ...this.marks.places, ...this.marks.arrows.flat(), ...this.marks.rays.map((it) => it.nearest)];
+    if (this.hasCursor) kept.push(this.cursor);
     this.axes = [0, 1].map((it) => new Axis(kept.map((at) => at[it]), this.isFolded));
   }
 

@@ -66,18 +66,19 @@ function seen(ray, columns, rows) {
   return found.sort((one, two) => (one.distance < two.distance ? -1 : 1));
 }
 
+/** Returns the line of a ray, and the discs on the squares that win. */
 function ray(board, it, columns, rows) {
   const places = seen(it, columns, rows), wins = places.filter((place) => it.has(place.distance));
-  if (!wins.length) return "";
+  if (!wins.length) return ["", ""];
   const way = places.filter((place) => place.distance <= wins.at(-1).distance).map((place) => middle(board, place.at));
   const line = `<polyline class="ray" points="${[middle(board, it.start), ...way].map((at) => at.map((n) => n.toFixed(1)).join(",")).join(" ")}"/>`;
   const r = board.view.scale * 0.3;
-  return line + wins.map(({ distance, at }) => {
+  return [line, wins.map(({ distance, at }) => {
     const [x, y] = middle(board, at), told = String(distance);
     const size = Math.min(r * 1.1, (r * 2.6) / told.length);
     return `<circle class="win" data-man="${it.man}" data-at="${at.join(" ")}" cx="${x.toFixed(1)}" cy="${y.toFixed(1)}" r="${r.toFixed(1)}"/>`
       + (size >= 6 && told.length < 5 ? text(x, y + size * 0.36, told, `class="count" font-size="${size.toFixed(1)}"`) : "");
-  }).join("");
+  }).join("")];
 }
 
 function arrow(board, [from, to]) {
@@ -102,6 +103,8 @@ function names(board, columns, rows) {
   const every = [1, 2, 5, 10, 20].find((it) => it * scale >= 30) || 20;
   const isNamed = (it, axis) => !it.fold && (board.axes[axis].folds.length > 0 ? scale >= 18 || it.at % 2n === 0n : it.at % BigInt(every) === 0n);
   const made = [`<rect class="gutter" width="${wide}" height="${size[1]}"/><rect class="gutter" y="${size[1] - high}" width="${size[0]}" height="${high}"/>`];
+  for (const y of rows.filter((it) => it.fold)) made.push(text(wide - 5, y.px + scale / 2 + 5, "⋮", 'class="name" text-anchor="end"'));
+  for (const x of columns.filter((it) => it.fold)) made.push(text(x.px + scale / 2, size[1] - high + 15, "…", 'class="name" text-anchor="middle"'));
   for (const y of rows) if (isNamed(y, 1) && y.px + scale / 2 < size[1] - high) made.push(text(wide - 5, y.px + scale / 2 + 4, short(y.at), 'class="name" text-anchor="end"'));
   for (const x of columns.filter((it) => isNamed(it, 0) && it.px + scale / 2 > wide)) {
     const middle = x.px + scale / 2, told = short(x.at), y = size[1] - high;
@@ -148,11 +151,13 @@ export function drawing(board) {
   for (const it of marks.places) made.push(cell(board, it, "last"));
   if (board.selected) made.push(cell(board, board.position.men[board.selected - 1].at, "selected"));
   if (dragged && dragged.at) made.push(cell(board, dragged.at, "aim"));
+  const rays = marks.rays.map((it) => ray(board, it, columns, rows));
+  made.push(...rays.map(([line]) => line));
   for (const { man, number } of board.men()) {
     const [x, y] = dragged && dragged.number === number ? [dragged.x - board.view.scale / 2, dragged.y - board.view.scale / 2] : board.corner(man.at);
     made.push(`<g transform="translate(${x} ${y}) scale(${board.view.scale / 44})" data-number="${number}">${figure(man.side, man.kind)}</g>`);
   }
-  for (const it of marks.rays) made.push(ray(board, it, columns, rows));
+  made.push(...rays.map(([, discs]) => discs));
   for (const it of marks.arrows) if (!isSame(...it)) made.push(arrow(board, it));
   if (board.rectangle) {
     const [[x, y], [farX, farY]] = board.rectangle.map((it) => board.corner(it)), { scale } = board.view;

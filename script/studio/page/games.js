@@ -106,7 +106,8 @@ export class Games {
     const written = `${letterOf(man)}${number}${manOn(position, to) ? "x" : " "}${squareName(to)}`;
     this.store.set(afterMove(position, number, to), "game");
     this.board.mark({ arrows: [[man.at, to]], places: [to] });
-    this.list.append(make("li", {}, written));
+    const made = this.list.children.length, count = Math.floor(made / 2) + 1;
+    this.list.append(make("li", {}, `${count}${made % 2 ? "..." : "."} ${written}`));
     if (!this.board.view.isSeen(this.board.slots(to), this.board.inset())) this.board.fit();
   }
 
@@ -159,9 +160,10 @@ export class Games {
   setControls(isOn) {
     this.quit.disabled = !isOn;
     this.back.disabled = isOn || !this.start;
-    for (const id of ["text", "turn", "winner", "examples", "undo", "redo"]) find(id).disabled = isOn;
+    // The hand is the first tool.
+    find("palette").firstElementChild.click();
+    for (const id of ["text", "turn", "winner", "examples", "undo", "redo", "clear"]) find(id).disabled = isOn;
     for (const it of find("palette").children) it.disabled = isOn;
-    this.board.tool = { kind: "hand" };
   }
 
   tell(text) {

@@ -8,14 +8,22 @@ const MEN = "KQRBNPCAZH";
 export function listen(board, on) {
   let corner = null;
 
-  /** Moves the cursor by slots, so that it passes over a fold at one step. */
+  /** Moves the cursor, and opens a fold that it comes into. */
   function step([x, y], count) {
-    const slots = board.slots(board.cursor);
-    const to = [slots[0] + x * count, slots[1] + y * count];
-    const found = [0, 1].map((it) => board.axes[it].in(to[it]));
-    board.cursor = found.map((it, axis) => (it.fold ? ([x, y][axis] > 0n ? it.fold.high + 1n : it.fold.low - 1n) : it.at));
+    board.cursor = [board.cursor[0] + x * count, board.cursor[1] + y * count];
+    board.refold(() => (board.hasCursor = true));
     if (corner) board.rectangle = [corner, board.cursor];
     if (!board.view.isSeen(board.slots(board.cursor), board.inset())) board.view.centre(board.slots(board.cursor));
+  }
+
+  /** Moves the cursor to the next man in a direction, or past the next fold. */
+  function leap([x, y]) {
+    const axis = x ? 0 : 1, to = board.slots(board.cursor), by = x || y;
+    const seen = [...board.men().map((it) => board.slots(it.man.at)[axis]), ...board.axes[axis].folds.map((it) => it.slot + by)];
+    const ahead = seen.map((it) => (it - to[axis]) * by).filter((it) => it > 0n).reduce((one, two) => (one === null || two < one ? two : one), null);
+    to[axis] += by * (ahead ?? 1n);
+    board.cursor = [0, 1].map((it) => board.axes[it].in(to[it]).at ?? board.cursor[it]);
+    step([0n, 0n], 0n);
   }
 
   /** Takes up, puts down, or does what the tool does. */
@@ -60,7 +68,8 @@ export function listen(board, on) {
   board.element.addEventListener("keydown", (event) => {
     if (event.target !== board.element || event.altKey) return;
     const { key } = event, kind = key.toUpperCase();
-    if (event.ctrlKey || event.metaKey) {
+    if (STEPS[key] && (event.ctrlKey || event.metaKey)) leap(STEPS[key]);
+    else if (event.ctrlKey || event.metaKey) {
       if (kind !== "Z" && kind !== "Y") return;
       if (kind === "Y" || event.shiftKey) on.redo();
       else on.undo();

@@ -38,11 +38,12 @@ function actions(store, board, games, maps) {
   };
 }
 
-function listenToBar(store, board, on) {
+function listenToBar(store, board, games, on) {
   const click = (id, act) => find(id).addEventListener("click", act);
   click("zoom-in", () => board.zoom(1.25));
   click("zoom-out", () => board.zoom(0.8));
   click("fit", () => board.fit());
+  click("clear", () => games.isOn || store.set({ ...store.position, men: [], isCrowd: false }, "board"));
   click("undo", on.undo);
   click("redo", on.redo);
   find("folds").addEventListener("change", () => board.setFolded(find("folds").checked));
@@ -59,7 +60,8 @@ async function begin() {
   setFacts(facts);
   setShapes(facts.shapes);
   setProcessors(facts.processors);
-  find("about").textContent = `It asks ${facts.about}.`;
+  find("about").textContent = facts.about;
+  find("about").dataset.kind = facts.kind;
   const board = new Board();
   let isFirst = true;
   store.onChange((position, from) => {
@@ -76,8 +78,10 @@ async function begin() {
   const on = actions(store, board, games, maps);
   listenToPointers(board, on);
   listenToKeys(board, on);
-  listenToBar(store, board, on);
+  listenToBar(store, board, games, on);
   await pane.load(facts.examples[FIRST] || Object.values(facts.examples)[0]);
+  // For the console, and for trials of the page.
+  window.studio = { board, store };
   document.body.dataset.isReady = "yes";
 }
 

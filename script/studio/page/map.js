@@ -20,7 +20,7 @@ export class Maps {
     this.most = number(0, 20, 2, { id: "map-most" });
     this.budget = number(1, 200000, 50000, { id: "map-budget" });
     this.seconds = number(1, 86400, 20, { id: "map-seconds" });
-    this.range = ["file", "file", "rank", "rank"].map((it, at) => make("input", { type: "text", inputMode: "numeric", pattern: "0|-?[1-9][0-9]{0,18}", required: true, size: 6,
+    this.range = ["file", "file", "rank", "rank"].map((it, at) => make("input", { type: "text", inputMode: "numeric", pattern: "0|-?[1-9][0-9]{0,18}", required: true, size: 4,
       value: at % 2 ? "4" : "-4", "aria-label": `${at % 2 ? "last" : "first"} ${it}`, id: `map-${at}` }));
     this.draw = make("button", { type: "button", id: "map-draw", "aria-pressed": "false", onclick: () => this.toggle() }, "Drag a rectangle on the board");
     this.told = make("div", { "aria-live": "polite" });
@@ -29,7 +29,7 @@ export class Maps {
       event.preventDefault();
       this.ask();
     } }, make("p", { className: "hint" }, "In how few moves the winner mates, by where one man stands."), field("man", this.man),
-    make("div", { className: "bar" }, "files ", left, " to ", right, " ranks ", low, " to ", high, this.draw),
+    make("div", { className: "bar" }, make("span", { className: "together" }, "files ", left, " to ", right), make("span", { className: "together" }, "ranks ", low, " to ", high), this.draw),
     make("div", { className: "bar" }, field("moves up to", this.most), field("budget", this.budget), field("seconds a square", this.seconds),
       make("button", { className: "main", id: "map-ask" }, "Make the map")));
     find("panel-map").append(form, this.told);

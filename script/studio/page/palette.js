@@ -13,8 +13,8 @@ function icon(side, kind) {
 
 export function fill(board) {
   const bar = find("palette"), tools = [{ kind: "hand", label: "Move men and the board", sign: "✥" }];
-  for (const side of "WB") for (const kind of MEN) tools.push({ kind: "man", side, man: kind, label: `Set ${sideName(side)}'s ${kindName(kind)}` });
-  tools.push({ kind: "remove", label: "Remove men", sign: "✕" });
+  const men = (side) => [...MEN].map((kind) => ({ kind: "man", side, man: kind, label: `Set ${sideName(side)}'s ${kindName(kind)}` }));
+  tools.push(...men("W"), { kind: "remove", label: "Remove men", sign: "✕" }, ...men("B"));
   const choose = (tool) => {
     board.tool = tool;
     buttons.forEach((it, at) => {

@@ -10,13 +10,13 @@ const OVER_BUDGET = 8;
 const QUESTIONS = {
   least: { says: "In how few moves does the winner mate?", label: "up to", most: 20, usual: 3 },
   decide: { says: "Does the winner mate within N moves?", label: "N", most: 20, usual: 2 },
-  first: { says: "Which first moves mate within N moves? The nearest squares", label: "N", most: 20, usual: 2 },
-  describe: { says: "Which first moves mate within N moves? All squares", label: "N", most: 20, usual: 2 },
-  crowd: { says: "Does the winner mate within N moves? For up to 32 men", label: "N", most: 2, usual: 1, form: "crowd" },
-  checks: { says: "Does the winner mate within N moves by checks, Q of them quiet?", label: "N", most: 20, usual: 4, second: { label: "Q", most: 20, usual: 0 } },
+  first: { says: "Which first moves mate? The nearest squares", label: "N", most: 20, usual: 2 },
+  describe: { says: "Which first moves mate? All squares", label: "N", most: 20, usual: 2 },
+  crowd: { says: "Does the winner mate? For up to 32 men", label: "N", most: 2, usual: 1, form: "crowd" },
+  checks: { says: "Does he mate within N moves, all but Q of them checks?", label: "N", most: 20, usual: 4, second: { label: "Q", most: 20, usual: 0 } },
   ever: { says: "Does the winner ever mate, and in how few moves?", label: "up to", most: 99, usual: 20 },
-  table: { says: "From which squares do these men mate? A table for all of them", label: "up to", most: 99, usual: 12, form: "stock" },
-  family: { says: "For which numbers in the place of a letter is it mate within N moves?", label: "N", most: 20, usual: 1, form: "family" },
+  table: { says: "From where do these men mate? A table", label: "up to", most: 99, usual: 12, form: "stock" },
+  family: { says: "For which numbers in a letter's place is it mate?", label: "N", most: 20, usual: 1, form: "family" },
 };
 
 /** Returns the stock text of the men on the board: their sides and kinds. */
@@ -128,7 +128,7 @@ export class Questions {
       const why = position.turn === position.winner ? `No first move mates within ${moves}.` : "The loser is to move, so the winner has no first move.";
       return [make("p", { className: "answer" }, why)];
     }
-    const row = (it) => make("li", {}, `${wayOf(it, position)}: `, make("b", {}, it.words), it.distance === null ? null : button(squareName(it.nearest), () => this.board.go(it.nearest),
+    const row = (it) => make("li", {}, `${wayOf(it, position)}: `, make("b", {}, it.words), it.distance === null ? null : button(`show ${squareName(it.nearest)}`, () => this.board.go(it.nearest),
       { title: "the nearest square: show it", "aria-label": `show ${squareName(it.nearest)} on the board` }), make("code", {}, it.line));
     return [make("p", { className: "answer" }, `First moves that mate within ${moves}:`), make("ul", { className: "rays" }, ...rays.map(row)),
       button("Clear the board of rays", () => this.board.clearMarks())];

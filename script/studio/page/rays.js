@@ -58,20 +58,21 @@ export function parse(line, position) {
   const nearest = LEAST.exec(told), set = setOf(told);
   if (set) {
     const first = least(set);
-    return { ...made, distance: first, nearest: place(first), has: (it) => has(set, it), words: `${inWords(set)} ${noun(step, set)}` };
+    return { ...made, distance: first, nearest: place(first), has: (it) => has(set, it), words: distances(set) };
   }
   if (nearest && nearest[1] !== "wide") {
-    const distance = BigInt(nearest[1]), more = nearest[2] === "more" ? ", and more numbers beyond" : "";
-    return { ...made, distance, nearest: place(distance), has: (it) => it === distance, words: `${distance} ${noun(step)}${more}` };
+    const distance = BigInt(nearest[1]), more = nearest[2] === "more" ? ", and at greater ones" : "";
+    return { ...made, distance, nearest: place(distance), has: (it) => it === distance, words: `at distance ${distance}${more}` };
   }
   const words = nearest ? "squares that no number of 64 bits names" : UNKNOWN[told] || told;
   return { ...made, distance: null, nearest: start, has: () => false, words };
 }
 
-function noun(step, set) {
-  const isOne = set && set.rests.length === 0 && set.runs.length === 1 && set.runs[0][0] === 1n && set.runs[0][1] === 1n;
-  const word = isLeap(step) ? "leap" : "square";
-  return isOne ? word : `${word}s`;
+/** Returns the distances of a set in words. */
+function distances(set) {
+  if (!set.runs.length && set.rests.length === Number(set.every)) return `at every distance from ${set.from} on`;
+  const isOne = !set.rests.length && set.runs.length === 1 && set.runs[0][0] === set.runs[0][1];
+  return `at distance${isOne ? "" : "s"} ${inWords(set)}`;
 }
 
 const isLeap = ([x, y]) => Math.abs(x) + Math.abs(y) === 3;
