@@ -9,6 +9,8 @@ import time
 import urllib.error
 import urllib.request
 
+from running import Failed
+
 ELEMENT = "element-6066-11e4-a52e-4f735466cecf"
 KEYS = {"Enter": "\ue007", "Escape": "\ue00c", "Delete": "\ue017", "Left": "\ue012", "Up": "\ue013", "Right": "\ue014", "Down": "\ue015", "Tab": "\ue004", "Shift": "\ue008", "Control": "\ue009"}
 PATIENCE = 30
@@ -16,10 +18,6 @@ PATIENCE = 30
 
 class NoBrowser(Exception):
     """There is no Chromium, or no driver of it."""
-
-
-class Failed(Exception):
-    """The browser does not do what is asked, or the page is not as it has to be."""
 
 
 def free_port():

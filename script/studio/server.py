@@ -57,6 +57,8 @@ class Studio:
 class Handler(BaseHTTPRequestHandler):
     timeout = PATIENCE
     server_version, sys_version = "studio", ""
+    # Whether all of the request is read.
+    is_taken = False
 
     def do_GET(self):
         self.answer({"": self.page, "facts": self.get_facts, "files": self.get_files, "file": self.get_file})
@@ -114,15 +116,17 @@ class Handler(BaseHTTPRequestHandler):
     def asked(self, **kinds):
         """Returns fields of the question, of these kinds."""
         try:
-            found = json.loads(self.rfile.read(self.length(MOST_BODY)))
+            data = self.rfile.read(self.length(MOST_BODY))
+            self.is_taken = True
+            found = json.loads(data)
             fields = [found.get(it) for it in kinds]
+            # A lone half of a letter can be spelled in JSON, and is no text.
+            "".join(it for it in fields if type(it) is str).encode()
         except (ValueError, AttributeError, RecursionError):
             raise Refused(400, "the question is no object of JSON") from None
         for (name, kind), it in zip(kinds.items(), fields):
             if type(it) is not kind:
                 raise Refused(400, f"the field {name} is missing or of another kind")
-            if kind is str and not it.isascii():
-                raise Refused(400, f"the field {name} has a letter that is not of ASCII")
         return fields
 
     # What is handed out
@@ -278,7 +282,7 @@ class Handler(BaseHTTPRequestHandler):
             self.send_json({"why": why}, status)
             self.connection.shutdown(socket.SHUT_WR)
             self.connection.settimeout(1)
-            left = 1 << 25
+            left = 0 if self.is_taken else 1 << 25
             while left > 0 and (data := self.connection.recv(1 << 16)):
                 left -= len(data)
         except OSError:

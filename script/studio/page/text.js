@@ -3,7 +3,8 @@ import { find, make } from "./dom.js";
 import { fromServer, isCrowd, setFacts, sideName, textOf } from "./position.js";
 import { post } from "./runs.js";
 
-const PAUSE = 250;
+// The server takes questions of 16 KB.
+const PAUSE = 250, MOST_LETTERS = 8000;
 const SOUND = 0, OURS = /^\s*infin/;
 
 export class TextPane {
@@ -52,6 +53,7 @@ export class TextPane {
   /** Reads what was typed or pasted. */
   async take() {
     const typed = this.area.value;
+    if (typed.length > MOST_LETTERS) return this.refuse(0, [`A text has at most ${MOST_LETTERS} letters here.`]);
     if (!typed.trim()) return this.refuse(0, ["There is no text: write a position, or set men on the board."]);
     if (OURS.test(typed)) return this.check(true);
     const asked = ++this.asked;

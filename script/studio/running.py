@@ -1,0 +1,47 @@
+"""A running ./studio, for trials of it."""
+import os
+import signal
+import subprocess
+
+TOP = os.path.dirname(os.path.dirname(os.path.dirname(os.path.realpath(__file__))))
+
+
+class Failed(Exception):
+    """Something is not as it has to be."""
+
+
+def equal(found, due, what):
+    if found != due:
+        raise Failed(f"{what}: {found!r}, and due is {due!r}")
+
+
+def has(text, part, what):
+    if part not in text:
+        raise Failed(f"{what}: {text!r} has no {part!r}")
+
+
+class Studio:
+    """A running ./studio, started with these words."""
+
+    def __init__(self, words, top=TOP):
+        self.process = subprocess.Popen([f"{top}/studio", *words], stdout=subprocess.PIPE, stderr=subprocess.PIPE, text=True, start_new_session=True)
+        self.url = self.process.stdout.readline().strip()
+        if not self.url:
+            raise SystemExit(f"./studio gives no address: {self.process.stderr.read()}")
+        self.port, self.token = int(self.url.split(":")[2].split("/")[0]), self.url.split("/")[3]
+
+    def programs(self):
+        """Returns the processes that the server has started and that still run."""
+        found, top = set(), f"/proc/{self.process.pid}/task"
+        for task in os.listdir(top):
+            try:
+                with open(f"{top}/{task}/children", encoding="ascii") as it:
+                    found.update(it.read().split())
+            except OSError:
+                continue
+        return sorted(found)
+
+    def end(self, with_signal=signal.SIGINT):
+        """Ends it, and returns its status and what it said on standard error."""
+        self.process.send_signal(with_signal)
+        return self.process.wait(10), self.process.stderr.read()
