@@ -69,6 +69,7 @@ export class Games {
     const game = { kind, mine, count: 0, pending: null, name: null, told: null };
     this.game = game;
     this.start = position;
+    this.store.before.push(position);
     this.store.set(position, "game");
     this.list.replaceChildren();
     this.setControls(true);

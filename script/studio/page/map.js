@@ -78,7 +78,7 @@ export class Maps {
       const name = known ? NAMES[told.word] : `mate in ${told.moves}`;
       tally[name] = (tally[name] || 0) + 1;
       done += 1;
-      entry.note = `${done} of ${free.length}`;
+      entry.note = `${done} of ${free.length}, about ${Math.ceil((entry.seconds / done) * (free.length - done))} s left`;
       if (this.store.position !== position) entry.controller.abort();
       else this.board.draw();
     };

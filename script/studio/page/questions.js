@@ -46,6 +46,7 @@ export class Questions {
       event.preventDefault();
       this.ask(this.command.value, [this.number.value, ...(QUESTIONS[this.command.value].second ? [this.second.value] : [])], this.budget.value);
     });
+    store.onChange((position) => this.follow(position));
     this.choose();
   }
 
@@ -56,8 +57,12 @@ export class Questions {
     this.number.value = asked.usual;
     this.secondLine.hidden = !asked.second;
     this.ownLine.hidden = asked.form !== "family";
-    if (asked.form === "family") this.own.value = textOf(this.store.position, "family");
     this.help.textContent = this.facts.commands[this.command.value];
+  }
+
+  /** Lets the text of a family follow the board, where nothing is written into it yet. */
+  follow(position) {
+    if (this.own.value === this.prefilled || !this.own.value) this.own.value = this.prefilled = textOf(position, "family");
   }
 
   textFor(command) {
@@ -93,7 +98,7 @@ export class Questions {
     const offer = (told, ...asked) => made.push(button(told, () => this.ask(...asked)));
     if (found.code === OVER_BUDGET && Number(budget) < BUDGETS.most) offer(`Ask with the budget ${BUDGETS.most}`, command, numbers, BUDGETS.most);
     if (found.code === OVER_BUDGET || found.stopped) {
-      if (!["crowd", "table", "family"].includes(command) && moves > 0) offer(`Ask with ${moves - 1}`, command, [moves - 1, ...numbers.slice(1)], budget);
+      if (!["crowd", "table", "family"].includes(command) && moves > 0) offer(`Ask within ${moves - 1}`, command, [moves - 1, ...numbers.slice(1)], budget);
       if (["decide", "least"].includes(command)) offer("Ask crowd 1", "crowd", [1], budget);
       if (["decide", "least"].includes(command) && moves > 1) offer("Ask crowd 2", "crowd", [2], budget);
       if (command !== "ever" && "ever" in this.facts.commands && position.men.filter((it) => it.at).length <= 5) offer("Ask ever", "ever", [20], budget);

@@ -63,7 +63,7 @@ export class TextPane {
       if (refused) return this.refuse(0, [`This is no position text, and not read as ICN or FEN: ${refused}.`]);
       this.area.value = text;
       await this.check(true);
-      find("verdict").append(` Read as ${form}. `, ...told.map((it) => make("span", { className: "left-out" }, `${it} `)));
+      find("verdict").append(` Read as ${form}. `, make("span", { className: "left-out" }, told.length ? `${told.join("; ")}.` : ""));
     } catch (why) {
       if (asked === this.asked) this.refuse(0, [why.message]);
     }
