@@ -6,16 +6,19 @@ import sys
 import time
 from concurrent.futures import ThreadPoolExecutor
 
-from runs import Run
+from studio_runs import Run
 
 TOP = os.path.dirname(os.path.dirname(os.path.dirname(os.path.realpath(__file__))))
 sys.path[:0] = [f"{TOP}/explain", f"{TOP}/examples", f"{TOP}/python"]
 import explain  # noqa: E402
-import mate  # noqa: E402
 import position as chess  # noqa: E402
 try:
     from gezhumai_mate import notation as notations
+    from gezhumai_mate.ends import NoProgram
+    from gezhumai_mate.program import path as proved_program
 except ImportError:
+    # A clone that has no package for Python yet.
+    from mate import NoProgram, program as proved_program
     notations = None
 
 
@@ -90,7 +93,7 @@ class Engine(solve.Engine):
         self.runs, self.until, self.connection = runs, time.monotonic() + seconds, connection
         self.pool = ThreadPoolExecutor(1)
 
-    def end_of(self, words, text, folder=None):
+    def end_of(self, words, text, folder=None, position=None):
         self.count += 1
         return Run(self.runs, words, text, max(0, self.until - time.monotonic()), folder=folder).finish(self.connection)
 

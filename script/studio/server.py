@@ -14,7 +14,7 @@ import threading
 from http.server import BaseHTTPRequestHandler, ThreadingHTTPServer
 
 import ask
-from runs import Busy, Run, Runs, Stopped
+from studio_runs import Busy, Run, Runs, Stopped
 
 HERE = os.path.dirname(os.path.realpath(__file__))
 ADDRESS = "127.0.0.1"
@@ -334,8 +334,8 @@ def program_of(path, is_unproved):
             raise SystemExit("studio: there is no program, and it could not be built")
         return made, "unproved"
     try:
-        return ask.mate.program(), "proved"
-    except ask.mate.NoProgram:
+        return ask.proved_program(), "proved"
+    except ask.NoProgram:
         raise SystemExit("studio: there is no program, and it could not be built") from None
 
 
