@@ -94,7 +94,6 @@ class Engine(solve.Engine):
         self.pool = ThreadPoolExecutor(1)
 
     def end_of(self, words, text, folder=None, position=None):
-        self.count += 1
         return Run(self.runs, words, text, max(0, self.until - time.monotonic()), folder=folder).finish(self.connection)
 
 
