@@ -136,6 +136,8 @@ class Placed:
 
     def __exit__(self, *_):
         self.engine.pool.shutdown()
+        # ./solve keeps how each position came about, for one run of it.
+        getattr(solve, "CAME", {}).clear()
         self.runs.give_place()
 
 
