@@ -1,13 +1,12 @@
 """The server of the studio: it hands out the page's files, and what the page asks it hands to runs of the program. Nothing but the standard library."""
+import contextlib
 import hmac
 import json
 import os
 import re
 import secrets
 import shutil
-import signal
 import socket
-import subprocess
 import sys
 import tempfile
 import threading
@@ -24,10 +23,6 @@ MOST_BODY, MOST_FILE, MOST_CONNECTIONS, MOST_SECONDS, PATIENCE = 1 << 14, 1 << 2
 WORD = re.compile(r"[a-z0-9_]{1,32}")
 NAME = re.compile(r"[a-z0-9_]{1,32}")
 MOST_WORDS = 6
-ABOUT = {
-    "proved": "The program is the proved one", "unproved": "The program is built without its proofs: its answers are not proved",
-    "named": "The program was named at the start: whether it is proved is not known here",
-}
 POLICY = "default-src 'none'; script-src 'self'; style-src 'self'; img-src 'self' data: blob:; connect-src 'self'; base-uri 'none'; form-action 'none'; frame-ancestors 'none'"
 
 
@@ -42,9 +37,9 @@ class Refused(Exception):
 class Studio:
     """What all requests share: the token, the program and its runs, and the files of the page."""
 
-    def __init__(self, program, kind, folder):
+    def __init__(self, program, kind, about, folder):
         self.token, self.runs = secrets.token_urlsafe(24), Runs(program, folder)
-        self.facts = {**ask.facts(), "kind": kind, "about": ABOUT[kind], "processors": self.runs.most}
+        self.facts = {**ask.facts(), "kind": kind, "about": about, "processors": self.runs.most}
         self.files = {name: f"{HERE}/page/{name}" for name in os.listdir(f"{HERE}/page") if os.path.splitext(name)[1] in KINDS}
 
     def kept(self, name):
@@ -319,70 +314,12 @@ class Server(ThreadingHTTPServer):
         """Says nothing of a connection that broke."""
 
 
-def program_of(path, is_unproved):
-    """Returns the program that is asked, and of which kind it is."""
-    path = path or (not is_unproved and os.environ.get("MATE_PROGRAM"))
-    made = f"{ask.TOP}/out/unproved/mate"
-    if path == "unproved":
-        path, is_unproved = None, True
-    if path:
-        if not os.access(path, os.X_OK) or not os.path.isfile(path):
-            raise SystemExit(f"studio: {path} is no program")
-        return os.path.realpath(path), "unproved" if os.path.realpath(path) == os.path.realpath(made) else "named"
-    if is_unproved:
-        if subprocess.run([f"{ask.TOP}/mate", "unproved", "drill", "0", "0"], stdin=subprocess.DEVNULL, stdout=subprocess.DEVNULL).returncode:
-            raise SystemExit("studio: there is no program, and it could not be built")
-        return made, "unproved"
-    try:
-        return ask.proved_program(), "proved"
-    except ask.NoProgram:
-        raise SystemExit("studio: there is no program, and it could not be built") from None
-
-
-def words_of(words, usage):
-    """Returns the port, the path of a program or None, and whether the one without proofs is asked for."""
-    port, path, is_unproved, rest = 0, None, False, list(words)
-    while rest:
-        word = rest.pop(0)
-        if word in ("--help", "-h", "help"):
-            print(usage, end="")
-            raise SystemExit(0)
-        if word == "--unproved":
-            is_unproved = True
-        elif word == "--program" and rest:
-            path = rest.pop(0)
-        elif word == "--port" and rest and re.fullmatch("[0-9]{1,5}", rest[0]) and int(rest[0]) < 65536:
-            port = int(rest.pop(0))
-        else:
-            print(f"studio: {word} is no option, or has no good word behind it\n\n{usage}", end="", file=sys.stderr)
-            raise SystemExit(2)
-    if path and is_unproved:
-        print("studio: --unproved and --program name two programs", file=sys.stderr)
-        raise SystemExit(2)
-    return port, path, is_unproved
-
-
-def stop(*_):
-    raise KeyboardInterrupt
-
-
-def main(words, usage):
-    port, path, is_unproved = words_of(words, usage)
-    try:
-        program, kind = program_of(path, is_unproved)
-        with tempfile.TemporaryDirectory(prefix="studio-") as folder:
-            try:
-                server = Server(port)
-            except OSError as why:
-                raise SystemExit(f"studio: port {port} cannot be taken: {why.strerror}") from None
-            studio = Handler.studio = Studio(program, kind, folder)
-            signal.signal(signal.SIGTERM, stop)
-            print(f"http://{ADDRESS}:{server.server_address[1]}/{studio.token}/", flush=True)
-            print(f"studio: {ABOUT[kind]}. Ctrl-C ends.", file=sys.stderr, flush=True)
-            try:
-                server.serve_forever()
-            finally:
-                studio.runs.end_all()
-    except KeyboardInterrupt:
-        print("studio: ended", file=sys.stderr)
-    return 0
+@contextlib.contextmanager
+def prepared(server, program, kind, about):
+    """Makes what the requests share, and gives the address of the page. After the block all runs have ended."""
+    with tempfile.TemporaryDirectory(prefix="studio-") as folder:
+        studio = Handler.studio = Studio(program, kind, about, folder)
+        try:
+            yield f"http://{ADDRESS}:{server.server_address[1]}/{studio.token}/"
+        finally:
+            studio.runs.end_all()
