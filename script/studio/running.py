@@ -42,6 +42,8 @@ class Studio:
         return sorted(found)
 
     def end(self, with_signal=signal.SIGINT):
-        """Ends it, and returns its status and what it said on standard error."""
+        """Ends it, and returns its status, and what it said on standard error beside what it has to say."""
         self.process.send_signal(with_signal)
-        return self.process.wait(10), self.process.stderr.read()
+        status, lines = self.process.wait(10), self.process.stderr.read().splitlines()
+        equal(lines[-1:], ["studio: ended"], "the last line")
+        return status, [it for it in lines[:-1] if not it.endswith("Ctrl-C ends.") and it != "mate: this run is not proved"]

@@ -86,7 +86,7 @@ class Handler(BaseHTTPRequestHandler):
             self.refuse(500, f"the server fails at this request: {type(why).__name__}")
 
     def admitted(self):
-        """Returns the parts of the path behind the token, where the request is one of the page's."""
+        """Returns the parts of the path after the token, if the request is one of the page's."""
         port = self.server.server_address[1]
         hosts = [f"{it}:{port}" for it in (ADDRESS, "localhost")]
         if self.headers.get_all("Host", []) not in [[it] for it in hosts]:

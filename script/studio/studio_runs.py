@@ -67,7 +67,7 @@ class Run:
             self.close_input()
 
     def give(self, data):
-        """Hands bytes to the program, and gives it its time anew."""
+        """Hands bytes to the program, and lets its time limit begin again."""
         self.until = time.monotonic() + self.seconds
         try:
             self.process.stdin.write(data)

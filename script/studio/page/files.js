@@ -54,7 +54,7 @@ export class Files {
   }
 
   keep() {
-    return this.ask(["keep", this.moves.value, this.name.value, this.budget.value], textOf(this.store.position));
+    return this.ask(["keep", this.moves.value, this.name.value, this.budget.value], textOf(this.store.position, "chess"));
   }
 
   check(name) {

@@ -44,7 +44,7 @@ export class Games {
 
   /** Begins a game from the position of the board. */
   async begin() {
-    const { position } = this.store, text = textOf(position), budget = this.budget.value;
+    const { position } = this.store, text = textOf(position, "chess"), budget = this.budget.value;
     let moves = this.moves.value;
     this.leave();
     this.list.replaceChildren();

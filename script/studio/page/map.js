@@ -96,7 +96,7 @@ export class Maps {
 
   /** Returns the number of moves for one square, or a word where there is none. */
   async answer(position, man, at, entry) {
-    const text = textOf(withManAt(position, man, at)), words = ["least", this.most.value, this.budget.value];
+    const text = textOf(withManAt(position, man, at), "chess"), words = ["least", this.most.value, this.budget.value];
     try {
       const found = await stream("run", { words, text, seconds: Number(this.seconds.value), isLive: false }, entry);
       if (found.code === 0) return found.lines[0].startsWith("least") ? { moves: Number(found.lines[0].split(" ")[1]) } : { word: "none" };

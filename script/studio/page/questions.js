@@ -1,6 +1,6 @@
 // Questions about the position, and their answers in words and on the board.
 import { button, field, find, make, number } from "./dom.js";
-import { isCrowd, squareName, textOf } from "./position.js";
+import { afterMove, isCrowd, squareName, textOf } from "./position.js";
 import { inWords, parse, setOf, wayOf } from "./rays.js";
 import { endOf, run } from "./runs.js";
 
@@ -69,7 +69,7 @@ export class Questions {
     const { form } = QUESTIONS[command], { position } = this.store;
     if (form === "stock") return stockOf(position);
     if (form === "family") return this.own.value.endsWith("\n") ? this.own.value : `${this.own.value}\n`;
-    return textOf(position, form);
+    return textOf(position, form || "chess");
   }
 
   /** Asks, and shows the answer above the earlier ones. */
@@ -134,9 +134,16 @@ export class Questions {
       return [make("p", { className: "answer" }, why)];
     }
     const row = (it) => make("li", {}, `${wayOf(it, position)}: `, make("b", {}, it.words), it.distance === null ? null : button(`show ${squareName(it.nearest)}`, () => this.board.go(it.nearest),
-      { title: "the nearest square: show it", "aria-label": `show ${squareName(it.nearest)} on the board` }), make("code", {}, it.line));
+      { title: "the nearest square: show it", "aria-label": `show ${squareName(it.nearest)} on the board` }),
+    it.distance === null ? null : button("make the move", () => this.makeMove(position, it), { "aria-label": `make the move of man ${it.man} to ${squareName(it.nearest)}` }), make("code", {}, it.line));
     return [make("p", { className: "answer" }, `First moves that mate within ${moves}:`), make("ul", { className: "rays" }, ...rays.map(row)),
       button("Clear the board of rays", () => this.board.clearMarks())];
+  }
+
+  /** Shows the position after a first move. */
+  makeMove(position, { man, nearest }) {
+    this.store.set(afterMove(position, man, nearest), "board");
+    this.board.mark({ places: [nearest], arrows: [[position.men[man - 1].at, nearest]] });
   }
 
   familyLine(line) {

@@ -3,7 +3,7 @@ import { button, find, make, save } from "./dom.js";
 import { textOf } from "./position.js";
 import { post } from "./runs.js";
 
-const STYLES = ["fill", "stroke", "stroke-width", "stroke-dasharray", "stroke-linejoin", "stroke-linecap", "font-family", "font-size", "font-weight", "text-anchor", "opacity"];
+const STYLES = ["fill", "stroke", "stroke-width", "stroke-dasharray", "stroke-linejoin", "stroke-linecap", "font-family", "font-size", "font-weight", "text-anchor", "opacity", "paint-order"];
 const SPACE = "http://www.w3.org/2000/svg";
 // How many pixels of a PNG stand for one of the screen.
 const FINENESS = 2;

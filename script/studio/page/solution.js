@@ -29,7 +29,7 @@ export class Solutions {
     const { position } = this.store, isWinner = position.turn === position.winner, moves = Number(this.moves.value);
     const list = make("div", {}, make("p", {}, "The program computes."));
     this.tree.replaceChildren(list);
-    await this.open(list, textOf(position), moves, isWinner, 1, true);
+    await this.open(list, textOf(position, "chess"), moves, isWinner, 1, true);
   }
 
   /** Fills a branch with what the server says of its position. */
@@ -82,7 +82,7 @@ export class Solutions {
     const entry = new Entry("solution as text");
     this.text.hidden = false;
     this.text.textContent = "";
-    const body = { text: textOf(this.store.position), moves: Number(this.moves.value), budget: this.budget.value, seconds: Number(this.seconds.value),
+    const body = { text: textOf(this.store.position, "chess"), moves: Number(this.moves.value), budget: this.budget.value, seconds: Number(this.seconds.value),
       depth: Number(this.depth.value), tries: this.tries.checked };
     try {
       const found = await stream("solution", body, entry, (line) => (this.text.textContent += `${line}\n`));

@@ -34,7 +34,7 @@ export class TextPane {
     });
   }
 
-  /** Shows a text as if it were typed, without what stands behind its end. */
+  /** Shows a text as if it were typed, without what follows its line `end`. */
   load(text) {
     this.area.value = `${text.split("\nend\n")[0]}\nend\n`;
     return this.take();
