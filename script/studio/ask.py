@@ -1,4 +1,5 @@
-"""What the page asks beside runs: what a text says, why a move is not legal, the moves of a solution. The scripts of this repository answer, by the program."""
+"""What the page asks beside runs: what a text says, why a move is not legal, the moves of a solution. The scripts of this repository answer, by the
+program."""
 import importlib.machinery
 import importlib.util
 import os
@@ -6,7 +7,7 @@ import sys
 import time
 from concurrent.futures import ThreadPoolExecutor
 
-from studio_runs import Run
+from studio_runs import Busy, Run
 
 TOP = os.path.dirname(os.path.dirname(os.path.dirname(os.path.realpath(__file__))))
 sys.path[:0] = [f"{TOP}/explain", f"{TOP}/examples", f"{TOP}/python"]
@@ -32,6 +33,7 @@ def script(name):
 
 
 board, solve = script("board"), script("solve")
+NOT_ASKED = "Whether the position is sound was not asked: as many programs run as there are processors."
 
 
 def facts():
@@ -69,13 +71,17 @@ def read(runs, text, connection):
     except chess.Refused as why:
         told = f"text line {why.number} {why.why}\n"
         return {"line": why.number, "told": told, "sentences": explain.sentences(3, told, words, data)}
-    runs.take_place(5)
+    found = {"position": described(position, grammar)}
+    try:
+        runs.take_place(2)
+    except Busy:
+        return {**found, "code": None, "told": [], "sentences": [NOT_ASKED]}
     try:
         asked = board.told_at_once(data) if grammar is chess.CROWDS else data
         code, told = Run(runs, words, asked, 10).finish(connection)
     finally:
         runs.give_place()
-    found = {"position": described(position, grammar), "code": code, "told": told.splitlines()}
+    found = {**found, "code": code, "told": told.splitlines()}
     return {**found, "sentences": explain.sentences(code, told, words, data) if code else []}
 
 

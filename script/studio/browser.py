@@ -12,8 +12,13 @@ import urllib.request
 from running import Failed
 
 ELEMENT = "element-6066-11e4-a52e-4f735466cecf"
-KEYS = {"Enter": "\ue007", "Escape": "\ue00c", "Delete": "\ue017", "Left": "\ue012", "Up": "\ue013", "Right": "\ue014", "Down": "\ue015", "Tab": "\ue004", "Shift": "\ue008", "Control": "\ue009"}
-PATIENCE = 30
+KEYS = {
+    "Enter": "\ue007", "Escape": "\ue00c", "Delete": "\ue017", "Left": "\ue012", "Up": "\ue013", "Right": "\ue014", "Down": "\ue015", "Tab": "\ue004",
+    "Shift": "\ue008", "Control": "\ue009",
+}
+OPTIONS = ["--headless=new", "--no-sandbox", "--disable-gpu", "--disable-dev-shm-usage", "--window-size=1400,1000", "--hide-scrollbars"]
+# The seconds after which something has failed; a machine that is busy with proofs takes its time.
+PATIENCE = 120
 
 
 class NoBrowser(Exception):
@@ -35,7 +40,7 @@ class Browser:
         self.shots, port = shots, free_port()
         self.driver = subprocess.Popen([driver, f"--port={port}"], stdout=subprocess.DEVNULL, stderr=subprocess.DEVNULL, start_new_session=True)
         self.top = f"http://127.0.0.1:{port}"
-        options = {"binary": browser, "args": ["--headless=new", "--no-sandbox", "--disable-gpu", "--disable-dev-shm-usage", "--window-size=1400,1000", "--hide-scrollbars"]}
+        options = {"binary": browser, "args": OPTIONS}
         asked = {"browserName": "chrome", "goog:chromeOptions": options, "goog:loggingPrefs": {"browser": "ALL"}}
         until(lambda: self.is_up(), "the driver answers")
         self.session = self.ask("POST", "/session", {"capabilities": {"alwaysMatch": asked}})["sessionId"]
@@ -108,7 +113,8 @@ class Browser:
         self.drag(place, place)
 
     def wheel(self, place, amount):
-        self.do("actions", {"actions": [{"type": "wheel", "id": "wheel", "actions": [{"type": "scroll", "x": round(place[0]), "y": round(place[1]), "deltaX": 0, "deltaY": amount}]}]})
+        turned = {"type": "scroll", "x": round(place[0]), "y": round(place[1]), "deltaX": 0, "deltaY": amount}
+        self.do("actions", {"actions": [{"type": "wheel", "id": "wheel", "actions": [turned]}]})
 
     def shot(self, name):
         with open(os.path.join(self.shots, f"{name}.png"), "wb") as it:

@@ -23,7 +23,12 @@ MOST_BODY, MOST_FILE, MOST_CONNECTIONS, MOST_SECONDS, PATIENCE = 1 << 14, 1 << 2
 WORD = re.compile(r"[a-z0-9_]{1,32}")
 NAME = re.compile(r"[a-z0-9_]{1,32}")
 MOST_WORDS = 6
-POLICY = "default-src 'none'; script-src 'self'; style-src 'self'; img-src 'self' data: blob:; connect-src 'self'; base-uri 'none'; form-action 'none'; frame-ancestors 'none'"
+POLICY = ["default-src 'none'", "script-src 'self'", "style-src 'self'", "img-src 'self' data: blob:", "connect-src 'self'", "base-uri 'none'", "form-action 'none'",
+          "frame-ancestors 'none'"]
+# What each answer's head has.
+FIELDS = {"Content-Security-Policy": "; ".join(POLICY), "X-Content-Type-Options": "nosniff", "Referrer-Policy": "no-referrer", "Cache-Control": "no-store",
+          "Cross-Origin-Resource-Policy": "same-origin", "Connection": "close"}
+BUSY = b'HTTP/1.0 503 Busy\r\nContent-Type: application/json\r\nConnection: close\r\n\r\n{"why": "too many requests at a time"}'
 
 
 class Refused(Exception):
@@ -187,7 +192,10 @@ class Handler(BaseHTTPRequestHandler):
             self.head(200, "application/x-ndjson")
             self.event(run=run.name)
             for it in run.events(self.connection):
-                self.event(**({"line": it.decode("utf-8", "replace")} if isinstance(it, bytes) else {"seconds": round(it, 1), "memory": round(run.memory(), 1)}))
+                if isinstance(it, bytes):
+                    self.event(line=it.decode("utf-8", "replace"))
+                else:
+                    self.event(seconds=round(it, 1), memory=round(run.memory(), 1))
             code, told = run.process.returncode, run.told.decode("utf-8", "replace")
             self.event(code=code, sentences=ask.explain.sentences(code, told, words, bytes(run.text), runs.folder))
         except Stopped as why:
@@ -217,7 +225,8 @@ class Handler(BaseHTTPRequestHandler):
 
     def why(self):
         text, noun, number, move = self.asked(text=str, noun=str, number=int, move=list)
-        if noun not in ("reply", "move") or len(move) != 3 or not all(type(it) is str and ask.chess.NUMBER.fullmatch(it) and len(it) < 30 for it in move):
+        is_number = lambda it: type(it) is str and len(it) < 30 and ask.chess.NUMBER.fullmatch(it)
+        if noun not in ("reply", "move") or len(move) != 3 or not all(map(is_number, move)):
             raise Refused(400, "a move is a man's number and a square")
         self.send_json({"sentence": ask.why_illegal(text, noun, number, [int(it) for it in move])})
 
@@ -254,9 +263,8 @@ class Handler(BaseHTTPRequestHandler):
 
     def head(self, status, kind, length=None):
         self.send_response(status)
-        fields = {"Content-Type": kind, "Content-Security-Policy": POLICY, "X-Content-Type-Options": "nosniff", "Referrer-Policy": "no-referrer",
-                  "Cache-Control": "no-store", "Cross-Origin-Resource-Policy": "same-origin", "Connection": "close"}
-        for name, it in {**fields, **({} if length is None else {"Content-Length": length})}.items():
+        fields = {**FIELDS, "Content-Type": kind} if length is None else {**FIELDS, "Content-Type": kind, "Content-Length": length}
+        for name, it in fields.items():
             self.send_header(name, it)
         self.end_headers()
 
@@ -298,7 +306,7 @@ class Server(ThreadingHTTPServer):
         if not self.places.acquire(blocking=False):
             try:
                 request.settimeout(1)
-                request.sendall(b"HTTP/1.0 503 Busy\r\nContent-Type: application/json\r\nConnection: close\r\n\r\n{\"why\": \"too many requests at a time\"}")
+                request.sendall(BUSY)
             except OSError:
                 pass
             return self.shutdown_request(request)

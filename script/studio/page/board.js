@@ -101,7 +101,8 @@ export class Board {
 
   /** Folds what is empty: all but the squares of the men, of marks and of what was opened. */
   fold() {
-    const kept = [...this.men().map((it) => it.man.at), ...this.opened, ...this.marks.places, ...this.marks.arrows.flat(), ...this.marks.rays.map((it) => it.nearest)];
+    const { places, arrows, rays } = this.marks;
+    const kept = [...this.men().map((it) => it.man.at), ...this.opened, ...places, ...arrows.flat(), ...rays.map((it) => it.nearest)];
     if (this.hasCursor) kept.push(this.cursor);
     this.axes = [0, 1].map((it) => new Axis(kept.map((at) => at[it]), this.isFolded));
   }

@@ -14,6 +14,10 @@ export function make(tag, fields = {}, ...parts) {
   return made;
 }
 
+export const hint = (text) => make("p", { className: "hint" }, text);
+export const error = (text) => make("p", { className: "error" }, text);
+export const answer = (text) => make("p", { className: "answer" }, text);
+export const bar = (...parts) => make("div", { className: "bar" }, ...parts);
 export const button = (text, onclick, fields = {}) => make("button", { type: "button", onclick, ...fields }, text);
 
 /** Makes a field with its label before it. */

@@ -2,7 +2,10 @@
 // known words alone.
 import { isSame, letterOf, nameOf } from "./position.js";
 
+// The size of an arrow to a man who is far away, and the head of the arrow of a move.
 const BOX = [96, 26];
+const HEAD = '<defs><marker id="head" viewBox="0 0 10 10" refX="7" refY="5" markerWidth="4" markerHeight="4" orient="auto">'
+  + '<path class="head" d="M0 0L10 5L0 10z"/></marker></defs>';
 let shapes = {};
 
 export function setShapes(found) {
@@ -105,7 +108,9 @@ function names(board, columns, rows) {
   const made = [`<rect class="gutter" width="${wide}" height="${size[1]}"/><rect class="gutter" y="${size[1] - high}" width="${size[0]}" height="${high}"/>`];
   for (const y of rows.filter((it) => it.fold)) made.push(text(wide - 5, y.px + scale / 2 + 5, "⋮", 'class="name" text-anchor="end"'));
   for (const x of columns.filter((it) => it.fold)) made.push(text(x.px + scale / 2, size[1] - high + 15, "…", 'class="name" text-anchor="middle"'));
-  for (const y of rows) if (isNamed(y, 1) && y.px + scale / 2 < size[1] - high) made.push(text(wide - 5, y.px + scale / 2 + 4, short(y.at), 'class="name" text-anchor="end"'));
+  for (const y of rows.filter((it) => isNamed(it, 1) && it.px + scale / 2 < size[1] - high)) {
+    made.push(text(wide - 5, y.px + scale / 2 + 4, short(y.at), 'class="name" text-anchor="end"'));
+  }
   for (const x of columns.filter((it) => isNamed(it, 0) && it.px + scale / 2 > wide)) {
     const middle = x.px + scale / 2, told = short(x.at), y = size[1] - high;
     if (told.length * 7.5 < scale * every || high < 30) made.push(text(middle, y + 15, told, 'class="name" text-anchor="middle"'));
@@ -138,9 +143,10 @@ function farArrows(board) {
       if (found !== undefined) y = found;
     }
     taken.push([x, y]);
-    const [told, words] = distance(board, man.at);
+    const [told, words] = distance(board, man.at), size = told.length > 9 ? 10 : 12;
+    const name = text(x + BOX[0] / 2, y + 17, `${letterOf(man)}${number} ${told}`, `font-size="${size}"`);
     return `<g class="far" role="button" tabindex="0" data-go="${number}" aria-label="man ${number}, ${nameOf(man)}, is ${words}: go there">`
-      + `<rect x="${x}" y="${y}" width="${BOX[0]}" height="${BOX[1]}" rx="6"/>${text(x + BOX[0] / 2, y + 17, `${letterOf(man)}${number} ${told}`, `font-size="${told.length > 9 ? 10 : 12}"`)}</g>`;
+      + `<rect x="${x}" y="${y}" width="${BOX[0]}" height="${BOX[1]}" rx="6"/>${name}</g>`;
   }).join("");
 }
 
@@ -161,9 +167,9 @@ export function drawing(board) {
   for (const it of marks.arrows) if (!isSame(...it)) made.push(arrow(board, it));
   if (board.rectangle) {
     const [[x, y], [farX, farY]] = board.rectangle.map((it) => board.corner(it)), { scale } = board.view;
-    made.push(`<rect class="rectangle" x="${Math.min(x, farX)}" y="${Math.min(y, farY)}" width="${Math.abs(farX - x) + scale}" height="${Math.abs(farY - y) + scale}"/>`);
+    const size = [Math.abs(farX - x) + scale, Math.abs(farY - y) + scale];
+    made.push(`<rect class="rectangle" x="${Math.min(x, farX)}" y="${Math.min(y, farY)}" width="${size[0]}" height="${size[1]}"/>`);
   }
   if (board.hasCursor) made.push(cell(board, board.cursor, "cursor"));
-  return '<defs><marker id="head" viewBox="0 0 10 10" refX="7" refY="5" markerWidth="4" markerHeight="4" orient="auto"><path class="head" d="M0 0L10 5L0 10z"/></marker></defs>'
-    + made.join("") + names(board, columns, rows) + farArrows(board);
+  return HEAD + made.join("") + names(board, columns, rows) + farArrows(board);
 }

@@ -1,5 +1,5 @@
 // Strategy files: kept of the board's position, uploaded, checked, played by, and downloaded. They lie in a folder that ends with the server.
-import { button, field, find, make, number } from "./dom.js";
+import { bar, button, field, find, hint, make, number } from "./dom.js";
 import { fromServer, textOf } from "./position.js";
 import { endOf, get, put, run } from "./runs.js";
 
@@ -8,7 +8,8 @@ const MOST_BYTES = 2 ** 28;
 export class Files {
   constructor(store, games, openTab) {
     Object.assign(this, { store, games, openTab });
-    this.name = make("input", { id: "keep-name", pattern: "[a-z0-9_]{1,32}", required: true, value: "strategy", size: 14, title: "1 to 32 of the letters a to z, digits and _" });
+    const rule = { pattern: "[a-z0-9_]{1,32}", title: "1 to 32 of the letters a to z, digits and _", required: true };
+    this.name = make("input", { id: "keep-name", value: "strategy", size: 14, ...rule });
     this.moves = number(0, 20, 2, { id: "keep-moves" });
     this.budget = number(1, 200000, 50000, { id: "keep-budget" });
     this.seconds = number(1, 86400, 120, { id: "keep-seconds" });
@@ -18,8 +19,8 @@ export class Files {
     const form = make("form", { className: "fields", onsubmit: (event) => {
       event.preventDefault();
       this.keep();
-    } }, make("p", { className: "hint" }, "A strategy file has the winner's moves against every reply. Files are gone when the server ends: download what you want to keep."),
-    make("div", { className: "bar" }, field("name", this.name), field("moves", this.moves), field("budget", this.budget), field("seconds", this.seconds),
+    } }, hint("A strategy file has the winner's moves against every reply. Files are gone when the server ends: download what you want to keep."),
+    bar(field("name", this.name), field("moves", this.moves), field("budget", this.budget), field("seconds", this.seconds),
       make("button", { className: "main", id: "keep" }, "Keep")), field("upload a file", this.upload));
     find("panel-files").append(form, this.told, this.list);
     this.refresh();
@@ -36,9 +37,10 @@ export class Files {
 
   row(it) {
     const says = it.why ? it.why : `said to be mate in ${it.moves}`, link = make("a", { href: `file/${it.name}`, download: it.name }, "download");
-    const more = it.why ? [] : [button("Show", () => this.store.set(fromServer(it.position), "board"), { "aria-label": `show the position of ${it.name}` }),
-      button("Play against it", () => this.resume(it), { "aria-label": `play against ${it.name}` })];
-    return make("li", {}, make("b", {}, it.name), ` ${it.bytes} bytes, ${says} `, button("Check", () => this.check(it.name), { "aria-label": `check ${it.name}` }), ...more, link);
+    const act = (text, name, does) => button(text, does, { "aria-label": `${name} ${it.name}` });
+    const more = it.why ? [] : [act("Show", "show the position of", () => this.store.set(fromServer(it.position), "board")),
+      act("Play against it", "play against", () => this.resume(it))];
+    return make("li", {}, make("b", {}, it.name), ` ${it.bytes} bytes, ${says} `, act("Check", "check", () => this.check(it.name)), ...more, link);
   }
 
   /** Runs the program on a file, and says what it answers. */
@@ -63,7 +65,8 @@ export class Files {
 
   async resume(it) {
     this.openTab("game");
-    await this.games.play("resume", ["resume", it.name, this.budget.value], fromServer(it.position), "", it.moves).catch((why) => this.games.tell(why.message));
+    const words = ["resume", it.name, this.budget.value];
+    await this.games.play("resume", words, fromServer(it.position), "", it.moves).catch((why) => this.games.tell(why.message));
   }
 
   async send() {

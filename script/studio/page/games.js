@@ -1,5 +1,5 @@
 // Games: the user plays the loser against the winner's strategy, or the winner against the defender. A run of the program plays; moves are dragged.
-import { button, field, find, make, number } from "./dom.js";
+import { bar, button, field, find, hint, make, number } from "./dom.js";
 import { afterMove, letterOf, manOn, other, sideName, squareName, textOf } from "./position.js";
 import { endOf, post, run } from "./runs.js";
 
@@ -17,7 +17,7 @@ export class Games {
       make("option", { value: "defend" }, "the winner, against the defender"));
     this.moves = number(0, 20, 3, { id: "game-moves" });
     this.budget = number(1, 200000, 50000, { id: "game-budget" });
-    this.hint = make("p", { className: "hint" });
+    this.hint = hint("");
     this.status = make("p", { id: "game-status", role: "status", "aria-live": "assertive" });
     this.list = make("ol", { id: "game-moves-made" });
     this.quit = button("End the game", () => this.say("quit"), { disabled: true, id: "game-quit" });
@@ -25,7 +25,7 @@ export class Games {
     const form = make("form", { className: "fields", onsubmit: (event) => {
       event.preventDefault();
       this.begin();
-    } }, field("you play", this.role), make("div", { className: "bar" }, field("moves", this.moves), field("budget", this.budget),
+    } }, field("you play", this.role), bar(field("moves", this.moves), field("budget", this.budget),
       make("button", { className: "main", id: "game-begin" }, "Begin"), this.quit, this.back), this.hint);
     find("panel-game").append(form, this.status, this.list);
     store.onChange((_, from) => from !== "game" && this.leave());
@@ -53,7 +53,7 @@ export class Games {
         this.tell("The program looks for the least number of moves.");
         const found = await run(`least ${moves}`, ["least", moves, budget], text, SECONDS);
         if (found.code !== 0) return this.tell(endOf(found).join(" "));
-        if (!found.lines[0].startsWith("least ")) return this.tell(`There is no mate within ${moves} moves, so there is no game. You can play the winner against the defender.`);
+        if (!found.lines[0].startsWith("least ")) return this.tell(`There is no mate within ${moves} moves: you can play the winner against the defender.`);
         moves = found.lines[0].split(" ")[1];
       }
       if (position !== this.store.position) return this.tell("The position has changed, so the game did not begin.");
@@ -144,7 +144,8 @@ export class Games {
     this.store.set(before, "game");
     this.board.mark(marks);
     this.list.lastChild.remove();
-    const asked = { text: textOf(before, "chess"), noun: game.kind === "defend" ? "move" : "reply", number: game.count, move: [String(number), ...to.map(String)] };
+    const noun = game.kind === "defend" ? "move" : "reply";
+    const asked = { text: textOf(before, "chess"), noun, number: game.count, move: [number, ...to].map(String) };
     const { sentence } = await post("why", asked).catch((why) => ({ sentence: why.message }));
     this.tell(`Not legal. ${sentence}`);
   }

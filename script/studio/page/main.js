@@ -31,8 +31,8 @@ function actions(store, board, games, maps) {
     set: (side, kind, at) => edit((it) => withNewMan(it, side, kind, at)),
     remove: (number) => edit((it) => withoutMan(it, number)),
     rectangle: (one, other) => maps.take(one, other),
-    // A click on a square that wins moves the man there, for a look at what follows.
-    win: (number, at) => !manOn(store.position, at) && board.tell(`man ${number} wins by going to ${at.join(" ")}: drag him there to look at the position after it`),
+    // A click on a square that wins says so.
+    win: (number, at) => !manOn(store.position, at) && board.tell(`man ${number} mates in time by going to ${at.join(" ")}`),
     undo: () => games.isOn || store.undo(),
     redo: () => games.isOn || store.redo(),
   };

@@ -1,5 +1,5 @@
 // A map: within how few moves the winner mates, for each square of a rectangle that a man stands on.
-import { button, field, find, make, number } from "./dom.js";
+import { answer, bar, button, error, field, find, hint, make, number } from "./dom.js";
 import { isSame, nameOf, textOf, withManAt } from "./position.js";
 import { Entry, endOf, stream } from "./runs.js";
 
@@ -7,6 +7,8 @@ const MOST_SQUARES = 10000n;
 const SIGNS = { none: ".", over: "?", unsound: "", stopped: "~" };
 const NAMES = { none: "no mate", over: "past the budget", unsound: "not sound", stopped: "not asked" };
 const COLOURS = { none: "#8a817133", over: "#b3321b55", unsound: "#8a817111", stopped: "#00000000" };
+
+const together = (...parts) => make("span", { className: "together" }, ...parts);
 
 /** Returns the colour of a number of moves. */
 function colourOf(moves) {
@@ -20,17 +22,18 @@ export class Maps {
     this.most = number(0, 20, 2, { id: "map-most" });
     this.budget = number(1, 200000, 50000, { id: "map-budget" });
     this.seconds = number(1, 86400, 20, { id: "map-seconds" });
-    this.range = ["file", "file", "rank", "rank"].map((it, at) => make("input", { type: "text", inputMode: "numeric", pattern: "0|-?[1-9][0-9]{0,18}", required: true, size: 4,
-      value: at % 2 ? "4" : "-4", "aria-label": `${at % 2 ? "last" : "first"} ${it}`, id: `map-${at}` }));
-    this.draw = make("button", { type: "button", id: "map-draw", "aria-pressed": "false", onclick: () => this.toggle() }, "Drag a rectangle on the board");
+    const rule = { type: "text", inputMode: "numeric", pattern: "0|-?[1-9][0-9]{0,18}", required: true, size: 4 };
+    const end = (name, at) => make("input", { ...rule, value: at % 2 ? "4" : "-4", "aria-label": name, id: `map-${at}` });
+    this.range = ["first file", "last file", "first rank", "last rank"].map(end);
+    this.draw = button("Drag a rectangle on the board", () => this.toggle(), { id: "map-draw", "aria-pressed": "false" });
     this.told = make("div", { "aria-live": "polite" });
     const [left, right, low, high] = this.range;
     const form = make("form", { className: "fields", onsubmit: (event) => {
       event.preventDefault();
       this.ask();
-    } }, make("p", { className: "hint" }, "In how few moves the winner mates, by where one man stands."), field("man", this.man),
-    make("div", { className: "bar" }, make("span", { className: "together" }, "files ", left, " to ", right), make("span", { className: "together" }, "ranks ", low, " to ", high), this.draw),
-    make("div", { className: "bar" }, field("moves up to", this.most), field("budget", this.budget), field("seconds a square", this.seconds),
+    } }, hint("In how few moves the winner mates, by where one man stands."), field("man", this.man),
+    bar(together("files ", left, " to ", right), together("ranks ", low, " to ", high), this.draw),
+    bar(field("moves up to", this.most), field("budget", this.budget), field("seconds a square", this.seconds),
       make("button", { className: "main", id: "map-ask" }, "Make the map")));
     find("panel-map").append(form, this.told);
     store.onChange((position) => this.fill(position));
@@ -38,7 +41,8 @@ export class Maps {
 
   fill(position) {
     const chosen = this.man.value;
-    this.man.replaceChildren(...position.men.map((it, at) => make("option", { value: at + 1 }, `${at + 1}: ${nameOf(it)}${it.at ? ` on ${it.at.join(" ")}` : ", captured"}`)));
+    const told = (it) => `${nameOf(it)}${it.at ? ` on ${it.at.join(" ")}` : ", captured"}`;
+    this.man.replaceChildren(...position.men.map((it, at) => make("option", { value: at + 1 }, `${at + 1}: ${told(it)}`)));
     if (chosen && chosen <= position.men.length) this.man.value = chosen;
   }
 
@@ -61,7 +65,7 @@ export class Maps {
     const { position } = this.store, man = Number(this.man.value), [left, right, low, high] = this.range.map((it) => BigInt(it.value));
     const count = (right - left + 1n) * (high - low + 1n);
     if (!man || left > right || low > high || count > MOST_SQUARES) {
-      this.told.replaceChildren(make("p", { className: "error" }, man ? "The first file and rank are not greater than the last, and a map has at most 10000 squares." : "There is no man."));
+      this.told.replaceChildren(error(man ? "A map goes from a file and a rank to none that is less, and has at most 10000 squares." : "There is no man."));
       return;
     }
     const squares = [];
@@ -73,9 +77,9 @@ export class Maps {
     const one = async (at) => {
       const told = await this.answer(position, man, at, entry);
       if (told.why) refused ||= told.why;
-      const known = told.moves === undefined;
-      map.set(at.join(" "), known ? { sign: SIGNS[told.word], colour: COLOURS[told.word] } : { sign: String(told.moves), colour: colourOf(told.moves) });
-      const name = known ? NAMES[told.word] : `mate in ${told.moves}`;
+      const [sign, colour, name] = told.moves === undefined ? [SIGNS[told.word], COLOURS[told.word], NAMES[told.word]]
+        : [String(told.moves), colourOf(told.moves), `mate in ${told.moves}`];
+      map.set(at.join(" "), { sign, colour });
       tally[name] = (tally[name] || 0) + 1;
       done += 1;
       entry.note = `${done} of ${free.length}, about ${Math.ceil((entry.seconds / done) * (free.length - done))} s left`;
@@ -89,7 +93,8 @@ export class Maps {
     entry.end();
     const sorted = Object.entries(tally).sort(([one], [other]) => one.localeCompare(other, "en", { numeric: true }));
     const words = sorted.map(([name, count]) => make("li", {}, `${name}: ${count} ${count === 1 ? "square" : "squares"}`));
-    this.told.replaceChildren(make("p", { className: refused ? "error" : "answer" }, refused || `Map of man ${man}, ${nameOf(position.men[man - 1])}${entry.signal.aborted ? ", cancelled" : ""}:`),
+    const title = `Map of man ${man}, ${nameOf(position.men[man - 1])}${entry.signal.aborted ? ", cancelled" : ""}:`;
+    this.told.replaceChildren(refused ? error(refused) : answer(title),
       make("ul", {}, ...words), button("Clear the map", () => this.board.mark({ map: new Map() })));
     this.found = { position, man, map };
   }

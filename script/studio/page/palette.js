@@ -1,6 +1,6 @@
 // The tools above the board: the hand, the men that can be set, and the remover. One of them is chosen; arrow keys go from one to the next.
 import { figure } from "./draw.js";
-import { find, make } from "./dom.js";
+import { button, find, make } from "./dom.js";
 import { kindName, sideName } from "./position.js";
 
 const MEN = "KQRBNPCAZH";
@@ -25,7 +25,8 @@ export function fill(board) {
   };
   const buttons = tools.map((tool) => {
     const sign = tool.kind === "man" ? icon(tool.side, tool.man) : tool.sign;
-    return make("button", { type: "button", title: tool.label, "aria-label": tool.label, "data-tool": tool.man ? tool.side + tool.man : tool.kind, onclick: () => choose(tool) }, sign);
+    const name = tool.man ? tool.side + tool.man : tool.kind;
+    return button(sign, () => choose(tool), { title: tool.label, "aria-label": tool.label, "data-tool": name });
   });
   bar.append(...buttons);
   bar.addEventListener("keydown", (event) => {

@@ -1,11 +1,13 @@
 // Questions about the position, and their answers in words and on the board.
-import { button, field, find, make, number } from "./dom.js";
+import { answer, bar, button, error, field, find, hint, make, number } from "./dom.js";
 import { afterMove, isCrowd, squareName, textOf } from "./position.js";
 import { inWords, parse, setOf, wayOf } from "./rays.js";
 import { endOf, run } from "./runs.js";
 
 const BUDGETS = { value: 50000, most: 200000 };
 const OVER_BUDGET = 8;
+// The most men of a table.
+const MOST_OF_TABLES = 5;
 // What can be asked, where the program has the command: the question, the label of its number, the greatest and the usual one, and the form of its text.
 const QUESTIONS = {
   least: { says: "In how few moves does the winner mate?", label: "up to", most: 20, usual: 3 },
@@ -29,7 +31,8 @@ export class Questions {
   constructor(store, board, facts, loadText) {
     Object.assign(this, { store, board, facts, loadText });
     const known = Object.keys(QUESTIONS).filter((it) => it in facts.commands);
-    this.command = make("select", { id: "question", onchange: () => this.choose() }, ...known.map((it) => make("option", { value: it }, QUESTIONS[it].says)));
+    const options = known.map((it) => make("option", { value: it }, QUESTIONS[it].says));
+    this.command = make("select", { id: "question", onchange: () => this.choose() }, ...options);
     this.number = number(0, 20, 3, { id: "number" });
     this.second = number(0, 20, 0, { id: "second" });
     this.budget = number(1, BUDGETS.most, BUDGETS.value, { id: "budget" });
@@ -37,9 +40,9 @@ export class Questions {
     this.own = make("textarea", { rows: 8, spellcheck: false, id: "own-text", "aria-label": "text of the question" });
     this.numberLabel = make("span");
     this.secondLine = make("label", {}, make("span", {}, "Q "), this.second);
-    this.ownLine = make("div", {}, make("p", { className: "hint" }, "Write a or b, or sums as a+3, in the place of numbers."), this.own);
+    this.ownLine = make("div", {}, hint("Write a or b, or sums as a+3, in the place of numbers."), this.own);
     this.help = make("pre");
-    find("ask").append(field("question", this.command), make("div", { className: "bar" }, make("label", {}, this.numberLabel, " ", this.number), this.secondLine,
+    find("ask").append(field("question", this.command), bar(make("label", {}, this.numberLabel, " ", this.number), this.secondLine,
       field("budget", this.budget), field("seconds", this.seconds), make("button", { id: "ask-now", className: "main" }, "Ask")), this.ownLine,
     make("details", {}, make("summary", {}, "What this asks"), this.help));
     find("ask").addEventListener("submit", (event) => {
@@ -84,7 +87,7 @@ export class Questions {
       found = { lines: [], sentences: [why.message], code: 1 };
     }
     article.querySelector("h3").append(make("small", {}, ` budget ${budget}${found.seconds === undefined ? "" : `, ${found.seconds.toFixed(1)} s`}`));
-    if (found.code !== 0) body.replaceChildren(...endOf(found).map((it) => make("p", { className: "error" }, it)), ...this.advice(command, numbers, budget, found));
+    if (found.code !== 0) body.replaceChildren(...endOf(found).map(error), ...this.advice(command, numbers, budget, found));
     else body.replaceChildren(...this.answer(command, numbers, found.lines, position));
     const [verb, least] = (found.lines[0] || "").split(" ");
     const isAsked = found.code === 0 && command === "least" && verb === "least" && least !== "0" && position.turn === position.winner;
@@ -94,14 +97,15 @@ export class Questions {
 
   /** Returns what to try where a run had no answer: a larger budget, or another question. */
   advice(command, numbers, budget, found) {
-    const { position } = this.store, made = [], moves = Number(numbers[0]);
+    const { position } = this.store, made = [], moves = Number(numbers[0]), { commands } = this.facts;
     const offer = (told, ...asked) => made.push(button(told, () => this.ask(...asked)));
     if (found.code === OVER_BUDGET && Number(budget) < BUDGETS.most) offer(`Ask with the budget ${BUDGETS.most}`, command, numbers, BUDGETS.most);
     if (found.code === OVER_BUDGET || found.stopped) {
-      if (!["crowd", "table", "family"].includes(command) && moves > 0) offer(`Ask within ${moves - 1}`, command, [moves - 1, ...numbers.slice(1)], budget);
+      const isFewer = moves > 0 && !["crowd", "table", "family"].includes(command), isSmall = position.men.filter((it) => it.at).length <= MOST_OF_TABLES;
+      if (isFewer) offer(`Ask within ${moves - 1}`, command, [moves - 1, ...numbers.slice(1)], budget);
       if (["decide", "least"].includes(command)) offer("Ask crowd 1", "crowd", [1], budget);
       if (["decide", "least"].includes(command) && moves > 1) offer("Ask crowd 2", "crowd", [2], budget);
-      if (command !== "ever" && "ever" in this.facts.commands && position.men.filter((it) => it.at).length <= 5) offer("Ask ever", "ever", [20], budget);
+      if (command !== "ever" && "ever" in commands && isSmall) offer("Ask ever", "ever", [20], budget);
       if (command === "describe") offer("Ask for the nearest squares", "first", numbers, budget);
     }
     if (isCrowd(position) && command !== "crowd") offer("Ask as a crowd", "crowd", [Math.min(moves, 2)], budget);
@@ -112,12 +116,13 @@ export class Questions {
     if (command === "first" || command === "describe") return this.rays(numbers[0], lines, position);
     if (command === "table") return [make("p", {}, lines[0]), ...this.positions(lines.slice(1))];
     if (command === "family") return lines.slice(0, -1).map((it) => make("p", {}, this.familyLine(it)));
-    return [make("p", { className: "answer" }, this.sentence(lines[0], numbers)), ...(lines.length > 1 ? [make("pre", {}, lines.slice(1).join("\n"))] : [])];
+    return [answer(this.sentence(lines[0], numbers)), ...(lines.length > 1 ? [make("pre", {}, lines.slice(1).join("\n"))] : [])];
   }
 
   sentence(line, [moves]) {
     const [verb, count] = line.split(" "), noun = count === "1" ? "move" : "moves";
-    if (verb === "least") return count === "0" ? "least 0: it is mate." : `${line}: mate in ${count}, that is within ${count} ${noun} and not within fewer.`;
+    if (line === "least 0") return "least 0: it is mate.";
+    if (verb === "least") return `${line}: mate in ${count}, that is within ${count} ${noun} and not within fewer.`;
     if (line.startsWith("none up to")) return `${line}: no mate within ${moves} ${moves === "1" ? "move" : "moves"}.`;
     if (line === "never") return "never: the winner cannot force mate, however long he plays.";
     if (line.startsWith("mate in")) return `${line}: the winner mates within ${moves} of his moves, whatever is replied.`;
@@ -131,12 +136,13 @@ export class Questions {
     if (position === this.store.position) this.board.mark({ rays: rays.filter((it) => it.distance !== null), arrows: [] });
     if (!rays.length) {
       const why = position.turn === position.winner ? `No first move mates within ${moves}.` : "The loser is to move, so the winner has no first move.";
-      return [make("p", { className: "answer" }, why)];
+      return [answer(why)];
     }
-    const row = (it) => make("li", {}, `${wayOf(it, position)}: `, make("b", {}, it.words), it.distance === null ? null : button(`show ${squareName(it.nearest)}`, () => this.board.go(it.nearest),
-      { title: "the nearest square: show it", "aria-label": `show ${squareName(it.nearest)} on the board` }),
-    it.distance === null ? null : button("make the move", () => this.makeMove(position, it), { "aria-label": `make the move of man ${it.man} to ${squareName(it.nearest)}` }), make("code", {}, it.line));
-    return [make("p", { className: "answer" }, `First moves that mate within ${moves}:`), make("ul", { className: "rays" }, ...rays.map(row)),
+    const show = (at) => button(`show ${squareName(at)}`, () => this.board.go(at), { title: "the nearest square" });
+    const acts = (it) => (it.distance === null ? [] : [show(it.nearest),
+      button("make the move", () => this.makeMove(position, it), { "aria-label": `make the move of man ${it.man} to ${squareName(it.nearest)}` })]);
+    const row = (it) => make("li", {}, `${wayOf(it, position)}: `, make("b", {}, it.words), ...acts(it), make("code", {}, it.line));
+    return [answer(`First moves that mate within ${moves}:`), make("ul", { className: "rays" }, ...rays.map(row)),
       button("Clear the board of rays", () => this.board.clearMarks())];
   }
 
@@ -162,7 +168,8 @@ export class Questions {
       else if (name) text.push(line);
       if (name && line === "end") {
         const whole = `${text.join("\n")}\n`;
-        made.push(make("p", {}, name === "hardest" ? "A position that takes the most moves: " : "A position that is never won: ", button("show it", () => this.loadText(whole))));
+        const says = name === "hardest" ? "A position that takes the most moves: " : "A position that is never won: ";
+        made.push(make("p", {}, says, button("show it", () => this.loadText(whole))));
         [name, text] = ["", []];
       }
     }

@@ -1,9 +1,10 @@
 // What goes out: the position as text, ICN or FEN, and the board as it is seen as SVG or PNG.
-import { button, find, make, save } from "./dom.js";
+import { bar, button, find, hint, make, save } from "./dom.js";
 import { textOf } from "./position.js";
 import { post } from "./runs.js";
 
-const STYLES = ["fill", "stroke", "stroke-width", "stroke-dasharray", "stroke-linejoin", "stroke-linecap", "font-family", "font-size", "font-weight", "text-anchor", "opacity", "paint-order"];
+const STYLES = ["fill", "fill-opacity", "stroke", "stroke-opacity", "stroke-width", "stroke-dasharray", "stroke-linejoin", "stroke-linecap", "paint-order",
+  "font-family", "font-size", "font-weight", "text-anchor"];
 const SPACE = "http://www.w3.org/2000/svg";
 // How many pixels of a PNG stand for one of the screen.
 const FINENESS = 2;
@@ -14,7 +15,10 @@ function drawingOf(svg) {
   const from = svg.querySelectorAll("*"), to = made.querySelectorAll("*");
   from.forEach((it, at) => {
     const style = getComputedStyle(it);
-    for (const name of STYLES) if (!["", "none", "normal"].includes(style.getPropertyValue(name)) || name === "fill") to[at].setAttribute(name, style.getPropertyValue(name));
+    for (const name of STYLES) {
+      const value = style.getPropertyValue(name);
+      if (name === "fill" || !["", "none", "normal"].includes(value)) to[at].setAttribute(name, value);
+    }
     for (const name of ["class", "tabindex", "role"]) to[at].removeAttribute(name);
   });
   made.querySelectorAll("[data-go]").forEach((it) => it.remove());
@@ -34,7 +38,8 @@ async function pngOf({ text, width, height }) {
 
 export class Saves {
   constructor(store, board) {
-    const told = make("p", { role: "status", id: "save-told" }), shown = make("textarea", { rows: 4, readOnly: true, id: "save-text", "aria-label": "what was written" });
+    const told = make("p", { role: "status", id: "save-told" });
+    const shown = make("textarea", { rows: 4, readOnly: true, id: "save-text", "aria-label": "what was written" });
     const drawing = () => {
       board.drawNow();
       return drawingOf(board.drawing);
@@ -53,7 +58,8 @@ export class Saves {
         told.textContent = why.message;
       }
     };
-    const bar = make("div", { className: "bar" }, button("Text", () => write("position.txt", textOf(store.position)), { id: "save-position" }),
+    const copy = () => navigator.clipboard.writeText(shown.value).then(() => (told.textContent = "Copied."), () => shown.select());
+    const buttons = bar(button("Text", () => write("position.txt", textOf(store.position)), { id: "save-position" }),
       button("SVG", () => write("board.svg", drawing().text), { id: "save-svg" }),
       button("PNG", async () => {
         const png = await pngOf(drawing());
@@ -61,7 +67,8 @@ export class Saves {
         save("board.png", "image/png", png);
       }, { id: "save-png" }),
       button("ICN", () => notation("icn"), { id: "save-icn" }), button("FEN", () => notation("fen"), { id: "save-fen" }),
-      button("Copy", () => navigator.clipboard.writeText(shown.value).then(() => (told.textContent = "Copied."), () => shown.select()), { title: "copies what was written" }));
-    find("panel-save").append(make("p", { className: "hint" }, "The drawing is the board as it is seen now, with rays and maps. The solution as text is saved beside the solution."), bar, told, shown);
+      button("Copy", copy, { title: "copies what was written" }));
+    const says = "The drawing is the board as it is seen now, with rays and maps. The solution as text is saved beside the solution.";
+    find("panel-save").append(hint(says), buttons, told, shown);
   }
 }

@@ -1,5 +1,5 @@
 // The solution as a tree: the winner's moves, the replies to each, and so on. What stands below a branch is asked for when it is opened.
-import { button, field, find, make, number, save } from "./dom.js";
+import { answer, bar, button, error, field, find, hint, make, number, save } from "./dom.js";
 import { fromServer, textOf } from "./position.js";
 import { Entry, endOf, inPlace, post, stream } from "./runs.js";
 
@@ -16,9 +16,9 @@ export class Solutions {
     const form = make("form", { className: "fields", onsubmit: (event) => {
       event.preventDefault();
       this.grow();
-    } }, make("div", { className: "bar" }, field("moves up to", this.moves), field("budget", this.budget), field("seconds", this.seconds),
+    } }, bar(field("moves up to", this.moves), field("budget", this.budget), field("seconds", this.seconds),
       make("button", { className: "main", id: "solve" }, "Solve")),
-    make("div", { className: "bar" }, field("as text, depth", this.depth), make("label", {}, this.tries, " with tries"),
+    bar(field("as text, depth", this.depth), make("label", {}, this.tries, " with tries"),
       button("Solution as text", () => this.write(), { id: "solve-text" }), button("Save it", () => save("solution.txt", "text/plain", this.text.textContent))));
     find("panel-solution").append(form, this.tree, this.text);
     store.onChange((_, from) => from !== "answer" && this.tree.replaceChildren());
@@ -44,13 +44,13 @@ export class Solutions {
     }
     entry.end();
     if (found.told) {
-      list.replaceChildren(make("p", { className: "error" }, [found.told, ...(found.sentences || [])].join(": ")));
+      list.replaceChildren(error([found.told, ...(found.sentences || [])].join(": ")));
       return false;
     }
-    if (isRoot) list.replaceChildren(make("p", { className: "answer" }, found.least === null ? `No mate within ${moves}.` : isWinner ? `Mate in ${found.least}.` : `Replies, where it is mate within ${moves}:`));
-    else list.replaceChildren();
+    const title = found.least === null ? `No mate within ${moves}.` : isWinner ? `Mate in ${found.least}.` : `Replies, if it is mate within ${moves}:`;
+    list.replaceChildren(...(isRoot ? [answer(title)] : []));
     list.append(make("ul", { className: "tree" }, ...found.moves.map((it) => this.branch(it, isWinner, count))));
-    if (found.more.length) list.append(make("p", { className: "hint" }, `Not all squares were asked for: ${found.more.join(", ")} may go elsewhere.`));
+    if (found.more.length) list.append(hint(`Not all squares were asked for: ${found.more.join(", ")} may go elsewhere.`));
     return true;
   }
 
@@ -82,8 +82,8 @@ export class Solutions {
     const entry = new Entry("solution as text");
     this.text.hidden = false;
     this.text.textContent = "";
-    const body = { text: textOf(this.store.position, "chess"), moves: Number(this.moves.value), budget: this.budget.value, seconds: Number(this.seconds.value),
-      depth: Number(this.depth.value), tries: this.tries.checked };
+    const [moves, seconds, depth] = [this.moves, this.seconds, this.depth].map((it) => Number(it.value));
+    const body = { text: textOf(this.store.position, "chess"), moves, budget: this.budget.value, seconds, depth, tries: this.tries.checked };
     try {
       const found = await stream("solution", body, entry, (line) => (this.text.textContent += `${line}\n`));
       if (found.code !== 0) this.text.textContent += `${endOf(found).join(" ")}\n`;

@@ -19,7 +19,7 @@ export class TextPane {
       this.number(0);
     });
     this.area.addEventListener("scroll", () => (find("gutter").scrollTop = this.area.scrollTop));
-    for (const side of ["turn", "winner"]) find(side).addEventListener("change", () => store.set({ ...store.position, [side]: find(side).value }, "board"));
+    for (const it of ["turn", "winner"]) find(it).addEventListener("change", () => store.set({ ...store.position, [it]: find(it).value }, "board"));
     this.fillExamples(facts.examples);
     store.onChange((position, from) => this.follow(position, from));
   }
@@ -105,8 +105,8 @@ export class TextPane {
 
   /** Numbers the lines, and marks one that is refused. */
   number(refused) {
-    const count = this.area.value.split("\n").length;
-    find("gutter").replaceChildren(...Array.from({ length: count }, (_, at) => make("div", { className: at + 1 === refused ? "refused" : "" }, at + 1 === refused ? `✗ ${at + 1}` : at + 1)));
+    const row = (_, at) => (at + 1 === refused ? make("div", { className: "refused" }, `✗ ${at + 1}`) : make("div", {}, at + 1));
+    find("gutter").replaceChildren(...this.area.value.split("\n").map(row));
     find("gutter").scrollTop = this.area.scrollTop;
   }
 }
