@@ -103,15 +103,23 @@ class Engine(solve.Engine):
         return Run(self.runs, words, text, max(0, self.until - time.monotonic()), folder=folder).finish(self.connection)
 
 
+def position_of(text):
+    """Returns the position of a text; a refusal is that of the program."""
+    try:
+        return chess.read_text(text.encode())[0]
+    except chess.Refused as why:
+        raise solve.Ended(f"text line {why.number} {why.why}\n", 3, ["show"], text.encode()) from None
+
+
 def solution(engine, text, moves, depth, has_tries):
     """Yields the lines of ./solve."""
     asked = solve.Asked(moves, engine.budget, depth=depth, has_tries=has_tries)
-    yield from solve.lines_of(solve.Solution(engine, asked), chess.read_text(text.encode())[0])
+    yield from solve.lines_of(solve.Solution(engine, asked), position_of(text))
 
 
 def branches(engine, text, moves):
     """Returns what opens below a position in which the winner mates within the moves: his moves where he is to move, else the loser's replies."""
-    position, _ = chess.read_text(text.encode())
+    position = position_of(text)
     written = solve.Solution(engine, solve.Asked(moves, engine.budget)).written
     if position.turn == position.winner:
         least = engine.least(position, moves)
@@ -141,7 +149,7 @@ class Placed:
         return self.engine
 
     def __exit__(self, *_):
-        self.engine.pool.shutdown()
+        self.engine.pool.shutdown(cancel_futures=True)
         # ./solve keeps how each position came about, for one run of it.
         getattr(solve, "CAME", {}).clear()
         self.runs.give_place()

@@ -66,6 +66,8 @@ class Browser:
     def end(self):
         try:
             self.ask("DELETE", f"/session/{self.session}")
+        except OSError:
+            pass
         finally:
             self.driver.terminate()
             self.driver.wait()

@@ -41,6 +41,12 @@ class Studio:
                 continue
         return sorted(found)
 
+    def kill(self):
+        """Ends it, where it has not ended."""
+        if self.process.poll() is None:
+            self.process.kill()
+            self.process.wait()
+
     def end(self, with_signal=signal.SIGINT):
         """Ends it, and returns its status, and what it said on standard error beside what it has to say."""
         self.process.send_signal(with_signal)

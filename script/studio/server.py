@@ -57,8 +57,8 @@ class Studio:
 class Handler(BaseHTTPRequestHandler):
     timeout = PATIENCE
     server_version, sys_version = "studio", ""
-    # Whether all of the request is read.
-    is_taken = False
+    # Whether all of the request is read, and whether an answer is begun.
+    is_taken = is_begun = False
 
     def do_GET(self):
         self.answer({"": self.page, "facts": self.get_facts, "files": self.get_files, "file": self.get_file})
@@ -188,16 +188,16 @@ class Handler(BaseHTTPRequestHandler):
         seconds = self.seconds(seconds)
         runs.take_place()
         try:
-            run = Run(runs, words, text.encode(), seconds, is_live)
-            self.head(200, "application/x-ndjson")
-            self.event(run=run.name)
-            for it in run.events(self.connection):
-                if isinstance(it, bytes):
-                    self.event(line=it.decode("utf-8", "replace"))
-                else:
-                    self.event(seconds=round(it, 1), memory=round(run.memory(), 1))
-            code, told = run.process.returncode, run.told.decode("utf-8", "replace")
-            self.event(code=code, sentences=ask.explain.sentences(code, told, words, bytes(run.text), runs.folder))
+            with Run(runs, words, text.encode(), seconds, is_live) as run:
+                self.head(200, "application/x-ndjson")
+                self.event(run=run.name)
+                for it in run.events(self.connection):
+                    if isinstance(it, bytes):
+                        self.event(line=it.decode("utf-8", "replace"))
+                    else:
+                        self.event(seconds=round(it, 1), memory=round(run.memory(), 1))
+                code, told = run.process.returncode, run.told.decode("utf-8", "replace")
+                self.event(code=code, sentences=ask.explain.sentences(code, told, words, run.text, runs.folder))
         except Stopped as why:
             self.event(stopped=str(why))
         finally:
@@ -262,6 +262,7 @@ class Handler(BaseHTTPRequestHandler):
     # Writing
 
     def head(self, status, kind, length=None):
+        self.is_begun = True
         self.send_response(status)
         fields = {**FIELDS, "Content-Type": kind} if length is None else {**FIELDS, "Content-Type": kind, "Content-Length": length}
         for name, it in fields.items():
@@ -280,7 +281,9 @@ class Handler(BaseHTTPRequestHandler):
         self.wfile.flush()
 
     def refuse(self, status, why):
-        """Says why a request is refused, and takes what still comes of it, so that the answer is not lost."""
+        """Says why a request is refused, and takes what still comes of it, so that the answer is not lost. An answer that is begun ends."""
+        if self.is_begun:
+            return
         try:
             self.send_json({"why": why}, status)
             self.connection.shutdown(socket.SHUT_WR)

@@ -53,7 +53,7 @@ class Runs:
 
 
 class Run:
-    """A run of the program on a text. The place is the caller's. With is_live, lines are handed to it while it runs."""
+    """A run of the program on a text, which ends with its block. The place is the caller's. With is_live, lines are handed to it while it runs."""
 
     def __init__(self, runs, words, text, seconds, is_live=False, folder=None):
         self.runs, self.words, self.text, self.seconds = runs, words, text, seconds
@@ -89,6 +89,15 @@ class Run:
         self.process.kill()
         self.process.wait()
 
+    def __enter__(self):
+        return self
+
+    def __exit__(self, *_):
+        self.runs.live.pop(self.name, None)
+        self.end()
+        self.process.stdout.close()
+        self.close_input()
+
     def memory(self):
         """Returns how many megabytes of memory the program has now."""
         try:
@@ -98,38 +107,33 @@ class Run:
             return 0
 
     def events(self, connection):
-        """Yields the lines that the program writes, as bytes, and between them signs of life, as the seconds gone. Ends with the program, or ends it."""
+        """Yields the lines that the program writes, as bytes, and between them signs of life, as the seconds gone, until the program has ended."""
         output, rest, beat = self.process.stdout, b"", self.begun
-        try:
-            while True:
-                ready = select.select([output, connection], [], [], BEAT)[0]
-                now = time.monotonic()
-                # Nothing more is due from the page, so whatever comes is its end.
-                if connection in ready:
-                    raise Stopped("page")
-                if now > self.until:
-                    raise Stopped("time")
-                if output in ready:
-                    data = os.read(output.fileno(), 1 << 16)
-                    if not data:
-                        break
-                    self.told += data
-                    if len(self.told) > MOST_OUTPUT:
-                        raise Stopped("output")
-                    *lines, rest = (rest + data).split(b"\n")
-                    yield from lines
-                if now - beat >= BEAT:
-                    beat = now
-                    yield now - self.begun
-            self.process.wait()
-        finally:
-            self.runs.live.pop(self.name, None)
-            self.end()
-            output.close()
-            self.close_input()
+        while True:
+            ready = select.select([output, connection], [], [], BEAT)[0]
+            now = time.monotonic()
+            # Nothing more is due from the page, so whatever comes is its end.
+            if connection in ready:
+                raise Stopped("page")
+            if now > self.until:
+                raise Stopped("time")
+            if output in ready:
+                data = os.read(output.fileno(), 1 << 16)
+                if not data:
+                    break
+                self.told += data
+                if len(self.told) > MOST_OUTPUT:
+                    raise Stopped("output")
+                *lines, rest = (rest + data).split(b"\n")
+                yield from lines
+            if now - beat >= BEAT:
+                beat = now
+                yield now - self.begun
+        self.process.wait()
 
     def finish(self, connection):
         """Returns the code of the run and what it wrote."""
-        for _ in self.events(connection):
-            pass
-        return self.process.returncode, self.told.decode("utf-8", "replace")
+        with self:
+            for _ in self.events(connection):
+                pass
+            return self.process.returncode, self.told.decode("utf-8", "replace")
