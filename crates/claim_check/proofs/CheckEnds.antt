@@ -6,7 +6,8 @@ use Rattle.winning_sets.specs.Claimed.{solution_of}
 use Rattle.winning_sets.specs.Solve.{Solution}
 use Rattle.winning_sets.specs.declared.claimed.ClaimedSets.{ClaimedSets}
 use Rattle.claim_plan.specs.CheckPlan.{Finding, check_plan}
-use Rattle.claim_plan.specs.SameClaims.{AreCheckedAlike, IsSameClaim}
+use Rattle.mate_plan.specs.SameClaim.{IsSameClaim}
+use Rattle.claim_plan.specs.SameClaims.{AreCheckedAlike}
 use Rattle.claim_plan.proofs.SameClaims.{same_claims_are_checked_alike}
 use Rattle.claim_check.specs.Check.{IsCheckError, IsChecked}
 use Rattle.claim_check.specs.Ready.{claim_in}

@@ -2,7 +2,7 @@
 use Rattle.std.proofs.Common.{◌≡◌, ℕ, ◌≤◌, List, [], ◌∷◌, map, refl, sym, ap, ◌∙◌, subst, arith}
 use Rattle.rule_formula.specs.Fits.{masks_of}
 use Rattle.mate_plan.specs.Claim.{Claim, every_second, losers_plies}
-use Rattle.claim_plan.specs.SameClaims.{IsSameClaim}
+use Rattle.mate_plan.specs.SameClaim.{IsSameClaim}
 use Rattle.claim_plan.proofs.SameClaims.{same_claims_are_checked_alike}
 use Rattle.strategy_file.specs.Claims.{claim_of, set_of}
 use Rattle.strategy_file.specs.Fitting.{HasFileOf, IsFormed}

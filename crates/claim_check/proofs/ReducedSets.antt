@@ -9,7 +9,7 @@ use Rattle.track_word.specs.Word.{IsWord}
 use Rattle.track_word.specs.declared.tracks.Var.{Var}
 use Rattle.mate_plan.specs.Claim.{ClaimedSet, claimed_in}
 use Rattle.set_plan.proofs.Composition.{none_some}
-use Rattle.claim_plan.specs.SameClaims.{AreSameSets}
+use Rattle.mate_plan.specs.SameClaim.{AreSameSets}
 use Rattle.claim_check.specs.Reduced.{AreReduced, IsReducedOf}
 
 -- automata with equal tables accept the same words

@@ -9,7 +9,7 @@ use Rattle.winning_sets.specs.Solve.{IsSolveError, Solution}
 use Rattle.winning_sets.specs.declared.names.SolveError.TheVariants as solve_error
 use Rattle.winning_sets.specs.declared.origin.Origin.TheVariants as origin
 use Rattle.claim_plan.specs.CheckPlan.{check_plan}
-use Rattle.claim_plan.specs.SameClaims.{IsSameClaim}
+use Rattle.mate_plan.specs.SameClaim.{IsSameClaim}
 use Rattle.claim_check.specs.declared.error.CheckError.{CheckError}
 use Rattle.claim_check.specs.declared.error.CheckError.TheVariants as check_error
 

@@ -4,7 +4,7 @@ use Rattle.std.specs.List.{AllZip}
 use Rattle.auto_core.specs.Automaton.{Automaton}
 use Rattle.auto_core.specs.Reduced.{IsReduced}
 use Rattle.mate_plan.specs.Claim.{ClaimedSet}
-use Rattle.claim_plan.specs.SameClaims.{IsSameSet}
+use Rattle.mate_plan.specs.SameClaim.{IsSameSet}
 
 -- the same words over the same tracks, in a reduced automaton with at most as many states
 pub record IsReducedOf (a b : Automaton) : Type 0 where

@@ -2,7 +2,7 @@
 ghost use Rattle.std.specs.Prelude.{◌≡◌, ◌≤◌, ◌++◌, ◌∷◌, [], IfOk, OnOk, map, option_copied};
 ghost use Rattle.std.specs.List.{AllZip};
 ghost use Rattle.mate_plan.specs.Claim.{claimed_at};
-ghost use Rattle.claim_plan.specs.SameClaims.{IsSameClaim};
+ghost use Rattle.mate_plan.specs.SameClaim.{IsSameClaim};
 ghost use Rattle.strategy_file.specs.ClaimedAutos.{automaton_in};
 ghost use Rattle.strategy_file.specs.Claims.{claim_of, set_of};
 ghost use Rattle.strategy_file.specs.Fitting.{HasFileOf};

@@ -25,7 +25,7 @@ use Rattle.mate_plan.specs.Turns.{plies_before_turn}
 use Rattle.mate_plan.proofs.PlanOnce.{bear-same, difference-alike, map-items, point_level-alike, pre-same, reach_level-alike, union-alike}
 use Rattle.mate_plan.specs.Claim.{Claim, ClaimedSet, claimed_at, claimed_in, claimed_level, losers_plies}
 use Rattle.claim_plan.specs.CheckPlan.{Finding, and_then, check_first, check_left, check_move, check_moving, check_plan, check_ply, check_replies, check_set, check_sets, check_sign, check_stale, check_waiting, for_each, go_on, holds_by, failed_rule, rule_at}
-use Rattle.claim_plan.specs.SameClaims.{AreSameSets}
+use Rattle.mate_plan.specs.SameClaim.{AreSameSets}
 use Rattle.claim_plan.specs.declared.names.RuleAt.{RuleAt}
 use Rattle.claim_plan.specs.declared.names.Rule.TheVariants as rule
 use Rattle.claim_plan.proofs.SameSets.{SameSets-claimed, decides-same}

@@ -20,7 +20,7 @@ use Rattle.claim_plan.specs.declared.names.Rule.TheVariants as rule
 use Rattle.winning_sets.proofs.ClaimedLemmas.{claimed_there}
 use Rattle.claim_plan.proofs.Findings.{AllHold, Checks, all_append, all_at, all_in, all_of, and_then-checks, failing_none, for_each-checks, none_failing}
 use Rattle.claim_plan.proofs.FirstRule.{first-checks}
-use Rattle.claim_plan.proofs.PlaceLemmas.{plies-have}
+use Rattle.mate_plan.proofs.ClaimPlies.{plies-have}
 use Rattle.claim_plan.proofs.ReplyRules.{replied_fits, replies-checks}
 use Rattle.claim_plan.proofs.SetRules.{claimed-checks}
 

@@ -15,7 +15,8 @@ use Rattle.mate_plan.specs.Won.{Won}
 use Rattle.mate_plan.specs.declared.names.PartName.{PartName}
 use Rattle.claim_plan.specs.CheckLaws.{CheckEndsOnce}
 use Rattle.claim_plan.specs.CheckPlan.{Finding, check_plan}
-use Rattle.claim_plan.specs.SameClaims.{AreCheckedAlike, AreSameSets, IsSameClaim, IsSameSet, SameClaimsAreCheckedAlike}
+use Rattle.mate_plan.specs.SameClaim.{AreSameSets, IsSameClaim, IsSameSet}
+use Rattle.claim_plan.specs.SameClaims.{AreCheckedAlike, SameClaimsAreCheckedAlike}
 use Rattle.claim_plan.proofs.CheckAlike.{Same, check_plan-alike}
 use Rattle.claim_plan.proofs.KeptClaims.{won_same}
 use Rattle.claim_plan.proofs.SameSets.{AreSameSets-back, AreSameSets-self, decides-same, some_same}

@@ -8,7 +8,7 @@ use Rattle.auto_core.specs.Integers.{DecidesIntegers, IsAccepted}
 use Rattle.auto_reduce.proofs.Stables.{DecidesIntegers-words}
 use Rattle.lin_formula.specs.SetOf.{as_set}
 use Rattle.set_plan.specs.Same.{SameSets}
-use Rattle.claim_plan.specs.SameClaims.{AreSameSets, IsSameSet}
+use Rattle.mate_plan.specs.SameClaim.{AreSameSets, IsSameSet}
 
 pub IsSameSet-self : (a : Automaton) → IsSameSet a a
 IsSameSet-self a = record { tracks = refl; words = record { same = λ word is. (λ h. h, λ h. h) } }

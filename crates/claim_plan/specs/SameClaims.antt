@@ -1,33 +1,13 @@
--- Claims whose sets have different tables and the same words.
-use Rattle.std.specs.Prelude.{◌≡◌, ◌↔◌, ℕ, Option, Some, None}
-use Rattle.auto_core.specs.Automaton.{Automaton}
-use Rattle.auto_reduce.specs.Tables.{AcceptSameWords}
+-- The same claims are checked alike.
+use Rattle.std.specs.Prelude.{◌↔◌, ℕ}
 use Rattle.game_rules.specs.Game.{Position}
 use Rattle.set_plan.specs.Outcome.{Ends, Stops}
 use Rattle.set_plan.specs.declared.stop.PartStep.{PartStep}
-use Rattle.mate_plan.specs.Claim.{Claim, IsClaim, IsClaimed, claimed_at}
+use Rattle.mate_plan.specs.Claim.{Claim, IsClaim, IsClaimed}
+use Rattle.mate_plan.specs.SameClaim.{IsSameClaim}
 use Rattle.mate_plan.specs.Won.{Won}
 use Rattle.mate_plan.specs.declared.names.PartName.{PartName}
 use Rattle.claim_plan.specs.CheckPlan.{Finding, check_plan}
-
--- the same words over the same tracks
-pub record IsSameSet (a b : Automaton) : Type 0 where
-  pub tracks : a.tracks ≡ b.tracks
-  pub words : AcceptSameWords a b
-
--- both sets exist and are the same, or neither exists
-abbrev pub AreSameSets : Option Automaton → Option Automaton → Type 0
-AreSameSets None None = Unit {0}
-AreSameSets None (Some b) = ⊥
-AreSameSets (Some a) None = ⊥
-AreSameSets (Some a) (Some b) = IsSameSet a b
-
--- the same sets are claimed of the same position, for the same winner and number of moves
-pub record IsSameClaim (c d : Claim) : Type 0 where
-  pub position : c.position ≡ d.position
-  pub winner : c.winner ≡ d.winner
-  pub moves : c.moves ≡ d.moves
-  pub sets : (ply mask : ℕ) → AreSameSets (claimed_at c ply mask) (claimed_at d ply mask)
 
 -- the same positions are claimed; both or neither are claims; both or neither are won; within each budget both plans
 -- have the same ends and stop at the same steps

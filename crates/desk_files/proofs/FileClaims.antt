@@ -4,7 +4,8 @@ use Rattle.std.specs.FinMap as files_map
 use Rattle.claim_plan.proofs.SameClaims.{same_claims_are_checked_alike}
 use Rattle.auto_core.specs.Automaton.{Automaton}
 use Rattle.track_word.specs.Word.{IsWord}
-use Rattle.claim_plan.specs.SameClaims.{AreCheckedAlike, AreSameSets, IsSameClaim, IsSameSet}
+use Rattle.mate_plan.specs.SameClaim.{AreSameSets, IsSameClaim, IsSameSet}
+use Rattle.claim_plan.specs.SameClaims.{AreCheckedAlike}
 use Rattle.desk_base.specs.Faults.{HasRisen}
 use Rattle.desk_base.specs.Files.{Files, Go}
 use Rattle.mate_plan.specs.Claim.{Claim, claimed_at}

@@ -5,7 +5,7 @@ use Rattle.std.specs.FinMap as map
 use Rattle.std.specs.declared.alloc.Global.{Global}
 use Rattle.claim_check.specs.Check.{IsChecked}
 use Rattle.claim_plan.specs.CheckPlan.{check_plan}
-use Rattle.claim_plan.specs.SameClaims.{IsSameClaim}
+use Rattle.mate_plan.specs.SameClaim.{IsSameClaim}
 use Rattle.claim_plan.specs.declared.names.RuleAt.{RuleAt}
 use Rattle.desk_base.specs.Files.{Files}
 use Rattle.mate_plan.specs.Claim.{Claim, IsClaim}

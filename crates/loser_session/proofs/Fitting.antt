@@ -29,7 +29,7 @@ use Rattle.winning_sets.specs.Kept.{Kept}
 use Rattle.winning_sets.specs.PlanMeans.{IsDecided, IsLevelOf}
 use Rattle.winning_sets.specs.Reach.{Reach}
 use Rattle.winning_sets.specs.Solve.{AreSets, HasTuplesOf, IsSolution, IsWithin, Sets, Solution, end_of, kept_at, reach_at}
-use Rattle.winning_sets.proofs.Empties.{tracks_ascend}
+use Rattle.mate_plan.proofs.MaskTracks.{tracks_ascend}
 use Rattle.winning_sets.proofs.KeptParts.{two_steps}
 use Rattle.winning_sets.proofs.KeptBounds.{level-of}
 use Rattle.winning_sets.proofs.KeptPlan.{AllReached, IsKept, IsReached, fits_reached, forward-reached, kept-last, kept-next}

@@ -34,7 +34,7 @@ use Rattle.winner_session.proofs.Held.{losers_ply}
 use Rattle.winning_sets.specs.Kept.{Kept, moves_left}
 use Rattle.winning_sets.specs.Reach.{Reach}
 use Rattle.winning_sets.specs.Solve.{AreReached, AreReachedTo, HasTuplesOf, IsSetAt, IsSolution, IsTupleOf, IsWithin, Solution, end_of, kept_at, reach_at}
-use Rattle.winning_sets.proofs.Empties.{tracks_ascend}
+use Rattle.mate_plan.proofs.MaskTracks.{tracks_ascend}
 use Rattle.winning_sets.proofs.KeptParts.{kept_end, turn-reach, value_win, won_turn}
 use Rattle.winning_sets.proofs.KeptPlan.{fits_reached}
 use Rattle.winning_sets.proofs.MeaningLaws.{keeps_kept, mean, some_point}

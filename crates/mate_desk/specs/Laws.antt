@@ -25,7 +25,7 @@ use Rattle.winning_sets.specs.declared.names.StepName.{StepName}
 use Rattle.desk_crowd.specs.Crowd.{ExceedsPlan, crowd_texts, step_line as crowd_line}
 use Rattle.desk_solve.specs.Decide.{IsExact}
 use Rattle.claim_plan.specs.CheckPlan.{check_plan}
-use Rattle.claim_plan.specs.SameClaims.{IsSameClaim}
+use Rattle.mate_plan.specs.SameClaim.{IsSameClaim}
 use Rattle.strategy_file.specs.Claims.{claim_with}
 use Rattle.strategy_file.specs.StrategyFile.{Charts}
 use Rattle.winning_sets.specs.Solve.{IsSolveError}

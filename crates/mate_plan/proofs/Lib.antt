@@ -20,3 +20,5 @@ pub mod PlanOnce
 pub mod FirstMoves
 pub mod Taken
 pub mod TurnLemmas
+pub mod MaskTracks
+pub mod ClaimPlies

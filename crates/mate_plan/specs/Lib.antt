@@ -26,4 +26,5 @@ pub mod Named
 pub mod Questions
 pub mod Once
 pub mod Claim
+pub mod SameClaim
 pub mod Won

@@ -13,7 +13,7 @@ use Rattle.mate_plan.specs.PlanOf.{last_ply}
 use Rattle.mate_plan.specs.Claim.{IsLosersPly, every_second, losers_plies}
 use Rattle.mate_plan.specs.Turns.{plies_before_turn}
 use Rattle.mate_plan.proofs.TurnLemmas.{waits_sum}
-use Rattle.claim_plan.proofs.PlaceLemmas.{plies-have}
+use Rattle.mate_plan.proofs.ClaimPlies.{plies-have}
 use Rattle.strategy_file.specs.StrategyFile.{places_of}
 
 -- ---- every second ply

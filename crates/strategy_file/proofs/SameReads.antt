@@ -3,7 +3,7 @@ use Rattle.std.proofs.Common.{◌↔◌, ℕ, Bool, true, false, ◌&&◌, ◌==
 use Rattle.std.specs.Prelude.{if◌then◌else◌}
 use Rattle.auto_core.specs.Automaton.{Automaton, Accepts}
 use Rattle.mate_plan.specs.Claim.{ClaimedSet, claimed_in}
-use Rattle.claim_plan.specs.SameClaims.{AreSameSets, IsSameSet}
+use Rattle.mate_plan.specs.SameClaim.{AreSameSets, IsSameSet}
 use Rattle.strategy_file.specs.Claims.{set_with}
 use Rattle.strategy_file.specs.Laws.{ReadIsSame}
 use Rattle.strategy_file.specs.StrategyFile.{chart_of}

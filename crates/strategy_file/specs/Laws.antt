@@ -3,7 +3,7 @@ use Rattle.std.specs.Prelude.{◌≡◌, ℕ, List, Result}
 use Rattle.strategy_file.specs.Layout.{Refusal}
 use Rattle.strategy_file.specs.StrategyFile.{Charts, File, charts_of}
 use Rattle.mate_plan.specs.Claim.{Claim, IsClaim}
-use Rattle.claim_plan.specs.SameClaims.{IsSameClaim}
+use Rattle.mate_plan.specs.SameClaim.{IsSameClaim}
 use Rattle.strategy_file.specs.Claims.{claim_with}
 use Rattle.strategy_file.specs.Fitting.{HasFile}
 use Rattle.strategy_file.specs.declared.version.Version.{Version}

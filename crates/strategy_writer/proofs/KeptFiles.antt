@@ -16,7 +16,7 @@ use Rattle.rule_formula.specs.Mean.{mask_tracks}
 use Rattle.mate_plan.specs.Claim.{Claim, ClaimedSet, IsClaim}
 use Rattle.winning_sets.specs.Kept.{Kept}
 use Rattle.winning_sets.specs.Solve.{HasTuplesOf, IsSolution, IsTupleOf, Solution}
-use Rattle.claim_plan.specs.SameClaims.{IsSameSet}
+use Rattle.mate_plan.specs.SameClaim.{IsSameSet}
 use Rattle.claim_plan.specs.WonLaws.{IsOfKept}
 use Rattle.claim_plan.proofs.CheckLaws.{kept_claim_is_won}
 use Rattle.claim_plan.proofs.SameClaims.{same_claims_are_checked_alike}

@@ -9,7 +9,7 @@ use Rattle.auto_reduce.specs.Tables.{AcceptSameWords}
 use Rattle.game_rules.specs.Game.{Position}
 use Rattle.rule_formula.specs.Mean.{mask_tracks}
 use Rattle.mate_plan.specs.Claim.{Claim, ClaimedSet, claimed_in}
-use Rattle.claim_plan.specs.SameClaims.{AreSameSets, IsSameSet}
+use Rattle.mate_plan.specs.SameClaim.{AreSameSets, IsSameSet}
 use Rattle.strategy_file.specs.Claims.{set_with}
 use Rattle.strategy_file.specs.Fitting.{HasFileOf, IsFormed}
 use Rattle.strategy_writer.specs.Laws.{OneWritten, WrittenIsSame}

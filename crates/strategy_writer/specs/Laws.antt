@@ -5,7 +5,7 @@ use Rattle.game_rules.specs.declared.men.Side.{Side}
 use Rattle.strategy_file.specs.StrategyFile.{Charts, File, charts_of}
 use Rattle.mate_plan.specs.Claim.{Claim}
 use Rattle.winning_sets.specs.Solve.{IsSolution, Solution}
-use Rattle.claim_plan.specs.SameClaims.{IsSameClaim}
+use Rattle.mate_plan.specs.SameClaim.{IsSameClaim}
 use Rattle.strategy_file.specs.Claims.{claim_with}
 use Rattle.strategy_file.specs.Fitting.{HasFile, HasFileOf}
 use Rattle.strategy_writer.specs.KeptFile.{HasLargeKeptSet, IsKeptFile, IsKeptTooLarge, IsReadAsWon}

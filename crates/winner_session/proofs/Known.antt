@@ -13,7 +13,7 @@ use Rattle.mask_sets.specs.Stock.{mask_of}
 use Rattle.mask_sets.specs.Tuple.{tuple_of}
 use Rattle.set_plan.proofs.Tables.{table_decided}
 use Rattle.winning_sets.specs.Claimed.{IsHeld}
-use Rattle.winning_sets.proofs.Empties.{tracks_ascend}
+use Rattle.mate_plan.proofs.MaskTracks.{tracks_ascend}
 use Rattle.winning_sets.proofs.ValidLemmas.{valid_formed}
 use Rattle.move_choice.specs.declared.choice.Choice.{Choice}
 use Rattle.move_choice.proofs.Picking.{some_pick}

@@ -4,7 +4,7 @@ use Rattle.track_word.specs.declared.tracks.Var.{Var}
 use Rattle.track_word.specs.Tracks.{IsAscending}
 use Rattle.auto_core.specs.Automaton.{Automaton}
 use Rattle.winning_sets.specs.Lent.{AreEmpties, IsEmptyOn}
-use Rattle.winning_sets.proofs.Empties.{tracks_ascend, tracks_few}
+use Rattle.mate_plan.proofs.MaskTracks.{tracks_ascend, tracks_few}
 use Rattle.winning_sets.proofs.LentLemmas.{empties_more}
 use Rattle.winning_sets.proofs.lent.empty_sets.Goals as goal
 

@@ -1,4 +1,4 @@
--- The plies, the masks and the pairs of men of a plan. Crates above cite these lemmas.
+-- The plies of the loser in a claim. Crates above cite these lemmas.
 use Rattle.std.proofs.Common.{◌≡◌, ℕ, zero, suc, ◌+◌, ◌-◌, ◌*◌, ◌<◌, subst, arith}
 use Rattle.std.specs.Prelude.{Contains}
 use Rattle.game_rules.specs.Game.{Position, other}
