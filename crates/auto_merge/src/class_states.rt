@@ -1,7 +1,5 @@
 //! The automaton over classes of places whose rows lead to the same classes.
-ghost use Rattle.std.specs.Prelude.{◌≡◌, ◌<◌, ◌≤◌, Err, length, IfOk, OnOk};
-ghost use Rattle.auto_core.specs.Reduced.{AllReached};
-ghost use Rattle.auto_core.specs.Words.{HasSameWords};
+ghost use Rattle.std.specs.Prelude.{◌≡◌, ◌<◌, Err, length, IfOk, OnOk};
 ghost use Rattle.auto_walk.specs.Walker.{MoreThan};
 ghost use Rattle.auto_merge.specs.Merging.{IsMerging, Keeps, IsKnownClassIn};
 ghost use Rattle.auto_merge.specs.Walk.{IsTrailIn};
@@ -12,9 +10,7 @@ use crate::merging::{Merging, into_diagrams, no_classes};
 use crate::rows::RowSource;
 use crate::visits::spot_key;
 use crate::walk::{Trail, class_from, no_trail};
-use auto_compact::compact;
 use auto_core::Auto;
-use auto_reduce::reduce;
 use auto_walk::Grown;
 use letter_diagram::Node;
 use std::alloc::{AllocError, Global};
@@ -108,16 +104,18 @@ fn class_flags<R: RowSource>(
 
 /// An automaton over classes.
 #[derive(Drop)]
-struct Once {
-    auto: Auto,
+pub struct Once {
+    pub auto: Auto,
     /// Whether a path through other places led back to a place, so that some equivalent places may have different classes.
-    is_looped: bool,
+    pub is_looped: bool,
     /// Whether at most half of the places remained, so that the table may have many unreachable nodes.
-    is_halved: bool,
+    pub is_halved: bool,
 }
 
-/// Returns the automaton over the classes of all places that rows reach.
-fn merged<R: RowSource>(alloc: Global, rows: &R) -> Result<Once, Grown>
+/// Returns the automaton over the classes of all places that rows reach. Places with one flag whose rows lead to the same states, or
+/// each to itself where the other leads to itself, are merged. Costs the spots of the rows, a second time those that lead to their
+/// own place. Errors: `Over` if words reach more places than the limit, `Memory` if an allocation fails.
+pub fn merge_places<R: RowSource>(alloc: Global, rows: &R) -> Result<Once, Grown>
     ensures ok { IfOk result (λ once. IsMerged (R.graph rows.now) once.auto) }
     ensures over { result ≡ Err Grown.Over → MoreThan (R.graph rows.now).walker (R.graph rows.now).most }
 {
@@ -134,36 +132,4 @@ fn merged<R: RowSource>(alloc: Global, rows: &R) -> Result<Once, Grown>
         is_looped,
         is_halved,
     })
-}
-
-/// Minimizes the automaton if equivalent states may remain, and removes unreachable nodes if they are many.
-fn settled(alloc: Global, once: Once) -> Result<Auto, AllocError>
-    ensures tracks { IfOk result (λ m. m.tracks ≡ once.auto.tracks) }
-    ensures words { IfOk result (HasSameWords once.auto) }
-    ensures fewer { IfOk result (λ m. length m.accept ≤ length once.auto.accept) }
-    ensures reached { IfOk result (λ m. AllReached once.auto → AllReached m) }
-{
-    if once.is_looped {
-        let m = reduce(alloc, &once.auto)?;
-        return Ok(m);
-    }
-    if once.is_halved {
-        let m = compact(alloc, once.auto)?;
-        return Ok(m);
-    }
-    Ok(once.auto)
-}
-
-/// Returns an automaton of the words that reach accepting places, with at most as many states as places that words reach. Places
-/// with one flag whose rows lead to the same states, or each to itself where the other leads to itself, are merged.
-/// If a path through other places leads back to a place, the result is minimized. Costs the spots of the rows, a second time those
-/// that lead to their own place, and the minimization. Errors: `Over` if words reach more places than the limit, `Memory` if an
-/// allocation fails.
-pub fn merge_rows<R: RowSource>(alloc: Global, rows: &R) -> Result<Auto, Grown>
-    ensures ok { IfOk result (IsMerged (R.graph rows.now)) }
-    ensures over { result ≡ Err Grown.Over → MoreThan (R.graph rows.now).walker (R.graph rows.now).most }
-{
-    let once = merged(alloc, rows)?;
-    let m = settled(alloc, once)?;
-    Ok(m)
 }

@@ -1,6 +1,6 @@
 //! Merges equivalent states in one pass over the rows: states with equal successor classes.
-//! If cycles through several states remain, the result is minimized. The rows are those of an automaton, or of any source that maps
-//! letters to places; places are merged as they are discovered.
+//! The rows are those of an automaton, or of any source that maps letters to places; places are merged as they are discovered.
+//! `auto_minimize` minimizes the result if cycles through several states remain.
 //! `rows` defines sources of rows, and `keys` rows mapped to classes. `merging` assigns classes by keys, and `joining` decides
 //! which may be shared. `visits` maps rows, and visits places without a class in nested visits; `walk` continues iteratively if the
 //! nesting is too deep. `class_states` builds the automaton over the classes, and `state_rows` has the rows of an automaton.
@@ -9,13 +9,12 @@
 mod class_states;
 mod joining;
 mod keys;
-mod merge_states;
 mod merging;
 mod rows;
 mod state_rows;
 mod visits;
 mod walk;
 
-pub use class_states::merge_rows;
-pub use merge_states::merge;
+pub use class_states::{Once, merge_places};
 pub use rows::{Key, Look, RowSource};
+pub use state_rows::AutomatonRows;

@@ -1,4 +1,3 @@
 mod PairSpots
 mod NumberedPairs
 mod KeyMemos
-mod MergedPairs

@@ -18,8 +18,7 @@ ghost use Rattle.formula_auto.specs.Nodes.{DecidesAmong, DecidesNot, DecidesEx, 
 use auto_bool::{Connective, not};
 use auto_compact::renamed;
 use auto_core::Auto;
-use auto_merge::merge;
-use auto_merged_product::merged_product_within;
+use auto_minimize::{merge, merged_product_within};
 use auto_project::forget_within;
 use auto_reduce::reduce;
 use auto_walk::Grown;

@@ -7,7 +7,7 @@ ghost use Rattle.set_plan.specs.Unite.{difference as difference_of, either as ei
 
 use auto_bool::{Connective, difference, join, operand_by};
 use auto_core::Auto;
-use auto_merged_product::merged_product_within;
+use auto_minimize::merged_product_within;
 use auto_reduce::reduce;
 use auto_walk::Grown;
 use limits::Budget;

@@ -11,7 +11,7 @@ ghost use Rattle.shift_image.specs.LeftOut.{IsDifference, IsLeftOver, AreLeftInT
 use crate::tuples::Tuples;
 use auto_bool::Connective;
 use auto_core::Auto;
-use auto_merged_product::merged_product_within;
+use auto_minimize::merged_product_within;
 use auto_walk::Grown;
 use formula_auto::{CompileError, Memo, SetTable};
 use limits::{Budget, MOST_TRACKS};

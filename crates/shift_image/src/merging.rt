@@ -4,7 +4,7 @@ ghost use Rattle.formula_auto.specs.Compiled.{IsAccessible};
 ghost use Rattle.formula_auto.specs.Nodes.{AcceptSame};
 
 use auto_core::Auto;
-use auto_merge::merge;
+use auto_minimize::merge;
 use std::alloc::{AllocError, Global};
 
 /// Returns the automaton of the same words with states merged in one pass. Errors: an allocation failed.

@@ -1,6 +1,6 @@
 use Rattle.std.proofs.Common.{arith, ◌∙◌, length, subst, sym}
 use Rattle.track_word.specs.Word.{IsWord}
-use Rattle.auto_merge.proofs.class_states.merge_rows.Goals as goal
+use Rattle.auto_minimize.proofs.settling.merge_rows.Goals as goal
 
 pub returns-clause-ok : goal.returns-clause-ok
 returns-clause-ok g c =

@@ -7,8 +7,8 @@ use Rattle.auto_bool.specs.Absorbed.{absorbing_walker}
 use Rattle.auto_bool.proofs.AbsorbedPairs.{walker-nothing, AreSinks-nothing}
 use Rattle.auto_bool.proofs.PairLemmas.{walker-same}
 use Rattle.auto_bool.proofs.Spreads.{BothSpreadExceeds-from, MoreThan-from_spread}
-use Rattle.auto_merged_product.proofs.MergedPairs.{IsProduct-merged, MoreThan-same, OnOk-from}
-use Rattle.auto_merged_product.proofs.merged.exact_product.Goals as goal
+use Rattle.auto_minimize.proofs.MergedPairs.{IsProduct-merged, MoreThan-same, OnOk-from}
+use Rattle.auto_minimize.proofs.merged.exact_product.Goals as goal
 
 -- the walk is one over the pairs of states
 same_walker : (c : goal.After-drop-rows-4)

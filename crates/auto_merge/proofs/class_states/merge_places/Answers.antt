@@ -2,7 +2,7 @@ use Rattle.std.proofs.Common.{rules, ◌≡◌}
 use Rattle.auto_walk.proofs.WalkWords.{is_dense}
 use Rattle.auto_merge.proofs.ClassStates.{AreRows-classes}
 use Rattle.auto_merge.proofs.Flags.{IsRowTo-settled, AreMade-merging, IsMerged-merging}
-use Rattle.auto_merge.proofs.class_states.merged.Goals as goal
+use Rattle.auto_merge.proofs.class_states.merge_places.Goals as goal
 
 pub from_diagrams-requires : goal.from_diagrams-requires
 from_diagrams-requires g c =

@@ -4,9 +4,9 @@ ghost use Rattle.auto_core.specs.Automaton.{IsAutomaton};
 ghost use Rattle.auto_core.specs.Reduced.{AllReached};
 ghost use Rattle.auto_core.specs.Words.{HasSameWords};
 
-use crate::class_states::merge_rows;
-use crate::state_rows::AutomatonRows;
+use crate::settling::merge_rows;
 use auto_core::Auto;
+use auto_merge::AutomatonRows;
 use auto_walk::Grown;
 use std::alloc::{AllocError, Global};
 

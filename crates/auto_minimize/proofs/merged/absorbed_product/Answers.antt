@@ -1,7 +1,7 @@
 use Rattle.std.proofs.Common.{subst, length, ◌≤◌}
 use Rattle.auto_bool.proofs.PairLemmas.{walker-same}
-use Rattle.auto_merged_product.proofs.MergedPairs.{IsProduct-merged}
-use Rattle.auto_merged_product.proofs.merged.absorbed_product.Goals as goal
+use Rattle.auto_minimize.proofs.MergedPairs.{IsProduct-merged}
+use Rattle.auto_minimize.proofs.merged.absorbed_product.Goals as goal
 
 pub returns-clause-ok : goal.returns-clause-ok
 returns-clause-ok c =

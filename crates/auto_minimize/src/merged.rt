@@ -7,16 +7,16 @@ ghost use Rattle.auto_bool.specs.Both.{both_walker};
 ghost use Rattle.auto_bool.specs.Absorbed.{AreSinks, IsProduct};
 ghost use Rattle.auto_bool.specs.Words.{AcceptsBy, StepExceeds};
 
-use crate::pair_rows::{Factors, PairRows};
+use crate::settling::merge_rows;
 use auto_bool::{Connective, deciding_states, pairs_fit};
 use auto_core::Auto;
-use auto_merge::merge_rows;
+use auto_merged_product::{Factors, PairRows};
 use auto_walk::Grown;
 use diagram_product::Absorbing;
 use limits::{Budget, MOST_TRACKS};
 use std::alloc::Global;
 
-/// Returns the product of any two automata, minimal or not, with equivalent states merged as `auto_merge::merge` does: the
+/// Returns the product of any two automata, minimal or not, with equivalent states merged as `merge` does: the
 /// automaton over the tracks of both that accepts by the connective, each operand reading its own tracks.
 /// Pairs of states with one flag whose rows lead to the same states are one state. If the budget has room for all pairs of states,
 /// the pairs in which one operand decides alone are one state before that. Costs the pairs of nodes that are visited over all rows,
