@@ -20,11 +20,17 @@ def has(text, part, what):
         raise Failed(f"{what}: {text!r} has no {part!r}")
 
 
+def takes_ctrl_c():
+    """Has a process take Ctrl-C, also where this one was started by a shell that has it ignored."""
+    signal.signal(signal.SIGINT, signal.SIG_DFL)
+
+
 class Studio:
     """A running ./studio, started with these words."""
 
     def __init__(self, words, top=TOP):
-        self.process = subprocess.Popen([f"{top}/studio", *words], stdout=subprocess.PIPE, stderr=subprocess.PIPE, text=True, start_new_session=True)
+        how = {"stdout": subprocess.PIPE, "stderr": subprocess.PIPE, "text": True, "start_new_session": True, "preexec_fn": takes_ctrl_c}
+        self.process = subprocess.Popen([f"{top}/studio", *words], **how)
         self.url = self.process.stdout.readline().strip()
         if not self.url:
             raise SystemExit(f"./studio gives no address: {self.process.stderr.read()}")
@@ -50,6 +56,6 @@ class Studio:
     def end(self, with_signal=signal.SIGINT):
         """Ends it, and returns its status, and what it said on standard error beside what it has to say."""
         self.process.send_signal(with_signal)
-        status, lines = self.process.wait(10), self.process.stderr.read().splitlines()
+        status, lines = self.process.wait(60), self.process.stderr.read().splitlines()
         equal(lines[-1:], ["studio: ended"], "the last line")
         return status, [it for it in lines[:-1] if not it.endswith("Ctrl-C ends.") and it != "mate: this run is not proved"]
