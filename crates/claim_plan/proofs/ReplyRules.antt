@@ -56,10 +56,6 @@ module _ (c : Claim) (is : IsClaim c) (mean : RulesMean c.position) (apart : (pl
       let same = known.tuple_is in
       (q, fits_of claimed, mask, same)
 
-  -- what is reached by a reply from the claimed positions of a ply
-  abbrev Replied : ℕ → Position → Type 0
-  Replied ply = Safe (Image (IsClaimed c ply))
-
   replied_from : (ply : ℕ) {r : Position} → Safe (Image (IsClaimed c ply)) r → (q : Position) × IsClaimed c ply q × Moves q r
   replied_from ply {r} h = (h.is_in.from, h.is_in.is_in, Moves-safe h.is_in.from r h.is_in.step h.safe)
 

@@ -44,12 +44,9 @@ use Rattle.winning_sets.proofs.ClaimedLemmas.{claimed_fits}
 use Rattle.claim_plan.proofs.ClaimLemmas.{claimed_level-member, claimed_member, claimed_positions}
 use Rattle.claim_plan.proofs.Findings.{Checks, NoItem, and_then-checks, are_empty-tells, asked-tells, holds_by-told, one-checks}
 
--- who stands somewhere is not gone
+-- a man that stands on a square is not captured
 stands_there : (m : Man) (z : Square) → StandsOn m z → m.place ≢ Gone
 stands_there m z stands gone = none_some (sym stands ∙ ap place_square gone)
-
-no_man_zero : (q : Position) (m : Man) (A : Type 0) → man_at q 0 ≡ Some m → A
-no_man_zero q m A e = none_some (sym e)
 
 numbered_low : (q : Position) (i : ℕ) (m : Man) → man_at q i ≡ Some m → (1 ≤ i) × (i ≤ length q.men)
 numbered_low q zero m e = none_some (sym e)

@@ -1,7 +1,6 @@
 -- What is reported of `describe` is one report. Crates above cite `describe_row`.
 use Rattle.std.proofs.Common.{◌≡◌, ℕ, suc, ◌≤◌, List, [], ◌++◌, length, Ok, Err, inl, inr, refl, sym, ap, subst, ◌∙◌}
 use Rattle.std.specs.Prelude.{codes}
-use Rattle.chess_game.specs.declared.rays.TheConstants.{MOST_RAYS}
 use Rattle.desk_base.specs.Files.{Files}
 use Rattle.game_rules.specs.Game.{Position, Value}
 use Rattle.game_rules.specs.declared.men.Side.{Side}
@@ -9,7 +8,7 @@ use Rattle.winner_session.proofs.FirstLemmas.{firsts_value}
 use Rattle.winning_sets.specs.Solve.{IsOf, Solution}
 use Rattle.desk_report.specs.Outcome.{done_with}
 use Rattle.desk_report.proofs.One.{IsDueOf, IsOne, and_row, due_row, either_row, line_row, over_row}
-use Rattle.desk_solve.specs.First.{HasNoFirstMove}
+use Rattle.desk_solve.specs.First.{HasNoFirstMove, ray_total}
 use Rattle.desk_text.specs.declared.problem.Problem.{Problem}
 use Rattle.desk_verdict.proofs.Rows.{within_row}
 use Rattle.desk_describe.specs.Describe.{AllTell, AreRayLines, DescribeReports, ManTells, MenTell, RayTells, Told}
@@ -20,7 +19,7 @@ use Rattle.desk_describe.proofs.OneRay.{ray_once}
 
 module _ (budget : ℕ) (winner : Side) (n : ℕ) (p : Position) where
   man_once : (man : ℕ) (one other : Told) → ManTells budget winner n p man one → ManTells budget winner n p man other → one ≡ other
-  man_once man = told_once (RayTells budget winner n p man) (ray_once budget winner n p man) MOST_RAYS
+  man_once man = told_once (RayTells budget winner n p man) (ray_once budget winner n p man) (ray_total p man)
 
   men_once : (one other : Told) → MenTell budget winner n p one → MenTell budget winner n p other → one ≡ other
   men_once = told_once (λ before. ManTells budget winner n p (suc before)) (λ before. man_once (suc before)) (length p.men)
@@ -42,7 +41,7 @@ module _ (budget : ℕ) (winner : Side) (n : ℕ) (p : Position) where
   pub last_line : 1 ≤ n → ¬ Value winner n p → AreRayLines budget winner n p (codes "end\n")
   last_line some none =
       let rays : (man ray : ℕ) → RayTells budget winner n p man ray (Ok []) = λ man ray. inl (λ distance first. none (firsts_value winner n p man ray distance some first), refl) in
-      let men : (before : ℕ) → ManTells budget winner n p (suc before) (Ok []) = λ before. all_empty (RayTells budget winner n p (suc before)) (rays (suc before)) MOST_RAYS in
+      let men : (before : ℕ) → ManTells budget winner n p (suc before) (Ok []) = λ before. all_empty (RayTells budget winner n p (suc before)) (rays (suc before)) (ray_total p (suc before)) in
       ([], all_empty (λ before. ManTells budget winner n p (suc before)) men (length p.men), refl)
 
 -- what is told of a solved position is told of the problem that it solves

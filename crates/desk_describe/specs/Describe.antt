@@ -2,7 +2,6 @@
 use Rattle.std.specs.Prelude.{◌≡◌, ◌⊎◌, ℕ, zero, suc, List, [], ◌++◌, length, Result, Ok, Err, codes}
 use Rattle.auto_core.specs.Automaton.{Automaton}
 use Rattle.auto_numbers.specs.Numbers.{Has}
-use Rattle.chess_game.specs.declared.rays.TheConstants.{MOST_RAYS}
 use Rattle.desk_base.specs.Files.{Files}
 use Rattle.first_distances.specs.FirstSet.{IsFirstSet, IsRayError, RayStaysWithin}
 use Rattle.formula_auto.specs.declared.errors.CompileError.TheVariants as compile_error
@@ -13,7 +12,7 @@ use Rattle.winner_session.specs.Firsts.{NoFirsts}
 use Rattle.move_choice.specs.Aims.{IsMover}
 use Rattle.period_sets.specs.Question.{IsFirstPast}
 use Rattle.desk_report.specs.Outcome.{FirstOver, Report, done_with}
-use Rattle.desk_solve.specs.First.{HasNoFirstMove}
+use Rattle.desk_solve.specs.First.{HasNoFirstMove, ray_total}
 use Rattle.desk_text.specs.declared.problem.Problem.{Problem}
 use Rattle.desk_verdict.specs.Verdict.{WithinBudget}
 use Rattle.desk_describe.specs.Description.{IsDescription, ray_line}
@@ -76,9 +75,9 @@ AllTell Of (suc k) (Ok text) =
 AllTell Of (suc k) (Err step) =
     AllTell Of k (Err step) ⊎ ((front : List ℕ) × AllTell Of k (Ok front) × Of k (Err step))
 
--- the result for a man: those of his rays, up to the greatest number of rays of a kind
+-- the result for a man: those of his rays
 abbrev pub ManTells : (budget : ℕ) → Side → ℕ → Position → (man : ℕ) → Told → Type 0
-ManTells budget winner n p man = AllTell (RayTells budget winner n p man) MOST_RAYS
+ManTells budget winner n p man = AllTell (RayTells budget winner n p man) (ray_total p man)
 
 -- the result for all men
 abbrev pub MenTell : (budget : ℕ) → Side → ℕ → Position → Told → Type 0

@@ -12,10 +12,10 @@ use crate::description::{Rays, described};
 use crate::ray_line::push_ray_line;
 use crate::ray_step::{DescribeError, print_stop};
 use auto_search::Search;
-use chess_game::{Frame, MOST_RAYS};
+use chess_game::Frame;
 use desk_base::Sink;
 use desk_report::{Status, print};
-use desk_solve::first::has_no_first_move;
+use desk_solve::first::{has_no_first_move, ray_total};
 use desk_text::Task;
 use desk_verdict::{ProblemSolver, print_error};
 use move_choice::{has_ray, his_ray};
@@ -91,13 +91,15 @@ fn push_man(
     ensures stops { IfErr result (StopsWith (λ step. OfSolved (ManTells of.now.budget) of.now.solved.now man (Err step))) }
     ensures kept { search.new ≡ search.old }
 {
-    for ray in 0..MOST_RAYS {
+    let position = of.solved.position();
+    let total = ray_total(&position, man);
+    for ray in 0..total {
         push_ray(of, text, search, man, ray)?;
     }
     Ok(())
 }
 
-/// Adds the line of a man's ray of this number, where he has a first move along it.
+/// Appends the line of a man's ray of this number, if he has a first move along it.
 fn push_ray(
     of: &Rays,
     text: &mut Vec<u8>,

@@ -37,7 +37,7 @@ pub struct Rays<'a> {
 }
 
 /// Computes the description of the distances of the winner's first moves along a ray.
-pub fn described(of: &Rays, man: u8, ray: u8) -> Result<Description, DescribeError>
+pub(crate) fn described(of: &Rays, man: u8, ray: u8) -> Result<Description, DescribeError>
     requires plan { of.now.solved.now.origin ≡ Plan }
     requires turn { of.now.solved.now.position.turn ≡ of.now.solved.now.winner }
     requires moves { 1 ≤ of.now.solved.now.moves }

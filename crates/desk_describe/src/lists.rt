@@ -11,7 +11,7 @@ use period_sets::Run;
 use std::alloc::{AllocError, Global};
 
 /// Appends the runs, or that there is none.
-pub fn push_runs(text: &mut Vec<u8>, runs: &[Run]) -> Result<(), AllocError>
+pub(crate) fn push_runs(text: &mut Vec<u8>, runs: &[Run]) -> Result<(), AllocError>
     ensures { OnOk result (text.new.items ≡ text.old.items ++ listed specs.run_text runs.now) }
 {
     match runs {
@@ -39,7 +39,7 @@ fn push_run(text: &mut Vec<u8>, run: Run) -> Result<(), AllocError>
 }
 
 /// Appends the rests (residues) below the period whose bits are set, or that there is none.
-pub fn push_rests(
+pub(crate) fn push_rests(
     alloc: Global,
     text: &mut Vec<u8>,
     rests: u64,

@@ -13,7 +13,7 @@ use period_sets::Periodic;
 use std::alloc::{AllocError, Global};
 
 /// Appends the line of a man's ray.
-pub fn push_ray_line(
+pub(crate) fn push_ray_line(
     alloc: Global,
     text: &mut Vec<u8>,
     man: u8,

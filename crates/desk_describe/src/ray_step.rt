@@ -48,7 +48,7 @@ impl From<AllocError> for DescribeError {
 }
 
 /// Writes why rays are not described, and returns the status.
-pub fn print_stop<K: Sink>(sink: &mut K, error: DescribeError) -> Status
+pub(crate) fn print_stop<K: Sink>(sink: &mut K, error: DescribeError) -> Status
     ensures ends { EndsOnSink K.Sink result (NamesRayStep error) (error ≡ DescribeError.Memory) sink.old sink.new }
 {
     match error {

@@ -2,7 +2,6 @@
 use Rattle.std.proofs.Common.{◌≡◌, ◌↔◌, ℕ, zero, suc, ◌+◌, ◌≤◌, Bool, false, IsTrue, List, [], ◌++◌, length, inl, inr, refl, sym, ap, subst, ◌∙◌, append_assoc, arith}
 use Rattle.std.specs.Prelude.{codes}
 use Rattle.std.proofs.lemmas.List.{append-nil}
-use Rattle.chess_game.specs.declared.rays.TheConstants.{MOST_RAYS}
 use Rattle.desk_base.specs.Files.{Files}
 use Rattle.game_rules.specs.Game.{Position, Value}
 use Rattle.game_rules.specs.declared.men.Side.{Side}
@@ -11,7 +10,7 @@ use Rattle.move_choice.specs.Aims.{HasRay}
 use Rattle.winner_session.specs.Firsts.{Firsts}
 use Rattle.winner_session.proofs.FirstLemmas.{firsts_ray, firsts_value, line_first, line_once}
 use Rattle.winning_sets.specs.Solve.{IsOf, Solution}
-use Rattle.desk_solve.specs.First.{Adds, AreLines, FirstReports, HasNoFirstMove, Listed, ManText, RayText, line_of}
+use Rattle.desk_solve.specs.First.{Adds, AreLines, FirstReports, HasNoFirstMove, Listed, ManText, RayText, line_of, ray_total}
 use Rattle.desk_report.specs.Outcome.{done_with}
 use Rattle.desk_report.proofs.One.{IsOne, and_row, due_row, either_row, line_row}
 use Rattle.desk_text.specs.declared.problem.Problem.{Problem}
@@ -64,7 +63,7 @@ module _ (winner : Side) (n : ℕ) (p : Position) where
   ray_once man ray a b (inr (line, h, is)) (inr (other, j, so)) = is ∙ ap line_of (line_once h j) ∙ sym so
 
   man_once : (man : ℕ) (a b : List ℕ) → ManText winner n p man a → ManText winner n p man b → a ≡ b
-  man_once man = listed_once (RayText winner n p man) (ray_once man) MOST_RAYS
+  man_once man = listed_once (RayText winner n p man) (ray_once man) (ray_total p man)
 
   lines_once : (a b : List ℕ) → AreLines winner n p a → AreLines winner n p b → a ≡ b
   lines_once a b (t, h, is) (u, j, so) =
@@ -74,7 +73,7 @@ module _ (winner : Side) (n : ℕ) (p : Position) where
   pub last_line : 1 ≤ n → ¬ Value winner n p → AreLines winner n p (codes "end\n")
   last_line some none =
       let rays : (man ray : ℕ) → RayText winner n p man ray [] = λ man ray. inl (λ distance first. none (firsts_value winner n p man ray distance some first), refl) in
-      let men : (before : ℕ) → ManText winner n p (suc before) [] = λ before. listed_empty (RayText winner n p (suc before)) (rays (suc before)) MOST_RAYS in
+      let men : (before : ℕ) → ManText winner n p (suc before) [] = λ before. listed_empty (RayText winner n p (suc before)) (rays (suc before)) (ray_total p (suc before)) in
       ([], listed_empty (λ before. ManText winner n p (suc before)) men (length p.men), refl)
 
 -- a test that says no

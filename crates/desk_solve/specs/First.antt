@@ -3,9 +3,10 @@ use Rattle.std.specs.Prelude.{◌≡◌, ◌⊎◌, ℕ, zero, suc, ◌≤◌, L
 use Rattle.std.specs.Fmt.{decimal, signed_decimal}
 use Rattle.auto_search.specs.declared.few.Few.{Few}
 use Rattle.auto_search.specs.declared.few.Few.TheVariants.{One}
-use Rattle.chess_game.specs.declared.rays.TheConstants.{MOST_RAYS}
 use Rattle.desk_base.specs.Files.{Files}
-use Rattle.game_rules.specs.Game.{Position, other}
+use Rattle.game_rules.specs.Game.{Position, man_at, other}
+use Rattle.game_rules.specs.Rays.{rays_of}
+use Rattle.game_rules.specs.declared.men.Man.{Man}
 use Rattle.game_rules.specs.declared.men.Side.{Side}
 use Rattle.move_choice.specs.Squares.{all_squares}
 use Rattle.winner_session.specs.Firsts.{Firsts, IsFirstLine}
@@ -53,9 +54,18 @@ unfoldable pub Listed : (ℕ → List ℕ → Type 0) → ℕ → List ℕ → T
 Listed Of zero text = text ≡ []
 Listed Of (suc k) text = (front : List ℕ) × (last : List ℕ) × Listed Of k front × Of k last × (text ≡ front ++ last)
 
--- the text of a man: those of his rays, up to the greatest number of rays of a kind
+-- the number of rays of a man
+abbrev pub rays_for : Option Man → ℕ
+rays_for None = 0
+rays_for (Some m) = length (rays_of m.kind m.side)
+
+-- the number of rays of the man of this number
+abbrev pub ray_total : Position → ℕ → ℕ
+ray_total p man = rays_for (man_at p man)
+
+-- the text of a man: those of his rays
 abbrev pub ManText : Side → ℕ → Position → (man : ℕ) → List ℕ → Type 0
-ManText winner n p man = Listed (RayText winner n p man) MOST_RAYS
+ManText winner n p man = Listed (RayText winner n p man) (ray_total p man)
 
 -- the text of all men
 abbrev pub MenText : Side → ℕ → Position → List ℕ → Type 0

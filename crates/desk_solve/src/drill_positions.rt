@@ -56,7 +56,7 @@ impl Displacement {
 }
 
 /// Returns the problem of a state of the generator.
-pub fn problem_of(state: u64) -> Problem
+pub(crate) fn problem_of(state: u64) -> Problem
     ensures { result ≡ specs.problem_of state }
 {
     let case = state % CASES;

@@ -8,7 +8,7 @@ ghost use Rattle.desk_report.specs.Ports.{EndsOnSink};
 ghost use Rattle.desk_verdict.specs.Verdict.{IsTask, OfTask};
 
 use auto_search::{Few, Search};
-use chess_game::{Frame, MOST_RAYS};
+use chess_game::{Frame, Position, ray_count};
 use chess_text::line_buffer::LineBuffer;
 use desk_base::Sink;
 use desk_report::{Status, print, push_large};
@@ -47,6 +47,16 @@ pub fn has_no_first_move(task: &Task) -> bool
         return true;
     }
     task.problem.position.turn() == task.problem.winner.other()
+}
+
+/// Returns the number of rays of the man of this number, counted from 1.
+pub fn ray_total(p: &Position, man: u8) -> u8
+    requires first { 1 ≤ man }
+    requires last { man ≤ length p.now.men }
+    ensures { result ≡ specs.ray_total p.now man }
+{
+    let him = p.man(man);
+    ray_count(him.kind, him.side)
 }
 
 /// The lines of all men, and the last line.
@@ -88,13 +98,15 @@ fn push_man(
     ensures adds { OnOk result (Adds (OfSolved ManText solved.now man) text.old.items text.new.items) }
     ensures kept { search.new ≡ search.old }
 {
-    for ray in 0..MOST_RAYS {
+    let position = solved.position();
+    let total = ray_total(&position, man);
+    for ray in 0..total {
         push_ray(text, solved, search, man, ray)?;
     }
     Ok(())
 }
 
-/// Adds the line of a man's ray of this number, where he has a first move along it.
+/// Appends the line of a man's ray of this number, if he has a first move along it.
 fn push_ray(
     text: &mut Vec<u8>,
     solved: &Solved,

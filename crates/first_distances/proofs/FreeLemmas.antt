@@ -1,5 +1,5 @@
 -- The formula of a ray speaks of the distance alone.
-use Rattle.std.proofs.Common.{◌≡◌, ◌≢◌, ◌⊎◌, ℕ, zero, suc, ◌<◌, ◌≤◌, ℤ, pos, negsuc, Bool, true, false, List, [], ◌∷◌, length, Option, Some, None, inl, inr, refl, sym, ap, subst, ◌∙◌, arith}
+use Rattle.std.proofs.Common.{◌≡◌, ◌≢◌, ◌⊎◌, ℕ, zero, suc, ◌<◌, ◌≤◌, ℤ, pos, negsuc, Bool, true, false, List, [], ◌∷◌, length, Option, Some, None, inl, inr, refl, sym, subst, ◌∙◌, arith}
 use Rattle.std.specs.Prelude.{if◌then◌else◌, slice_get}
 use Rattle.game_rules.specs.Game.{Position, man_at}
 use Rattle.game_rules.specs.declared.men.Ray.{Ray}
@@ -17,6 +17,7 @@ use Rattle.rule_formula.proofs.MoveLemmas.{kept_live, same_number}
 use Rattle.first_distances.specs.RayFormula.{gone_along, from_x, from_y, gone_from, line, or_lines, others_standing, standing, t_var}
 use Rattle.first_distances.proofs.LineLemmas.{AllStand}
 use Rattle.first_distances.proofs.SeatLemmas.{seated_own}
+use Rattle.first_distances.proofs.SizeLemmas.{differs}
 
 -- a variable is free in the formula of the others only if it is free in the formula, and none of theirs
 module _ (p : Position) (mask i : ℕ) (z : Var) where
@@ -105,15 +106,12 @@ module _ (z : Var) (i : ℕ) (r : Ray) (a : Square) (f : Tree) (only : IsFree z 
         ]
       ]
 
-var_differs : (x y : Var) → x.0 ≢ y.0 → x ≢ y
-var_differs x y ne e = ne (ap (λ (v : Var). v.0) e)
-
 t_free : (i : ℕ) → 0 < i → i ≤ 8 → (r : Ray) (a : Square) (f : Tree) → IsFree t_var (gone_along i r (Some a) f)
 t_free i low high r a f = (
-  var_differs t_var (own i).x (λ e. omega (arith, low, high, e)),
+  differs t_var (own i).x (λ e. omega (arith, low, high, e)),
   (
-    var_differs t_var (own i).y (λ e. omega (arith, low, high, e)),
-    (var_differs t_var from_x (λ e. omega (arith, e)), (var_differs t_var from_y (λ e. omega (arith, e)), inr (inl refl))),
+    differs t_var (own i).y (λ e. omega (arith, low, high, e)),
+    (differs t_var from_x (λ e. omega (arith, e)), (differs t_var from_y (λ e. omega (arith, e)), inr (inl refl))),
   ),
 )
 

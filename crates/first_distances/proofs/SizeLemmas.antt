@@ -30,7 +30,7 @@ use Rattle.first_distances.proofs.SeatLemmas.{seated_own}
 abbrev pub IsKnown : Var → Type 0
 IsKnown x = (x.0 < 16) ⊎ ((x.0 ≡ 18) ⊎ ((x.0 ≡ 20) ⊎ (x.0 ≡ 21)))
 
--- well made of these variables, with so many steps at most, and with memberships as wanted
+-- well made of these variables, with at most this number of steps, and with memberships of this kind
 pub record IsSmall (P : ℕ × List Var → Type 0) (n : ℕ) (f : Tree) : Type 0 where
   pub made : IsWellMade f
   pub known : (z : Var) → IsOneOf z (vars_of f) → IsKnown z
@@ -45,7 +45,7 @@ apart_from : (x u : Var) → x.0 < 16 → (u.0 ≡ 20) ⊎ (u.0 ≡ 21) → x.0 
 apart_from x u low (inl is) e = omega (arith, low, is, e)
 apart_from x u low (inr is) e = omega (arith, low, is, e)
 
-differs : (x y : Var) → x.0 ≢ y.0 → x ≢ y
+pub differs : (x y : Var) → x.0 ≢ y.0 → x ≢ y
 differs x y ne e = ne (ap (λ (v : Var). v.0) e)
 
 three_atom : (x u : Var) (d : ℤ) → x.0 < 16 → (u.0 ≡ 20) ⊎ (u.0 ≡ 21) → IsFactor d → IsAtom ((pos 1, x) ∷ (d, t_var) ∷ (negsuc 0, u) ∷ []) (pos 0)

@@ -8,7 +8,7 @@ use Rattle.set_plan.specs.Program.{Ask, Empty, Give, IsNo, IsYes, Item, Question
 use Rattle.set_plan.specs.Same.{IsLacking, SameItem}
 use Rattle.set_plan.specs.Unite.{Made, compute, either, join, make, positives}
 use Rattle.set_plan.specs.declared.stop.PartStep.{PartStep}
-use Rattle.set_plan.proofs.Composition.{Ends-ask_no, Ends-ask_yes, Ends-bind, Ends-give, Error-later, Stops-ask_no, Stops-ask_yes, Takes-none, none_some}
+use Rattle.set_plan.proofs.Composition.{Ends-ask_no, Ends-ask_yes, Ends-bind, Ends-give, Error-later, Stops-ask_no, Takes-none, none_some}
 use Rattle.set_plan.proofs.Thinned.{Ends-make_same, Stops-make_same}
 use Rattle.line_plan.specs.Plan.{Program}
 use Rattle.line_engine.specs.declared.errors.CrowdError.{CrowdError}
@@ -30,11 +30,6 @@ answers_later m f budget view a ends (Ok r) h = Ends-bind m f budget a (view r) 
 answers_later m f budget view a ends (Err e) h = Error-later f budget a ends (as_plan_error e) h
 
 module _ {A R : Type 0} (question : Question) (if_yes if_no : Program A) (budget : ℕ) (view : R → A) where
-  pub answers_yes : (r : Result R CrowdError) → IsYes question → Answers if_yes budget view r → Answers (Ask question if_yes if_no) budget view r
-  answers_yes (Ok x) is h = Ends-ask_yes question if_yes if_no budget is h
-  answers_yes (Err (Over step)) is h = Stops-ask_yes question if_yes if_no budget is h
-  answers_yes (Err Memory) is h = tt
-
   pub answers_no : (r : Result R CrowdError) → IsNo question → Answers if_no budget view r → Answers (Ask question if_yes if_no) budget view r
   answers_no (Ok x) is h = Ends-ask_no question if_yes if_no budget (view x) is h
   answers_no (Err (Over step)) is h = Stops-ask_no question if_yes if_no budget is h

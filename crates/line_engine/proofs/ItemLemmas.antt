@@ -10,6 +10,7 @@ use Rattle.rule_formula.specs.Seats.{var}
 use Rattle.rule_formula.proofs.FineLemmas.{fine_few, fine_made, fine_names}
 use Rattle.set_plan.specs.Unite.{positives}
 use Rattle.line_plan.specs.Plan.{distances, distances_from}
+use Rattle.line_plan.proofs.PartFacts.{both_none}
 use Rattle.line_engine.specs.Answers.{IsFilledItem, IsFilledOn, IsOneSet, IsPartOf, NoSet}
 use Rattle.rule_formula.specs.Fine.{AreVars, IsFine, IsLow}
 
@@ -66,9 +67,6 @@ any_fine V P (Not f) h = any_fine V P f h
 any_fine V P (And f g) h = (any_fine V P f h.0, any_fine V P g h.1)
 any_fine V P (Or f g) h = (any_fine V P f h.0, any_fine V P g h.1)
 any_fine V P (Ex x f) h = (h.0, any_fine V P f h.1)
-
-both_none : (xs ys : List ℕ) → xs ≡ [] → ys ≡ [] → xs ++ ys ≡ []
-both_none xs ys h k = ap (λ zs. zs ++ ys) h ∙ k
 
 pub fine_symbols : (V : Var → Type 0) (f : Tree) → IsFine V NoSet f → symbols f ≡ []
 fine_symbols V (Lin terms rel bound) h = refl

@@ -1,5 +1,5 @@
 -- Why a set at no tuple of which the first part of a formula holds is left as it is.
-use Rattle.std.proofs.Common.{◌≡◌, ℕ, ◌+◌, ◌*◌, ◌≤◌, List, [], ◌∷◌, ◌++◌, length, length-append, map, Option, Some, None, Ok, Err, Bool, IsTrue, IfSome, IsSome, inl, inr, refl, ◌↔◌, sym, ap, ◌∙◌, subst, arith}
+use Rattle.std.proofs.Common.{◌≡◌, ℕ, ◌+◌, ◌*◌, ◌≤◌, List, [], ◌∷◌, ◌++◌, length, length-append, map, Option, Some, None, Ok, Err, Bool, IsTrue, IfSome, inl, inr, refl, ◌↔◌, sym, ap, ◌∙◌, subst, arith}
 use Rattle.std.specs.Prelude.{IfOk, Result}
 use Rattle.limits.specs.declared.numbers.TheConstants.{MOST_TRACKS}
 use Rattle.track_word.specs.declared.tracks.Var.{Var}
@@ -123,29 +123,6 @@ sized_product f g budget one other (Some n) left right h =
       within = stays-and_not f g e budget first.within second.within (within-by_size first.size second.size (omega (arith, is, few)));
     }
 
--- of a number and of that of the formula
-pub fits_by : (f : Tree) (budget own : ℕ) (size product : Option ℕ) → IfSome size (IsSized f budget) → IfSome product (IsProductOf (Some own) size budget)
-    → IsSome product → FitsWith f budget own
-fits_by f budget own size None sized h is = cc
-fits_by f budget own size (Some n) sized h is =
-    let first_is = h.first_is in
-    let same : own ≡ h.first = cc in
-    let room = h.is in
-    let few = h.few in
-    let times : own * h.second ≡ h.first * h.second = ap (λ k. k * h.second) same in
-    record { size = h.second; sized = rw h.second_is at sized; room = omega (arith, room, few, times) }
-
--- both parts of the chain are plain
-pub plain_left : (f g : Tree) → IsPlain (And f (Not g)) → IsPlain f
-plain_left f g h = record { fine = h.fine.0; few_steps = let few = h.few_steps in let more = fewer f g in omega (arith, few, more) }
-
-pub plain_out : (f g : Tree) → IsPlain (And f (Not g)) → IsPlain g
-plain_out f g h =
-    let few = h.few_steps in
-    let all = length-append (steps f ++ steps g) (And f (Not g) ∷ []) in
-    let both = length-append (steps f) (steps g) in
-    record { fine = h.fine.1; few_steps = omega (arith, few, all, both) }
-
 -- of automata that are apart not both formulas hold
 module _ (e d : Sets) (f g : Tree) (a b : Automaton) (left : Decides a f e) (right : Decides b g d) (apart : AreApart a b) where
   abbrev pub all : List Var
@@ -216,7 +193,7 @@ module _ (a : Automaton) (f : Tree) (asked : IsAsked a f) where
           let w = itself.words word (subst (λ (t : List Var). IsWord (length t) word) itself.tracks is) in
           subst (λ (t : List Var). Accepts a word ↔ Holds (Among 0 own) sets (word_values t word)) (sym itself.tracks) w
 
-  -- what the formula tells apart does not depend on the sets
+  -- the words that the formula distinguishes do not depend on the sets
   size_there : {n : ℕ} → HasSize f (members no_sets) n → HasSize f sets n
   size_there {n} h = λ all.
       let told = h all in

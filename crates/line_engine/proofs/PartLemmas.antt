@@ -16,7 +16,6 @@ use Rattle.track_word.specs.Atom.{IsAtom, IsBound, term_vars}
 use Rattle.track_word.specs.declared.atoms.Rel.{Rel}
 use Rattle.track_word.specs.declared.atoms.Rel.TheVariants.{Le, Eq}
 use Rattle.track_word.specs.declared.tracks.Var.{Var}
-use Rattle.lin_formula.specs.Free.{IsOneOf}
 use Rattle.lin_formula.specs.Tree.{Tree, And, Not, steps}
 use Rattle.rule_formula.specs.declared.opt.Opt.{Opt}
 use Rattle.rule_formula.specs.Seats.{var}
@@ -34,7 +33,7 @@ use Rattle.line_formula.specs.Small.{IsSmallGap, IsSmallLeg, IsSmallRay}
 use Rattle.line_formula.proofs.AtomLemmas.{gap_atom, next_atom, one_atom}
 use Rattle.line_formula.proofs.PlaceLemmas.{AreBelow, terms-below}
 use Rattle.line_formula.proofs.SmallRays.{small_ray}
-use Rattle.line_plan.proofs.PartFacts.{IsPart, first_free, part_and, part_not}
+use Rattle.line_plan.proofs.PartFacts.{IsPart, below_one, first_free, part_and, part_not}
 use Rattle.line_plan.proofs.SetFacts.{free_first, free_narrowed}
 use Rattle.line_engine.specs.Answers.{IsPartOf, NoSet}
 
@@ -93,12 +92,7 @@ low_below : (n : ℕ) (ts : List (ℤ × Var)) → n ≤ 18 → AreBelow n ts �
 low_below n [] room h = tt
 low_below n (t ∷ ts) room h = (omega (arith, room, h.0), low_below n ts room h.1)
 
-one_below : (n : ℕ) (ts : List (ℤ × Var)) (x : Var) → AreBelow n ts → IsOneOf x (term_vars ts) → x.0 < n
-one_below n [] x h is = absurd is
-one_below n (t ∷ ts) x h (inl same) = let e = ap (λ (y : Var). y.0) same in omega (arith, e, h.0)
-one_below n (t ∷ ts) x h (inr is) = one_below n ts x h.1 is
-
--- names no set, speaks of the first n variables alone, and can be compiled in at most so many steps
+-- names no set, uses the first n variables alone, and can be compiled in at most this number of steps
 pub record IsSmallPart (n steps : ℕ) (t : Tree) : Type 0 where
   pub part : IsPart n t
   pub fit : IsFit IsLow NoSet steps t
@@ -112,7 +106,7 @@ sum_small n c ts rel bound room below atom =
         free = λ x is.
             elim is.1 [
               | inl here ↦ absurd (is.0 here)
-              | inr there ↦ elim there [ inl here ↦ absurd (is.0 here) | inr later ↦ one_below n ts x below later ]
+              | inr there ↦ elim there [ inl here ↦ absurd (is.0 here) | inr later ↦ below_one n ts x below later ]
             ];
       };
       fit = record { fine = (low, (low, (atom, (low, low_below n ts (omega (arith, room)) below)))); most = omega arith };
@@ -257,7 +251,7 @@ pub capture_two : (start : ℕ → Square) (legs : List Leg) (leg : Leg) (t : �
 capture_two start legs leg zero some = absurd (some refl)
 capture_two start legs leg (suc t) some = refl
 
--- those who are not on the way, of one man more
+-- the men that are not on the way, of one man more
 pub clear_more : (start : ℕ → Square) (legs : List Leg) (leg : Leg) (live : ℕ → Bool) (t n : ℕ)
     → clear_parts start legs leg live t (n + 1)
     ≡ clear_parts start legs leg live t n ++ (if is_other live leg.man t (n + 1) then Not (on_way start legs leg (n + 1)) ∷ [] else [])

@@ -24,7 +24,7 @@ use Rattle.line_formula.specs.Rules.{across, ahead, apart_by, bear_as, capture_p
 use Rattle.line_formula.proofs.PathTheorem.{legs-length}
 use Rattle.line_formula.proofs.PlaceLemmas.{AreBelow, terms-below}
 
-both_none : (xs ys : List ℕ) → xs ≡ [] → ys ≡ [] → xs ++ ys ≡ []
+pub both_none : (xs ys : List ℕ) → xs ≡ [] → ys ≡ [] → xs ++ ys ≡ []
 both_none xs ys h k = ap (λ zs. zs ++ ys) h ∙ k
 
 -- names no set, and of its free variables each has a number below n
@@ -38,7 +38,7 @@ part_not h = record { plain = h.plain; free = h.free }
 pub part_and : {n : ℕ} {f g : Tree} → IsPart n f → IsPart n g → IsPart n (And f g)
 part_and {f = f} {g = g} h k = record { plain = both_none (symbols f) (symbols g) h.plain k.plain; free = λ x is. elim is [ inl a ↦ h.free x a | inr b ↦ k.free x b ] }
 
-below_one : (n : ℕ) (ts : List (ℤ × Var)) (x : Var) → AreBelow n ts → IsOneOf x (term_vars ts) → x.0 < n
+pub below_one : (n : ℕ) (ts : List (ℤ × Var)) (x : Var) → AreBelow n ts → IsOneOf x (term_vars ts) → x.0 < n
 below_one n [] x h is = absurd is
 below_one n (t ∷ ts) x h (inl same) = let e = ap (λ (y : Var). y.0) same in omega (arith, e, h.0)
 below_one n (t ∷ ts) x h (inr is) = below_one n ts x h.1 is

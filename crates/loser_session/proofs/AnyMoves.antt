@@ -1,10 +1,7 @@
 -- Whether some move leads into sets: along a ray, by a man, and at all.
-use Rattle.std.proofs.Common.{◌≡◌, ℕ, ◌+◌, ◌<◌, ◌≤◌, length, inl, inr, refl, sym, ◌∙◌, subst, arith}
+use Rattle.std.proofs.Common.{◌≡◌, ℕ, ◌+◌, ◌<◌, ◌≤◌, length, inl, inr, ◌∙◌, subst, arith}
 use Rattle.std.proofs.lemmas.Bool.{cases_lt}
-use Rattle.std.proofs.lemmas.Option.{same_Some, slice_get_within}
-use Rattle.auto_search.specs.Fews.{HasFew}
-use Rattle.auto_search.specs.declared.few.Few.{Few}
-use Rattle.auto_search.specs.declared.few.Few.TheVariants.{Zero, One, More}
+use Rattle.std.proofs.lemmas.Option.{slice_get_within}
 use Rattle.game_rules.specs.Game.{Position, Legal, square_of}
 use Rattle.game_rules.specs.Rays.{rays_of}
 use Rattle.game_rules.specs.declared.men.Square.{Square}
@@ -12,21 +9,11 @@ use Rattle.game_laws.specs.OnRay.{IsOnOneRay}
 use Rattle.game_laws.proofs.CheckLemmas.{some_and}
 use Rattle.game_laws.proofs.RayLemmas.{step_one}
 use Rattle.chess_game.proofs.AnswerBounds.{rays_few}
-use Rattle.game_laws.specs.Sets.{LeadsInto}
-use Rattle.move_choice.specs.Aims.{HasRay}
 use Rattle.move_choice.specs.Along.{LeadsAnywhere}
 use Rattle.move_choice.proofs.Firsts.{man_high}
 use Rattle.loser_session.specs.Leading.{LeadsNowhere}
 
 module _ (Set : Position → Type 0) (p : Position) where
-  -- who leads along a ray has it, and it is his turn
-  pub leads_ray : (man ray distance : ℕ) → LeadsAnywhere Set p man ray distance → HasRay p man ray
-  leads_ray man ray distance w =
-      let his : w.legal.step.man ≡ w.him = same_Some w.legal.step.man w.him (sym w.legal.step.is_man ∙ w.is_man) in (
-        w.on.ray,
-        record { man = w.him; is_man = w.is_man; turn = subst (λ m. m.side ≡ p.turn) his w.legal.step.his_turn; square = w.from; stands = w.stands; is_ray = w.on.is_ray },
-      )
-
   -- no man has a ray of number sixteen or more
   past_rays : (man ray distance : ℕ) → 16 ≤ ray → LeadsAnywhere Set p man ray distance → ⊥
   past_rays man ray distance high w =
@@ -80,13 +67,3 @@ module _ (Set : Position → Type 0) (p : Position) where
       let (ray, distance, w) = legal_along legal is in
       let high = man_high p i legal.step.man legal.step.is_man in
       none i ray distance (omega (arith, all, high)) w
-
-  -- a man who does makes one
-  pub somebody : (man ray distance : ℕ) → LeadsAnywhere Set p man ray distance → LeadsInto Set p
-  somebody man ray distance w = (w.after, (man, w.to, w.legal), w.is_in)
-
--- where there are some, there is one
-pub few_some : (few : Few) (P : ℕ → Type 0) → HasFew few P → (few ≡ Zero → ⊥) → (t : ℕ) × P t
-few_some Zero P has some = absurd (some refl)
-few_some One P has some = (has.0, has.1)
-few_some More P has some = (has.0, has.3)

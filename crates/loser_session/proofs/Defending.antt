@@ -22,6 +22,7 @@ use Rattle.move_choice.specs.Aims.{AreNext}
 use Rattle.move_choice.specs.Choice.{Pick}
 use Rattle.move_choice.specs.declared.choice.Choice.{Choice}
 use Rattle.winner_session.specs.Game.{Game, made_in, moved_to, start_of}
+use Rattle.winner_session.proofs.Games.{none_get}
 use Rattle.loser_session.specs.Leading.{LeadsNowhere}
 use Rattle.loser_session.specs.Defending.{CanDefend, Continues, DefencePick, Defends, HasMovesLeft, IsDefence, IsDefended, IsLosersTurn, IsNextUnwon, IsSaved, IsWinnersTurn, LoserContinues, seen, StandsAs}
 use Rattle.loser_session.specs.Unwon.{AreUnwonPlies, HaveRoom, IsUnwon, IsWon, table_into}
@@ -59,7 +60,7 @@ module _ (g : Game) (keeps : IsDefence g) where
   pub typed_keeps : IsWinnersTurn (seen g) → HasMovesLeft (seen g) → {i : ℕ} {z : Square} {q : Position} → Legal g.position i z q → IsDefence (moved_to g q)
   typed_keeps turn on legal = record { plan = keeps.plan; valid = keeps.valid; unwon = typed_unwon (seen g) keeps.unwon turn on legal }
 
-  -- whoever is to move, a position that a legal move leads to is reached
+  -- on either turn, a position that a legal move leads to is reached
   reached_unwon : {i : ℕ} {z : Square} {q : Position} → Legal g.position i z q → IsUnwon g.solution (suc g.ply) q ↔ IsNextUnwon (seen g) q
   reached_unwon {i} {z} {q} legal = (λ h. h.not_won, λ h. record { reached = (g.position, keeps.unwon.reached, (i, z, legal)); not_won = h })
 
@@ -74,7 +75,7 @@ module _ (g : Game) (keeps : IsDefence g) where
     pub lent_few : (states : ℕ) → HaveRoom states g.solution plies → HaveAtMost states t
     lent_few states room = subst (HaveAtMost states) (sym is) (table_few g.solution plies states (suc g.ply) room within)
 
-    -- a legal move leads into them exactly where it leads to a position that is not won
+    -- a legal move leads into them if and only if it leads to a position that is not won
     lent_same : (i : ℕ) (z : Square) (q : Position) → Legal g.position i z q → IsIn t q ↔ IsNextUnwon (seen g) q
     lent_same i z q legal =
         let in_sets = moves_unwon g.solution keeps.valid plies unwon g.ply within g.position keeps.unwon.reached legal in
@@ -121,10 +122,6 @@ defended_keeps {g} after choice keeps on turn h =
     let same : h.pick.position ≡ after.position = same_after h.pick.leads.legal.step.after h.legal.step.after in
     let unwon : IsNextUnwon (seen g) after.position = subst (IsNextUnwon (seen g)) same h.pick.leads.is_in in
     subst IsDefence (sym h.is_after) (pick_keeps g keeps turn on h.legal unwon)
-
-none_get : (games : List Game) (k : ℕ) (after : Game) → games ≡ [] → slice_get games k ≡ Some after → ⊥
-none_get [] k after e is = cc
-none_get (x ∷ xs) k after e is = cc
 
 abbrev EachSaved : Game → List Game → Type 0
 EachSaved g games = (k : ℕ) (after : Game) → slice_get games k ≡ Some after → IsSaved g after

@@ -75,7 +75,7 @@ fn read_file<R: Files>(
 }
 
 /// Returns all bytes of the reader if there are at most `limit`.
-pub fn read_whole<F: Read + Drop>(
+pub(crate) fn read_whole<F: Read + Drop>(
     alloc: Global,
     reader: F,
     limit: usize,

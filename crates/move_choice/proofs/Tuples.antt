@@ -45,9 +45,6 @@ put_front xs ys i c d low =
 tuple_one : (p : Position) (n : ℕ) (m : Man) → man_at p (suc n) ≡ Some m → tuple_to p (suc n) ≡ tuple_to p n ++ coordinates_of (square_of m)
 tuple_one p n m is = ap (λ o. tuple_to p n ++ man_coordinates o) is
 
-gone_or_not : (x y : Place) → (x ≡ y) → (y ≢ Gone) → x ≢ Gone
-gone_or_not x y e h g = h (sym e ∙ g)
-
 pub stands_live : (m : Man) (a : Square) → StandsOn m a → m.place ≢ Gone
 stands_live m a s gone = let same : place_square Gone ≡ Some a = sym (ap place_square gone) ∙ s in cc
 
@@ -162,7 +159,7 @@ module _ (p q : Position) (j : ℕ) (z a : Square) (m : Man) (is : man_at p (suc
       let within : j < length p.men = slice_get_within p.men j m is in
       ap (tuple_to q) after.same_count ∙ from_him (length p.men) (omega (arith, within)) (omega arith)
 
-  -- and all are live who were
+  -- and all men that were live still are
   live_same : (i : ℕ) (c : Man) → slice_get q.men i ≡ Some c → (bit_at (mask_of p) i ≡ 1) ↔ (c.place ≢ Gone)
   live_same i c at =
       let w = at_same q p (suc i) c (sym after.same_count) at in

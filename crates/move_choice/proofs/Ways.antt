@@ -126,7 +126,7 @@ module _ (p : Position) (m : Man) (n : ℕ) (r : Ray) (is_ray : ray_of m.kind m.
     },
   )
 
--- a man before whom nobody stands on the ray is the first whom one meets there
+-- a man with no man before him on the ray is the first that is met there
 pub first_met : (p : Position) (a : Square) (r : Ray) (f : Frame) (t : ℕ) (z : Square) → IsAt r t a z → IsInside f z
     → ((k : ℕ) (b : Square) → k < t → IsAt r k a b → IsEmptySquare p b) → IsApart p → (h : ℕ) (c : Man) → man_at p h ≡ Some c → StandsOn c z
     → IsHitFrom p a r f h
@@ -166,9 +166,6 @@ module _ (p : Position) (i : ℕ) (z : Square) (q : Position) (step : Step p i z
   number_is : one.number ≡ n
   number_is = sym (one.only n t on).0
 
-  distance_is : one.distance ≡ t
-  distance_is = sym (one.only n t on).1
-
   ray_same : one.on.ray ≡ on.ray
   ray_same = same_Some one.on.ray on.ray (sym one.on.is_ray ∙ (ap (λ k. ray_of m.kind m.side k) number_is ∙ on.is_ray))
 
@@ -178,10 +175,7 @@ module _ (p : Position) (i : ℕ) (z : Square) (q : Position) (step : Step p i z
   pub serves_quiet : IsEmptySquare p z → IsTrue (serves_moves m.kind n)
   serves_quiet none = subst (λ k. IsTrue (serves_moves m.kind k)) number_is (one.move none)
 
-  pub serves_taking : IsOccupiedBy p (other m.side) z → IsTrue (serves_captures m.kind n)
-  serves_taking held = subst (λ k. IsTrue (serves_captures m.kind k)) number_is (one.capture held)
-
-  -- nobody stands before
+  -- no man stands before
   pub nobody_before : (k : ℕ) (b : Square) → k < t → IsAt on.ray k a b → IsEmptySquare p b
   nobody_before k b less at =
       elim (true_or_not on.ray.far) [
@@ -192,7 +186,7 @@ module _ (p : Position) (i : ℕ) (z : Square) (q : Position) (step : Step p i z
   same_target : {b : Square} → IsAt on.ray t a b → b ≡ z
   same_target at = at.leads ∙ sym on.leads.leads
 
-  -- to an empty square, nobody stands up to it
+  -- if the square is empty, no man stands up to it
   pub nobody_to : IsEmptySquare p z → (k : ℕ) (b : Square) → k ≤ t → IsAt on.ray k a b → IsEmptySquare p b
   nobody_to none k b low at = elim (cases_lt k t) [
     | inl less ↦ nobody_before k b less at

@@ -1,7 +1,6 @@
 -- Nodes that are read one after another.
 use Rattle.std.proofs.Common.{◌≡◌, ℕ, suc, ◌-◌, ◌+◌, ◌≤◌, ◌<◌, Bool, true, false, List, [], ◌∷◌, ◌++◌, ◌&&◌, length, nat_lt, get_or, slice_get, Some, Result, Ok, refl, sym, ap, subst, ◌∙◌, arith, inl, inr}
 use Rattle.std.proofs.lemmas.Bool.{lt-ltb, le-ltb}
-use Rattle.std.proofs.lemmas.Grind.{common_steps}
 use Rattle.std.proofs.lemmas.Option.{get_or_from_slice_get, slice_get_within, slice_get-get_or}
 use Rattle.letter_diagram.specs.declared.diagrams.Shape.TheVariants.{Leaf}
 use Rattle.letter_diagram.specs.Diagram.{top_track, track_of}
@@ -15,7 +14,7 @@ use Rattle.std.specs.Prelude.{◌==◌}
 use Rattle.strategy_file.specs.declared.refusal.ByteWhy.TheVariants as why
 use Rattle.strategy_file.specs.Layout.{Refusal, Give, bind, one, between}
 use Rattle.strategy_file.specs.Reading.{Left, taken, Fails}
-use Rattle.strategy_file.specs.SharedTables.{CanBePart, IsPart, node_layout, nodes_layout, reference_layout, shared_state_layout}
+use Rattle.strategy_file.specs.SharedTables.{CanBePart, node_layout, nodes_layout, reference_layout, shared_state_layout}
 use Rattle.strategy_file.proofs.Takings.{then_ok, then_fails, first_fails, fails_as}
 
 state-top : (states : ℕ) (nodes : List RowNode) (part : ℕ) → part < states → top_track (named states nodes) part ≡ 20
@@ -44,10 +43,7 @@ part_node states nodes track part d past within =
 pub part_none : (states : ℕ) (nodes : List RowNode) (track part : ℕ) → states ≤ part → length nodes ≤ part - states → false ≡ CanBePart states nodes track part
 part_none states nodes track part past none = λ i. sym (le-ltb part (states + length nodes) (omega (arith, past, none))) i && nat_lt track (top_track (named states nodes) part)
 
-pub part-is : (states : ℕ) (nodes : List RowNode) (track part : ℕ) → CanBePart states nodes track part ≡ true → IsPart states nodes track part
-part-is states nodes track part h = record { before = grind (arith, common_steps, h); above = grind (arith, common_steps, h) }
-
--- a node behind others
+-- a node after others
 pub AreRowNodes-push : (tracks states : ℕ) (nodes : List RowNode) (node : RowNode) → AreRowNodes tracks states nodes → IsRowNode (named states nodes) tracks (states + length nodes) node
     → AreRowNodes tracks states (nodes ++ node ∷ [])
 AreRowNodes-push tracks states nodes node are is = λ i other at. elim (get-cases nodes (node ∷ []) (length nodes) i other refl at) [
@@ -95,11 +91,6 @@ module _ (tracks states count i at : ℕ) (bytes : List ℕ) (before : List RowN
       fails_as e (taken (nodes_layout tracks states (suc (count - (i + 1))) before) at bytes) total
       (ap (λ n. taken (nodes_layout tracks states n before) at bytes) (sym k) ∙ so_far)
       (first_fails e (node_layout tracks states before) (λ x. nodes_layout tracks states (count - (i + 1)) (before ++ x ∷ [])) at bytes fails)
-
-  pub nodes_done : count ≤ i → total ≡ Ok (before, record { at = at; bytes = bytes })
-  nodes_done h =
-      let k : count - i ≡ 0 = omega (arith, h) in
-      sym so_far ∙ ap (λ n. taken (nodes_layout tracks states n before) at bytes) k
 
 pub zip-push : (flags : List Bool) (rows : List ℕ) (flag : Bool) (row : ℕ) → length flags ≡ length rows → zip (flags ++ flag ∷ []) (rows ++ row ∷ []) ≡ zip flags rows ++ (flag, row) ∷ []
 zip-push [] [] flag row size = refl

@@ -101,12 +101,8 @@ firsts_ray winner n p man ray distance w =
     )
 
 module _ (winner : Side) (n : ℕ) (p : Position) (man : ℕ) where
-  -- past the last man there is none
-  pub firsts_nobody : man_at p man ≡ None → (ray distance : ℕ) → Firsts winner n p man ray distance → ⊥
-  firsts_nobody none ray distance w = let no : None ≡ Some w.him = sym none ∙ w.is_man in cc
-
   module _ (m : Man) (is : man_at p man ≡ Some m) where
-    -- nor for one who is captured or of the other side
+    -- a man who is captured or of the other side has no first move
     pub firsts_idle : ((m.side ≡ p.turn) × (m.place ≢ Gone) → ⊥) → (ray distance : ℕ) → Firsts winner n p man ray distance → ⊥
     firsts_idle idle ray distance w =
         let mover = (firsts_ray winner n p man ray distance w).1 in
@@ -152,7 +148,7 @@ least_once P (Some m) (Some n) h k =
     let same : m ≡ n = omega (arith, low, high) in
     ap (λ t. Some t) same
 
--- a line tells of some distance
+-- a line has some distance
 pub line_first : {frame : Frame} {winner : Side} {n : ℕ} {p : Position} {man ray : ℕ} {line : FirstLine} → IsFirstLine frame winner n p man ray line
     → (distance : ℕ) × Firsts winner n p man ray distance
 line_first {winner} {n} {p} {man} {ray} {line} h = by line.few h.some h.few

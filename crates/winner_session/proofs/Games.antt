@@ -28,7 +28,7 @@ use Rattle.winning_sets.specs.Solve.{Solution, end_of, kept_at}
 use Rattle.winning_sets.proofs.KeptParts.{reached_sound, turn-reach}
 use Rattle.winning_sets.proofs.Places.{sets_at-ply}
 use Rattle.winning_sets.proofs.Tuples.{tuple_count}
-use Rattle.winning_sets.proofs.ValidLemmas.{valid_formed, valid_moves, valid_sound}
+use Rattle.winning_sets.proofs.ValidLemmas.{valid_formed, valid_sound}
 use Rattle.move_choice.specs.Aims.{AreNext}
 use Rattle.move_choice.specs.Choice.{Pick, target}
 use Rattle.move_choice.specs.declared.choice.Choice.{Choice}
@@ -119,7 +119,7 @@ module _ (s : Solution) (valid : IsValid s) (ply : ℕ) (p : Position) (reached 
     }) before;
   }
 
--- of so many plies every second one is the winner's, from his first turn on
+-- every second ply is the winner's, from his first turn on
 made_of : (winner first : Side) (ply : ℕ) → made winner first ply ≡ (ply + plies_before_turn (other winner) first) / 2
 made_of winner first zero = let one = waits_sum winner first in omega (arith, one)
 made_of winner first (suc ply) = by (made_of winner first ply) (plies_before_turn winner (turn_at first ply)) refl
@@ -148,10 +148,6 @@ left_made winner first moves ply low =
 winners_ply : (winner first : Side) (moves ply : ℕ) → ply < last_ply winner first moves → turn_at first ply ≡ winner → suc ply < last_ply winner first moves
 winners_ply winner first moves ply low is = let at = (its_plies winner first ply is).1 in omega (arith, low, at)
 
--- a game has few plies
-end_few : (w t : Side) (n : ℕ) → n ≤ 20 → last_ply w t n ≤ 41
-end_few w t n h = let one = waits_sum w t in omega (arith, one, h)
-
 module _ (g : Game) (game : IsGame g) where
   abbrev winner : Side
   winner = g.solution.winner
@@ -167,11 +163,6 @@ module _ (g : Game) (game : IsGame g) where
 
   pub game_within : g.ply ≤ end_of g.solution
   game_within = let low = game.before in omega (arith, low)
-
-  pub game_few : g.ply ≤ 40
-  game_few =
-      let few = end_few g.solution.winner g.solution.position.turn g.solution.moves (valid_moves g.solution game.valid) in
-      let low = game.before in omega (arith, few, low)
 
   pub game_sound : Sound g.position
   game_sound = reached_sound g.solution.position (valid_sound g.solution game.valid) g.ply g.position game.reached
@@ -261,7 +252,7 @@ picked_game {g} after c game turn picked =
       ap made_in picked.is_after ∙ ap (λ k. made_in g + k) one,
     )
 
-none_get : (games : List Game) (k : ℕ) (after : Game) → games ≡ [] → slice_get games k ≡ Some after → ⊥
+pub none_get : (games : List Game) (k : ℕ) (after : Game) → games ≡ [] → slice_get games k ≡ Some after → ⊥
 none_get [] k after e is = cc
 none_get (x ∷ xs) k after e is = cc
 

@@ -20,7 +20,7 @@ use Rattle.winning_sets.proofs.KeptGame.{kept_are_of_game, kept_is_won}
 use Rattle.winning_sets.specs.Claimed.{IsHeldFrom, IsValid, IsValidBy, IsWonClaim, claim_of}
 use Rattle.winning_sets.specs.Kept.{moves_left}
 use Rattle.winning_sets.specs.OfGame.{AreOfGame}
-use Rattle.winning_sets.specs.Solve.{IsKeptIn, IsSolution, Solution, end_of, kept_at}
+use Rattle.winning_sets.specs.Solve.{HasCoordinates, IsKeptIn, IsSolution, Solution, end_of}
 use Rattle.winning_sets.specs.declared.origin.Origin.{Origin}
 use Rattle.winning_sets.specs.declared.origin.Origin.TheVariants.{Plan, Claim as Claimed}
 use Rattle.winning_sets.proofs.ClaimedLemmas.{of_game}
@@ -29,7 +29,7 @@ use Rattle.winning_sets.proofs.KeptParts.{left_half_more, turn-reach}
 use Rattle.winning_sets.proofs.MeaningLaws.{keeps_kept}
 use Rattle.winning_sets.proofs.WonLemmas.{claimed_lost}
 
--- at a ply up to the last one where the loser is to move, the winner has so many moves left
+-- at a ply of the loser up to the last one, the winner has this number of moves left
 pub losers_ply : (winner : Side) (p : Position) (moves ply : ℕ) → ply ≤ last_ply winner p.turn moves → turn_at p.turn ply ≡ other winner → IsLosersPly winner p moves ply
 losers_ply winner p moves ply low is =
     let there = its_plies (other winner) p.turn ply is in
@@ -42,18 +42,14 @@ abbrev pub Losing : Origin → Solution → ℕ → Position → Type 0
 Losing Plan s ply q = KeptByLoser s.winner s.position s.moves ply q
 Losing Claimed s ply q = IsClaimed (claim_of s) ply q
 
--- the coordinates of the position are in the set of a ply and of its own mask
-abbrev pub IsInSet : Solution → ℕ → Position → Type 0
-IsInSet s ply q = IsSomeAnd (kept_at s ply (mask_of q)) (λ a. IsAccepted a (tuple_of q))
-
 -- these are of the game, they are held there, and they are those of the sets
 pub record HasHeld (o : Origin) (s : Solution) : Type 0 where
   pub game : AreOfGame s.winner s.position s.moves (Losing o s)
   pub held : (ply : ℕ) (q : Position) → Losing o s ply q → IsHeldFrom o s ply q
   pub losing : (ply : ℕ) (q : Position) → ply ≤ end_of s → q.turn ≡ other s.winner → IsHeldFrom o s ply q → Losing o s ply q
-  pub in_set : (ply : ℕ) (q : Position) → Losing o s ply q → IsInSet s ply q
+  pub in_set : (ply : ℕ) (q : Position) → Losing o s ply q → HasCoordinates s ply q
   pub of_set : (ply : ℕ) (q : Position) → HasStock s.position.men q → q.turn ≡ other s.winner → turn_at s.position.turn ply ≡ other s.winner
-      → IsInSet s ply q → Losing o s ply q
+      → HasCoordinates s ply q → Losing o s ply q
 
 kept_has : {s : Solution} → IsSolution s → HasHeld Plan s
 kept_has {s} valid = record {

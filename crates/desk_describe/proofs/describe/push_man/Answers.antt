@@ -1,6 +1,6 @@
-use Rattle.std.proofs.Common.{◌∙◌, Ok, Err, rules, sym, subst, refl, arith}
-use Rattle.chess_game.specs.declared.rays.TheConstants.{MOST_RAYS}
-use Rattle.desk_solve.specs.First.{Adds, IsServed}
+use Rattle.std.proofs.Common.{◌≡◌, ◌∙◌, Ok, Err, rules, ap, sym, subst, refl, arith}
+use Rattle.game_rules.specs.Game.{Position}
+use Rattle.desk_solve.specs.First.{Adds, IsServed, ray_total}
 use Rattle.desk_describe.specs.Describe.{AllTell, ManTells, RayTells}
 use Rattle.desk_describe.specs.RayStep.{StopsWith}
 use Rattle.desk_describe.proofs.AllTold.{adds_more, adds_none, stops_more}
@@ -28,13 +28,18 @@ loop-ray-preserved c =
 pub returns-in_err-push_ray-clause-stops : goal.returns-in_err-push_ray-clause-stops
 returns-in_err-push_ray-clause-stops c =
     let s = c.args.of.now.solved.now in
+    let same = ap (λ (p : Position). ray_total p c.args.man) c.position-position.ensures in
+    let total = c.total-ray_total.ensures in
     let error = c.in_err-push_ray.field-0.0 in
     handed_on c.from_residual.result error (StopsWith (λ step. ManTells c.args.of.now.budget s.winner s.moves s.position c.args.man (Err step))) (search rules)
-    (stops_more (RayTells c.args.of.now.budget s.winner s.moves s.position c.args.man) c.loop-ray.ray MOST_RAYS _ _ error
-    (omega (arith, c.loop-ray-test.true)) c.loop-ray.invariant.adds c.in_err-push_ray.ensures.stops)
+    (stops_more (RayTells c.args.of.now.budget s.winner s.moves s.position c.args.man) c.loop-ray.ray (ray_total s.position c.args.man) _ _ error
+    (omega (arith, same, total, c.loop-ray-test.true)) c.loop-ray.invariant.adds c.in_err-push_ray.ensures.stops)
 
 pub returns-clause-adds : goal.returns-clause-adds
 returns-clause-adds c =
     let s = c.args.of.now.solved.now in
-    subst (λ n. Adds (λ added. AllTell (RayTells c.args.of.now.budget s.winner s.moves s.position c.args.man) n (Ok added)) c.args.text.now.items c.loop-ray.text.items) (omega arith)
+    let same = ap (λ (p : Position). ray_total p c.args.man) c.position-position.ensures in
+    let total = c.total-ray_total.ensures in
+    let all : c.loop-ray.ray ≡ ray_total s.position c.args.man = omega (arith, same, total) in
+    subst (λ n. Adds (λ added. AllTell (RayTells c.args.of.now.budget s.winner s.moves s.position c.args.man) n (Ok added)) c.args.text.now.items c.loop-ray.text.items) all
     c.loop-ray.invariant.adds

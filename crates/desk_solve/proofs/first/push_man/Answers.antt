@@ -1,5 +1,6 @@
-use Rattle.std.proofs.Common.{◌∙◌, sym, subst, refl, arith}
-use Rattle.desk_solve.specs.First.{Adds, IsServed, Listed, RayText}
+use Rattle.std.proofs.Common.{◌≡◌, ◌∙◌, ap, sym, subst, refl, arith}
+use Rattle.game_rules.specs.Game.{Position}
+use Rattle.desk_solve.specs.First.{Adds, IsServed, Listed, RayText, ray_total}
 use Rattle.desk_solve.proofs.Listing.{adds_more, adds_none}
 use Rattle.desk_solve.proofs.first.push_man.Goals as goal
 
@@ -24,4 +25,7 @@ loop-ray-preserved c =
 pub returns-clause-adds : goal.returns-clause-adds
 returns-clause-adds c =
     let s = c.args.solved.now in
-    subst (λ n. Adds (Listed (RayText s.winner s.moves s.position c.args.man) n) c.args.text.now.items c.loop-ray.text.items) (omega arith) c.loop-ray.invariant.adds
+    let same = ap (λ (p : Position). ray_total p c.args.man) c.position-position.ensures in
+    let total = c.total-ray_total.ensures in
+    let all : c.loop-ray.ray ≡ ray_total s.position c.args.man = omega (arith, same, total) in
+    subst (λ n. Adds (Listed (RayText s.winner s.moves s.position c.args.man) n) c.args.text.now.items c.loop-ray.text.items) all c.loop-ray.invariant.adds
