@@ -18,24 +18,28 @@ HasAtMost n d = length d.set.accept ≤ n
 
 -- ---- in memory
 
-unmapped : (n : ℕ) (xs : List KeptSet) → All (HasAtMost n) (map as_set xs) → All (λ x. length x.set.accept ≤ n) xs
-unmapped n [] h = All-nil (λ x. length x.set.accept ≤ n)
-unmapped n (x ∷ xs) h =
-    All-cons (λ x. length x.set.accept ≤ n) x xs (All-head (HasAtMost n) (as_set x) (map as_set xs) h)
-    (unmapped n xs (All-tail (HasAtMost n) (as_set x) (map as_set xs) h))
-
 -- a kept set has at most this number of states
 abbrev pub KeepsAtMost : ℕ → KeptSet → Type 0
 KeepsAtMost n s = length s.set.accept ≤ n
 
+keeps_more : (m n : ℕ) → m ≤ n → (s : KeptSet) → KeepsAtMost m s → KeepsAtMost n s
+keeps_more m n more s h = let few : length s.set.accept ≤ m = h in omega (arith, few, more)
+
 pub sets_more : (sets : List KeptSet) (k : ℕ) (d : KeptSet) (most states next : ℕ) → k < length sets → All (KeepsAtMost most) (take k sets)
     → KeepsAtMost states (get_or sets k d) → next ≡ max most states → All (KeepsAtMost next) (take (k + 1) sets)
 sets_more sets k d most states next inside before here is =
-    All-more (KeepsAtMost next) sets k d inside (All-weaker (KeepsAtMost most) (KeepsAtMost next) (λ x h. omega (arith, h, is)) (take k sets) before)
-    (omega (arith, here, is))
+    All-more (KeepsAtMost next) sets k d inside
+    (All-weaker (KeepsAtMost most) (KeepsAtMost next) (keeps_more most next (omega (arith, is))) (take k sets) before)
+    (keeps_more states next (omega (arith, is)) (get_or sets k d) here)
 
-pub most_states_of : (c : KeptClaim) (most : ℕ) → All (λ x. length x.set.accept ≤ most) c.sets.items
-    → ((n : ℕ) → All (λ x. length x.set.accept ≤ n) c.sets.items → most ≤ n) → IsMostStatesOf (as_claim c) most
+unmapped : (n : ℕ) (xs : List KeptSet) → All (HasAtMost n) (map as_set xs) → All (KeepsAtMost n) xs
+unmapped n [] h = All-nil (KeepsAtMost n)
+unmapped n (x ∷ xs) h =
+    All-cons (KeepsAtMost n) x xs (All-head (HasAtMost n) (as_set x) (map as_set xs) h)
+    (unmapped n xs (All-tail (HasAtMost n) (as_set x) (map as_set xs) h))
+
+pub most_states_of : (c : KeptClaim) (most : ℕ) → All (KeepsAtMost most) c.sets.items
+    → ((n : ℕ) → All (KeepsAtMost n) c.sets.items → most ≤ n) → IsMostStatesOf (as_claim c) most
 most_states_of c most within least = record {
   within = All-map (HasAtMost most) as_set c.sets.items within;
   least = λ n all. least n (unmapped n c.sets.items all);
@@ -43,9 +47,12 @@ most_states_of c most within least = record {
 
 -- ---- sets that are small enough
 
+at_most_more : (m n : ℕ) → m ≤ n → (d : ClaimedSet) → HasAtMost m d → HasAtMost n d
+at_most_more m n more d h = let few : length d.set.accept ≤ m = h in omega (arith, few, more)
+
 pub few_of : {c : Claim} (states : ℕ) → IsMostStatesOf c states → states ≤ MOST_FILED_STATES → HasFiledSets c
 few_of {c} states most small =
-    All-weaker (HasAtMost states) (HasAtMost MOST_FILED_STATES) (λ d h. omega (arith, h, small)) c.sets most.within
+    All-weaker (HasAtMost states) (HasAtMost MOST_FILED_STATES) (at_most_more states MOST_FILED_STATES small) c.sets most.within
 
 pub formed_few : {version : Version} (c : Claim) → HasFile version c → HasFiledSets c
 formed_few c h = All-weaker (IsFormed c.position) (HasAtMost MOST_FILED_STATES) (λ d f. f.few) c.sets h.sets
@@ -62,7 +69,7 @@ at_most_alike n (x ∷ xs) [] h all = absurd h
 at_most_alike n (x ∷ xs) (y ∷ ys) h all =
     let equal = h.0.equal in
     let here : HasAtMost n y = All-head (HasAtMost n) y ys all in
-    let there : HasAtMost n x = subst (λ k. k ≤ n) (sym (ap length equal.accept)) here in
+    let there : HasAtMost n x = subst (λ (k : ℕ). k ≤ n) (sym (ap length equal.accept)) here in
     All-cons (HasAtMost n) x xs there (at_most_alike n xs ys h.1 (All-tail (HasAtMost n) y ys all))
 
 pub few_alike : {c d : Claim} → AreAlikeClaims c d → HasFiledSets d → HasFiledSets c

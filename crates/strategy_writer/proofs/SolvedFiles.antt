@@ -90,7 +90,7 @@ module _ (s : Solution) (valid : IsSolution s) where
       let kept = valid.kept.formed c.ply c.mask h.kept h.is_there in
       record { tracks = h.tracks ∙ kept.tracks; valid = h.in_order.valid; few = few }
 
-  all_formed : (cs : List ClaimedSet) → All (λ d. length d.set.accept ≤ MOST_FILED_STATES) cs → All (IsOfKeptSet s) cs → All (IsFormed s.position) cs
+  all_formed : (cs : List ClaimedSet) → All (λ (d : ClaimedSet). length d.set.accept ≤ MOST_FILED_STATES) cs → All (IsOfKeptSet s) cs → All (IsFormed s.position) cs
   all_formed cs few of k d inside = formed_of (get_or cs k d) (few k d inside) (of k d inside)
 
   pub claim_has_file : (version : Version) → HasBothKings s.position → FitsVersion version s.winner s.position → IsNarrowPosition s.position → (c : Claim) → IsClaimOf s c → HasFiledSets c
