@@ -111,7 +111,7 @@ module _ (rules : Rules) where
       let items = λ (u : SetOf) (l : Level). pre_items rules side mask u l in
       let within = λ (u v : SetOf). is_within (rules.tracks mask) (name ply mask missing) u v in
       bind-alike SameSets Same (union rules ply mask found (items s c)) (union rules ply mask found (items t d)) (within s) (within t)
-      (union-alike rules ply mask found (items s c) (items t d) (pre-same rules side mask s t c d sets levels))
+      (union-alike rules ply mask found (items s c) (items t d) (pre-same rules side mask s t (λ _. c) (λ _. d) sets (λ o. levels)))
       (λ u v same. is_within-alike (rules.tracks mask) (name ply mask missing) s t u v sets same)
 
   quiet-alike : (side : Side) (ply mask : ℕ) (s t : SetOf) → SameSets s t → Alike SameSets (quiet_set rules side ply mask s) (quiet_set rules side ply mask t)
@@ -160,7 +160,7 @@ module _ (rules : Rules) where
       (point_level-alike rules mask)
       (λ a b start.
       bind-alike SameSets Same (into (a mask) c) (into (b mask) d) asked asked
-      (union-alike rules 0 mask kind.First (items (a mask) c) (items (b mask) d) (pre-same rules side mask (a mask) (b mask) c d (start mask) claimed))
+      (union-alike rules 0 mask kind.First (items (a mask) c) (items (b mask) d) (pre-same rules side mask (a mask) (b mask) (λ _. c) (λ _. d) (start mask) (λ o. claimed)))
       (λ s t same. (Has-alike s t tuple same, refl, refl)))
 
   move-alike : (side : Side) (mask : ℕ) (tuple : List ℤ) (c d : Level) → SameLevels c d → Alike Same (check_move rules side mask tuple c) (check_move rules side mask tuple d)

@@ -7,6 +7,7 @@ use Rattle.game_rules.specs.declared.men.Side.{Side}
 use Rattle.lin_formula.specs.SetOf.{SetOf, Nothing}
 use Rattle.mask_sets.specs.Stock.{mask_of}
 use Rattle.rule_formula.specs.declared.opt.Bearing.{Bearing}
+use Rattle.rule_formula.specs.declared.opt.Opt.{Opt}
 use Rattle.set_plan.specs.Program.{Item, Give, each}
 use Rattle.set_plan.specs.Same.{SameSets, SameItem}
 use Rattle.set_plan.specs.Unite.{Made, join, make, two, unite, without}
@@ -17,7 +18,7 @@ use Rattle.set_plan.proofs.SameSets.{SameItem-sets}
 use Rattle.set_plan.proofs.Unique.{Ends-not_stops, Ends-one, Stops-one}
 use Rattle.mate_plan.specs.declared.names.Part.{Part}
 use Rattle.mate_plan.specs.declared.names.Part.TheVariants as kind
-use Rattle.mate_plan.specs.Plan.{Level, Program, Rules, backward, backward_from, bear_item, bear_items, choices_into, difference, for_masks, forward, image_item, image_items, is_even, kept_level, level_with, lost_level, lost_set, lost_set_if, name, narrow, narrow_by, no_sets, plan, point_level, pre_item, pre_items, reach_level, reach_more, reach_set, rest_set, safe_item, turn_at, union, win_level, win_set, with_mask}
+use Rattle.mate_plan.specs.Plan.{Level, Program, Rules, backward, backward_from, bear_item, bear_items, choices_into, difference, for_masks, forward, image_item, image_items, is_even, kept_level, level_with, lost_level, lost_set_by, lost_set_if, lost_set_if_by, name, narrow, narrow_by, no_sets, plan, point_level, pre_item, pre_items, pre_items_by, reach_level, reach_more, reach_set, rest_set, safe_item, turn_at, union, win_level, win_set, with_mask}
 use Rattle.mate_plan.specs.Once.{EndsOnce, SameLevels, SameLists}
 use Rattle.mate_plan.specs.PlanOf.{last_ply, plan_of, plan_to, rules_of}
 
@@ -80,11 +81,12 @@ module _ (rules : Rules) where
       (λ o. SameItem-sets (rules.image mask o) (λ _. l mask) (λ _. m mask) (λ k. levels mask)) (choices_into rules side mask to))
       rules.masks
 
-  pub pre-same : (side : Side) (mask : ℕ) (s t : SetOf) (l m : Level) → SameSets s t → SameLevels l m → SameItems (pre_items rules side mask s l) (pre_items rules side mask t m)
-  pre-same side mask s t l m sets levels =
-      map-items (pre_item rules mask s l) (pre_item rules mask t m)
-      (λ o. SameItem-sets (rules.pre mask o) (two s (l (rules.target mask o))) (two t (m (rules.target mask o)))
-      (two-same s t (l (rules.target mask o)) (m (rules.target mask o)) sets (levels (rules.target mask o))))
+  pub pre-same : (side : Side) (mask : ℕ) (s t : SetOf) (into onto : Opt → Level) → SameSets s t → ((o : Opt) → SameLevels (into o) (onto o))
+      → SameItems (pre_items_by rules side mask s into) (pre_items_by rules side mask t onto)
+  pre-same side mask s t into onto sets levels =
+      map-items (λ o. pre_item rules mask s (into o) o) (λ o. pre_item rules mask t (onto o) o)
+      (λ o. SameItem-sets (rules.pre mask o) (two s (into o (rules.target mask o))) (two t (onto o (rules.target mask o)))
+      (two-same s t (into o (rules.target mask o)) (onto o (rules.target mask o)) sets (levels o (rules.target mask o))))
       (rules.choices side mask)
 
   pub bear-same : (side : Side) (mask : ℕ) (s t : SetOf) → SameSets s t → SameItems (bear_items rules side mask s) (bear_items rules side mask t)
@@ -97,7 +99,7 @@ module _ (rules : Rules) where
       subst At same.at
       (make-alike (name ply mask kind.Safe) m.1 (safe_item rules mask m.0 b) (safe_item rules mask n.0 b) (SameItem-sets (rules.safe mask b) (λ _. m.0) (λ _. n.0) (λ k. same.sets)))
 
-  narrow-alike : (ply mask : ℕ) (bearings : List Bearing) (s t : SetOf) → SameSets s t → Alike SameSets (narrow rules ply mask bearings s) (narrow rules ply mask bearings t)
+  pub narrow-alike : (ply mask : ℕ) (bearings : List Bearing) (s t : SetOf) → SameSets s t → Alike SameSets (narrow rules ply mask bearings s) (narrow rules ply mask bearings t)
   narrow-alike ply mask bearings s t same =
       bind-alike SameMade SameSets (each bearings (narrow_by rules ply mask) (s, 1)) (each bearings (narrow_by rules ply mask) (t, 1)) (λ made. Give made.0) (λ made. Give made.0)
       (each-alike SameMade (narrow_by rules ply mask) (narrow_by rules ply mask) (narrow_by-alike ply mask) bearings (s, 1) (t, 1) (record { sets = same; at = refl }))
@@ -115,17 +117,18 @@ module _ (rules : Rules) where
   reach_level-alike side ply l m levels =
       for_masks-alike rules.masks (reach_set rules side ply l) (reach_set rules side ply m) no_sets no_sets (λ mask. reach_set-alike side ply l m mask levels) none-same
 
-  win_level-alike : (side : Side) (ply : ℕ) (r q k j : Level) → SameLevels r q → SameLevels k j → Alike SameLevels (win_level rules side ply r k) (win_level rules side ply q j)
+  pub win_level-alike : (side : Side) (ply : ℕ) (r q k j : Level) → SameLevels r q → SameLevels k j → Alike SameLevels (win_level rules side ply r k) (win_level rules side ply q j)
   win_level-alike side ply r q k j reached kept =
       for_masks-alike rules.masks (win_set rules side ply r k) (win_set rules side ply q j) no_sets no_sets
-      (λ mask. union-alike ply mask kind.Win (pre_items rules side mask (r mask) k) (pre_items rules side mask (q mask) j) (pre-same side mask (r mask) (q mask) k j (reached mask) kept))
+      (λ mask. union-alike ply mask kind.Win (pre_items rules side mask (r mask) k) (pre_items rules side mask (q mask) j) (pre-same side mask (r mask) (q mask) (λ _. k) (λ _. j) (reached mask) (λ o. kept)))
       none-same
 
-  lost_set-alike : (side : Side) (ply mask : ℕ) (s t : SetOf) (r q l m : Level) → SameSets s t → SameLevels r q → SameLevels l m
-      → Alike SameSets (lost_set rules side ply mask s r l) (lost_set rules side ply mask t q m)
-  lost_set-alike side ply mask s t r q l m sets reached rests =
-      bind-alike SameSets SameSets (union rules ply mask kind.Escape (pre_items rules side mask s l)) (union rules ply mask kind.Escape (pre_items rules side mask t m)) _ _
-      (union-alike ply mask kind.Escape (pre_items rules side mask s l) (pre_items rules side mask t m) (pre-same side mask s t l m sets rests))
+  lost_set-alike : (side : Side) (ply mask : ℕ) (s t : SetOf) (r q l m : Opt → Level) → SameSets s t → ((o : Opt) → SameLevels (r o) (q o))
+      → ((o : Opt) → SameLevels (l o) (m o))
+      → Alike SameSets (lost_set_by rules side ply mask s r l) (lost_set_by rules side ply mask t q m)
+  lost_set-alike side ply mask s t r q l m sets replies rests =
+      bind-alike SameSets SameSets (union rules ply mask kind.Escape (pre_items_by rules side mask s l)) (union rules ply mask kind.Escape (pre_items_by rules side mask t m)) _ _
+      (union-alike ply mask kind.Escape (pre_items_by rules side mask s l) (pre_items_by rules side mask t m) (pre-same side mask s t l m sets rests))
       (λ e f escape.
       bind-alike SameSets SameSets (difference rules ply mask kind.Calm s e) (difference rules ply mask kind.Calm t f) _ _ (difference-alike ply mask kind.Calm s t e f sets escape)
       (λ c d calm.
@@ -134,13 +137,22 @@ module _ (rules : Rules) where
       (λ g h check.
       bind-alike SameSets SameSets (difference rules ply mask kind.Quiet c g) (difference rules ply mask kind.Quiet d h) _ _ (difference-alike ply mask kind.Quiet c d g h calm check)
       (λ v w quiet.
-      bind-alike SameSets SameSets (union rules ply mask kind.Reply (pre_items rules side mask v r)) (union rules ply mask kind.Reply (pre_items rules side mask w q)) _ _
-      (union-alike ply mask kind.Reply (pre_items rules side mask v r) (pre_items rules side mask w q) (pre-same side mask v w r q quiet reached))
+      bind-alike SameSets SameSets (union rules ply mask kind.Reply (pre_items_by rules side mask v r)) (union rules ply mask kind.Reply (pre_items_by rules side mask w q)) _ _
+      (union-alike ply mask kind.Reply (pre_items_by rules side mask v r) (pre_items_by rules side mask w q) (pre-same side mask v w r q quiet replies))
       (λ x y reply.
       bind-alike SameMade SameSets (join (rules.tracks mask) (name ply mask kind.Lost) g (x, 1))
       (join (rules.tracks mask) (name ply mask kind.Lost) h (y, 1)) (λ made. Give made.0) (λ made. Give made.0)
       (join-alike (rules.tracks mask) (name ply mask kind.Lost) g h (x, 1) (y, 1) check (record { sets = reply; at = refl }))
       (λ a b made. made.sets))))))
+
+  pub lost_set_if-alike : (side : Side) (ply mask : ℕ) (s t : Level) (r q l m : Opt → Level) → SameLevels s t → ((o : Opt) → SameLevels (r o) (q o))
+      → ((o : Opt) → SameLevels (l o) (m o))
+      → Alike SameSets (lost_set_if_by rules side ply s r l mask) (lost_set_if_by rules side ply t q m mask)
+  lost_set_if-alike side ply mask s t r q l m sets replies rests = (
+    Empty-alike (s mask) (t mask) (sets mask),
+    SameSets-self Nothing,
+    lost_set-alike side ply mask (s mask) (t mask) r q l m (sets mask) replies rests,
+  )
 
   lost_level-alike : (side : Side) (ply : ℕ) (r q r1 q1 k j : Level) → SameLevels r q → SameLevels r1 q1 → SameLevels k j
       → Alike SameLevels (lost_level rules side ply r r1 k) (lost_level rules side ply q q1 j)
@@ -152,7 +164,7 @@ module _ (rules : Rules) where
       none-same)
       (λ l m rests.
       for_masks-alike rules.masks (lost_set_if rules side ply r r1 l) (lost_set_if rules side ply q q1 m) no_sets no_sets
-      (λ mask. (Empty-alike (r mask) (q mask) (reached mask), SameSets-self Nothing, lost_set-alike side ply mask (r mask) (q mask) r1 q1 l m (reached mask) next rests))
+      (λ mask. lost_set_if-alike side ply mask r q (λ _. r1) (λ _. q1) (λ _. l) (λ _. m) reached (λ o. next) (λ o. rests))
       none-same)
 
   pub point_level-alike : (mask : ℕ) → Alike SameLevels (point_level rules mask) (point_level rules mask)

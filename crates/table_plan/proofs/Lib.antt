@@ -9,3 +9,4 @@ pub mod MovedLevels
 pub mod Levels
 pub mod Rows
 pub mod NearForms
+pub mod TableOnce

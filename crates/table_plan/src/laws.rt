@@ -1,5 +1,6 @@
 //! What the sets of a table are: laws of the definitions, each the contract of a function without a body.
 
+ghost use Rattle.table_plan.specs.Once.{TablesEndOnce};
 ghost use Rattle.table_plan.specs.TableMeans.{MovedIsMoved, SoundStandsForStock, TableDecides, TableIsForEver, TableIsWon, TableWinsAll, UniverseIsAll};
 
 /// States that a sound position of at most eight men, all live, in which the loser has a king, stands for its stock.
@@ -36,4 +37,9 @@ pub fn table_is_for_ever()
 /// States that the winner mates from everywhere within the moves of a row that wins all positions.
 pub fn table_wins_all()
     ensures { TableWinsAll }
+{}
+
+/// States that a table has one end, or one first step that exceeds the budget.
+pub fn tables_end_once()
+    ensures { TablesEndOnce }
 {}
