@@ -29,7 +29,7 @@ SHAPES = {
 # The commands that play a game.
 GAMES = ("play", "resume", "defend")
 # The commands that are the script's own, and the scripts beside it.
-OF_SCRIPT = ["help", "version", "program", "manual", "completion", "cost", "unproved", "solve", "map", "board", "convert"]
+OF_SCRIPT = ["help", "version", "program", "manual", "completion", "cost", "unproved", "solve", "map", "board", "convert", "studio"]
 # The commands that read nothing from standard input, and those whose position `crowd` reads too.
 TEXTLESS = ("check", "migrate", "drill")
 OF_CROWD = ("decide", "least", "first", "describe", "play", "defend", "keep")

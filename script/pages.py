@@ -10,7 +10,7 @@ import sys
 from dataclasses import dataclass
 
 TOP = os.path.dirname(os.path.dirname(os.path.realpath(__file__)))
-SCRIPTS = ["solve", "map", "board", "convert"]
+SCRIPTS = ["solve", "map", "board", "convert", "studio"]
 # A row of the table: how a command is written, and what it does. What goes on is indented further.
 ROW = re.compile(r"^  ((\w+)\S*(?: \S+)*) {2,}(\S.*)$")
 
