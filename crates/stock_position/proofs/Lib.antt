@@ -1,0 +1,3 @@
+pub mod LiveMen
+pub mod Men
+pub mod Reasons
