@@ -24,6 +24,6 @@ loop-item-preserved g c =
       fits = step.fits rest (rw front at so_far.fits);
       program = step.program ∙ so_far.program;
       budget = step.budget ∙ so_far.budget;
-      keeps = g.met.S.Steps.keeps_on c.args.steps.now c.args.work.now c.loop-item.work c.step.new.work so_far.keeps step.keeps;
+      keeps = g.met.S.ProgramFold.keeps_on c.args.steps.now c.args.work.now c.loop-item.work c.step.new.work so_far.keeps step.keeps;
       left = each_more c.args.items.now _ _ _ c.loop-item.item-index c.item-item.result _ so_far.left less c.item-item.is _ made;
     }
