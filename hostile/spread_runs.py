@@ -1,7 +1,7 @@
 #!/usr/bin/env python3
 """usage: spread_runs.py [PROGRAM] [--seed S] [--count N] [--most M]
 
-Compares the step that is named over a budget with a second count. N times a position, a claim or a formula is drawn from the seed; spreads.cpp computes from
+Compares the step that is named over a budget with a second count. N times a position, a claim, a crowd or a formula is drawn from the seed; spreads.cpp computes from
 the definitions how many states each of its steps needs, up to M, in another language and by other means. The program runs at each record of these numbers,
 with that budget and one less: it must name that step, and then the next one, or answer. First come a position and a claim for steps that nothing drawn names. The
 claims are files that the program keeps, also with tuples added and removed, with other sets, or with another position. Runs that end otherwise are printed, and
@@ -186,6 +186,13 @@ def formula_runs(draw, runs):
         runs.compare("formulas", ["arith"], ["arith"], line + b"\n", lambda said, end: said.split() [:1] == [end])
 
 
+def crowd_runs(draw, runs):
+    """The plan of a position as a crowd's."""
+    text, moves = drawn_position(draw)
+    text = text.replace(b"infinite chess", b"infinite crowd")
+    runs.compare("crowds", ["crowd", str(moves)], ["crowd", str(moves)], text, lambda said, end: said == end + "\n")
+
+
 def main():
     parser = argparse.ArgumentParser(usage=__doc__)
     parser.add_argument("program", nargs="?", default=BUILT)
@@ -203,7 +210,7 @@ def main():
         known_runs(runs)
         drawn = 0
         while drawn < given.count and not stopped:
-            draw.choices([plan_runs, formula_runs], [3, 1])[0](draw, runs)
+            draw.choices([plan_runs, formula_runs, crowd_runs], [3, 1, 1])[0](draw, runs)
             drawn += 1
     print(f"seed {given.seed}: {drawn} drawn; {time.time() - begun:.0f} s")
     for counts in (runs.counts, runs.steps):

@@ -2,10 +2,12 @@
 // pairs and sets of their states. It shares nothing with the program. The words of a formula, its steps and their spread are those of
 // docs/FORMATS.md, of crates/auto_core/specs/Spread.antt and of crates/formula_auto/specs/Step.antt, the formulas of the rules those of
 // crates/rule_formula/specs/Trees.antt, the lists of steps those of crates/mate_plan/specs/Plan.antt and crates/claim_plan/specs/CheckPlan.antt, and
-// the formulas of distances those of crates/first_distances/specs/RayFormula.antt and crates/period_sets/specs/Question.antt.
+// the formulas of distances those of crates/first_distances/specs/RayFormula.antt and crates/period_sets/specs/Question.antt. The plan of a crowd is
+// that of crates/line_plan/specs/Plan.antt, with the formulas of Atoms.antt, Rules.antt and Paths.antt in crates/line_formula/specs.
 //
 // usage: spreads decide N MOST < TEXT    the plan of N moves of a position text
 //        spreads describe N MOST < TEXT  this plan, and the formulas of the distances of first moves behind it
+//        spreads crowd N MOST < TEXT     the plan of N moves of a crowd's text
 //        spreads check FILE MOST         the plan of the claim of a strategy file, of either version
 //        spreads arith MOST < LINE       the steps of a formula
 //
@@ -67,10 +69,13 @@ int most;
 string part;
 int at;
 long record;
+// The spread of the last step.
+long counted;
 
 // A step with this many classes of words.
 void count_step(long spread) {
     at++;
+    counted = spread;
     if (spread > record) {
         record = spread;
         std::cout << spread << " " << part << at << "\n";
@@ -316,14 +321,14 @@ int turn, winner, moves;
 // Men are numbered from 1.
 const Man &man(int k) { return men[k - 1]; }
 int count_men() { return men.size(); }
-bool is_live(int mask, int k) { return mask >> (k - 1) & 1; }
+bool is_live(long mask, int k) { return mask >> (k - 1) & 1; }
 Seat own(int k) { return {2 * k - 2, 2 * k - 1}; }
 // A further square, by as much of it as the ray changes.
 Seat spare(Ray r, int k) { return {r.dx ? U : own(k).x, r.dy ? V : own(k).y}; }
 
-int first_mask() {
-    int mask = 0;
-    for (int k = 1; k <= count_men(); k++) mask |= man(k).live << (k - 1);
+long first_mask() {
+    long mask = 0;
+    for (int k = 1; k <= count_men(); k++) mask |= long(man(k).live) << (k - 1);
     return mask;
 }
 
@@ -342,7 +347,7 @@ Ints masks() {
     return made;
 }
 
-int without(int mask, int k) { return k ? mask & ~(1 << (k - 1)) : mask; }
+long without(long mask, int k) { return k ? mask & ~(1L << (k - 1)) : mask; }
 
 // The variables of the mask's men, each on his seat; man 0 is none.
 Ints seats(int mask, int k = 0, Seat his = {0, 0}, int other = 0, Seat its = {0, 0}) {
@@ -355,7 +360,7 @@ Ints seats(int mask, int k = 0, Seat his = {0, 0}, int other = 0, Seat its = {0,
     return made;
 }
 
-vector<Option> options_of(int side, int mask) {
+vector<Option> options_of(int side, long mask) {
     vector<Option> made;
     for (int k = 1; k <= count_men(); k++) {
         if (!is_live(mask, k) || man(k).side != side) continue;
@@ -369,7 +374,7 @@ vector<Option> options_of(int side, int mask) {
     return made;
 }
 
-vector<Bearing> bearings_of(int side, int mask) {
+vector<Bearing> bearings_of(int side, long mask) {
     vector<Bearing> made;
     for (int k = 1; k <= count_men(); k++) {
         if (!is_live(mask, k) || man(k).side != side) continue;
@@ -722,6 +727,165 @@ void check(std::map<int, Level> claimed) {
     }
 }
 
+// The plan of a crowd. A path is the moves made so far, first one first; variable n is the distance of move n, counted from 0, and HELD is a sum's constant.
+struct Leg { int man; Ray ray; };
+struct Path { vector<Leg> legs; long mask; int turn; };
+// A weighted distance between two men, to the right and upwards.
+struct Gap { int right, up, from, to; };
+typedef vector<std::pair<int, int>> Terms;
+enum { HELD = 16 };
+
+Path after(Path path, const Option &o) {
+    path.legs.push_back({o.man, o.ray});
+    return {path.legs, without(path.mask, o.taken), 1 - path.turn};
+}
+
+// How a step of the leg moves a man.
+int step_x(int k, const Leg &leg) { return leg.man == k ? leg.ray.dx : 0; }
+int step_y(int k, const Leg &leg) { return leg.man == k ? leg.ray.dy : 0; }
+
+// A captured man has the square 0 0.
+int64_t constant(Gap g) { return g.right * (man(g.to).x - man(g.from).x) + g.up * (man(g.to).y - man(g.from).y); }
+
+Terms terms(Gap g, const vector<Leg> &legs) {
+    Terms made;
+    for (size_t n = 0; n < legs.size(); n++) {
+        int weight = g.right * (step_x(g.to, legs[n]) - step_x(g.from, legs[n])) + g.up * (step_y(g.to, legs[n]) - step_y(g.from, legs[n]));
+        if (weight) made.push_back({weight, n});
+    }
+    return made;
+}
+
+// A sum is needed at many steps: what was made of it is kept, with the spreads of its two steps.
+struct Sum { Auto set; long meet, project; };
+std::map<std::pair<std::pair<int64_t, Terms>, std::pair<bool, int>>, Sum> sums;
+
+Auto sum(int64_t constant, Terms terms, bool equal, int bound) {
+    terms.push_back({1, HELD});
+    auto found = sums.find({{constant, terms}, {equal, bound}});
+    if (found != sums.end()) {
+        count_step(found->second.meet);
+        count_step(found->second.project);
+        return found->second.set;
+    }
+    Auto meet = both(value(HELD, constant), lin(terms, equal, bound));
+    long first = counted;
+    Auto made = some(HELD, meet);
+    sums[{{constant, terms}, {equal, bound}}] = {made, first, counted};
+    return made;
+}
+
+Auto gap(const vector<Leg> &legs, Gap g, bool equal, int bound) { return sum(constant(g), terms(g, legs), equal, bound); }
+
+Gap across(int a, int b) { return {1, 0, a, b}; }
+Gap upward(int a, int b) { return {0, 1, a, b}; }
+Gap measure(Ray r, int a, int b) { return std::abs(r.dx) == 1 ? Gap{r.dx, 0, a, b} : Gap{0, r.dy, a, b}; }
+Gap opposite(Gap g) { return {-g.right, -g.up, g.from, g.to}; }
+
+// b is on the line through a, and ahead of him.
+Auto on_line(const vector<Leg> &legs, Ray r, int a, int b) { return gap(legs, {r.dy, -r.dx, a, b}, true, 0); }
+Auto in_front(const vector<Leg> &legs, Ray r, int a, int b) { return gap(legs, opposite(measure(r, a, b)), false, -1); }
+
+Auto sighted(const vector<Leg> &legs, Ray r, int a, int b) {
+    Auto made = on_line(legs, r, a, b), next = in_front(legs, r, a, b);
+    return both(made, next);
+}
+
+Auto apart(const vector<Leg> &legs, int a, int b, int x, int y) {
+    Auto made = gap(legs, across(a, b), true, x), next = gap(legs, upward(a, b), true, y);
+    return both(made, next);
+}
+
+// Man k is on the way of the path's last move, its end included.
+Auto on_way(const Path &next, int k) {
+    vector<Leg> legs = next.legs;
+    Leg leg = legs.back();
+    if (!leg.ray.far) return apart(legs, leg.man, k, 0, 0);
+    legs.pop_back();
+    Auto made = sighted(legs, leg.ray, leg.man, k);
+    Gap length = measure(leg.ray, leg.man, k);
+    Terms far = terms(length, legs);
+    far.push_back({-1, int(legs.size())});
+    Auto reached = sum(constant(length), far, false, 0);
+    return both(made, reached);
+}
+
+Auto bear(const Path &path, const Bearing &b) {
+    if (!b.ray.far) return apart(path.legs, b.man, b.king, b.ray.dx, b.ray.dy);
+    Auto made = sighted(path.legs, b.ray, b.man, b.king);
+    for (int k = 1; k <= count_men(); k++)
+        if (is_live(path.mask, k) && k != b.man && k != b.king) {
+            Auto screens = sighted(path.legs, b.ray, b.man, k), last = in_front(path.legs, b.ray, k, b.king);
+            screens = both(screens, last);
+            made = both(made, no(screens));
+        }
+    return made;
+}
+
+// The tuples of the set at which the part is true; no step is asked of an empty set.
+template <class Part>
+void narrow(Auto &set, Part part) {
+    if (!set.is_empty()) set = or_nothing(both(set, part()));
+}
+
+// The distances at which the path's moves, and one more, are legal.
+Auto legal(const Path &path, const Option &o, Auto set) {
+    Path next = after(path, o);
+    int n = path.legs.size();
+    narrow(set, [&]() { return o.ray.far ? lin({{-1, n}}, false, -1) : lin({{1, n}}, true, 1); });
+    if (o.taken) {
+        narrow(set, [&]() { return gap(next.legs, across(o.taken, o.man), true, 0); });
+        narrow(set, [&]() { return gap(next.legs, upward(o.taken, o.man), true, 0); });
+    }
+    for (int k = 1; k <= count_men(); k++)
+        if (is_live(path.mask, k) && k != o.man && k != o.taken) narrow(set, [&]() { return no(on_way(next, k)); });
+    for (const Bearing &b : bearings_of(next.turn, next.mask)) narrow(set, [&]() { return no(bear(next, b)); });
+    return set;
+}
+
+Auto kept_after(int left, const Path &path, const Auto &set);
+
+// From where the winner, to move, has a move after which he mates.
+Auto won_after(int left, const Path &path, const Auto &set) {
+    Auto made = nothing();
+    for (const Option &o : options_of(path.turn, path.mask)) {
+        Auto next = legal(path, o, set);
+        if (next.is_empty()) continue;
+        Auto inner = kept_after(left, after(path, o), next);
+        if (!inner.is_empty()) unite(made, some(path.legs.size(), inner));
+    }
+    return made;
+}
+
+// From where the loser, to move, is in check or has a move, and has no move by which he escapes.
+Auto lost_after(int left, const Path &path, const Auto &set) {
+    int n = path.legs.size();
+    Auto escape = nothing(), moved = nothing(), made = nothing();
+    for (const Option &o : options_of(path.turn, path.mask)) {
+        Auto next = legal(path, o, set);
+        if (next.is_empty()) continue;
+        Auto inner = kept_after(left, after(path, o), next);
+        unite(escape, or_nothing(some(n, inner.is_empty() ? next : both(next, no(inner)))));
+        unite(moved, some(n, next));
+    }
+    for (const Bearing &b : bearings_of(1 - path.turn, path.mask)) unite(made, or_nothing(both(set, bear(path, b))));
+    unite(made, moved);
+    return less(made, escape);
+}
+
+// The distances at which the path's moves are legal and the winner mates with the moves left, of both sides.
+Auto kept_after(int left, const Path &path, const Auto &set) {
+    if (left == 0) return nothing();
+    return path.turn == winner ? won_after(left - 1, path, set) : lost_after(left - 1, path, set);
+}
+
+bool crowd() {
+    part = "crowd ";
+    at = 0;
+    Auto no_distance = reduced(explored<int>({}, kinds_by<int>(1, [](int) { return 0; }), [](int) { return 0; }, [](int, int) { return 0; }, [](int) { return true; }));
+    return !kept_after(turn == winner ? 2 * moves : 2 * moves + 1, {{}, first_mask(), turn}, no_distance).is_empty();
+}
+
 // What is read is in order: other runs are for what is not.
 void read_text(std::istream &text) {
     string line, side;
@@ -841,11 +1005,16 @@ int main(int count, char **words) {
         bool mates = decide();
         if (command == "describe" && mates) describe();
         std::cout << "end " << (mates ? "" : "no ") << "mate in " << moves << "\n";
+    } else if (command == "crowd" && count == 4) {
+        moves = atoi(words[2]);
+        read_text(std::cin);
+        bool mates = crowd();
+        std::cout << "end " << (mates ? "" : "no ") << "mate in " << moves << "\n";
     } else if (command == "check" && count == 4) {
         check(read_file(words[2]));
         std::cout << "end mate in " << moves << "\n";
     } else {
-        std::cerr << "usage: spreads decide N MOST < TEXT, or describe N MOST < TEXT, or check FILE MOST, or arith MOST < LINE\n";
+        std::cerr << "usage: spreads decide N MOST < TEXT, or describe or crowd in its place, or check FILE MOST, or arith MOST < LINE\n";
         return 2;
     }
 }
