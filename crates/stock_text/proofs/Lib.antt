@@ -1,0 +1,3 @@
+pub mod KingLemmas
+pub mod StockLemmas
+pub mod WriterLemmas
