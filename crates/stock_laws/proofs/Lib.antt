@@ -1,0 +1,3 @@
+pub mod AfterMoves
+pub mod AlikeGames
+pub mod LiveLists
