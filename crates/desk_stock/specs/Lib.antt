@@ -1,0 +1,3 @@
+pub mod StockAt
+pub mod StockLaws
+pub mod StockRead
