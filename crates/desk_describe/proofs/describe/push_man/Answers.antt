@@ -29,7 +29,7 @@ pub returns-in_err-push_ray-clause-stops : goal.returns-in_err-push_ray-clause-s
 returns-in_err-push_ray-clause-stops c =
     let s = c.args.of.now.solved.now in
     let same = ap (λ (p : Position). ray_total p c.args.man) c.position-position.ensures in
-    let total = c.total-ray_total.ensures in
+    let total = c.ray_total-total.ensures in
     let error = c.in_err-push_ray.field-0.0 in
     handed_on c.from_residual.result error (StopsWith (λ step. ManTells c.args.of.now.budget s.winner s.moves s.position c.args.man (Err step))) (search rules)
     (stops_more (RayTells c.args.of.now.budget s.winner s.moves s.position c.args.man) c.loop-ray.ray (ray_total s.position c.args.man) _ _ error
@@ -39,7 +39,7 @@ pub returns-clause-adds : goal.returns-clause-adds
 returns-clause-adds c =
     let s = c.args.of.now.solved.now in
     let same = ap (λ (p : Position). ray_total p c.args.man) c.position-position.ensures in
-    let total = c.total-ray_total.ensures in
+    let total = c.ray_total-total.ensures in
     let all : c.loop-ray.ray ≡ ray_total s.position c.args.man = omega (arith, same, total) in
     subst (λ n. Adds (λ added. AllTell (RayTells c.args.of.now.budget s.winner s.moves s.position c.args.man) n (Ok added)) c.args.text.now.items c.loop-ray.text.items) all
     c.loop-ray.invariant.adds

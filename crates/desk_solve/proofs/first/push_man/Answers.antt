@@ -26,6 +26,6 @@ pub returns-clause-adds : goal.returns-clause-adds
 returns-clause-adds c =
     let s = c.args.solved.now in
     let same = ap (λ (p : Position). ray_total p c.args.man) c.position-position.ensures in
-    let total = c.total-ray_total.ensures in
+    let total = c.ray_total-total.ensures in
     let all : c.loop-ray.ray ≡ ray_total s.position c.args.man = omega (arith, same, total) in
     subst (λ n. Adds (Listed (RayText s.winner s.moves s.position c.args.man) n) c.args.text.now.items c.loop-ray.text.items) all c.loop-ray.invariant.adds
