@@ -62,7 +62,7 @@ fn whole_stock(text: StockReader) -> Stock
     }
 }
 
-/// Reads a stock text at the front of an input. Nothing after it is read, except the bytes that the reader keeps.
+/// Reads a stock text at the front of an input. Nothing after it is read, except at most 256 bytes that the reader keeps.
 pub fn read_stock<S: Source>(reader: &mut LineReader, source: &mut S) -> Result<Stock, StockTextEnd>
     requires fresh { (reader.old.pending ≡ []) × (reader.old.stopped ≡ None) }
     ensures reads { StockRead result reader.new.pending (S.left source.old) (S.left source.new) }
