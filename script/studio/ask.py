@@ -10,17 +10,10 @@ from concurrent.futures import ThreadPoolExecutor
 from studio_runs import Busy, Run
 
 TOP = os.path.dirname(os.path.dirname(os.path.dirname(os.path.realpath(__file__))))
-sys.path[:0] = [f"{TOP}/explain", f"{TOP}/examples", f"{TOP}/python"]
+sys.path[:0] = [f"{TOP}/explain", f"{TOP}/python"]
 import explain  # noqa: E402
 import position as chess  # noqa: E402
-try:
-    from gezhumai_mate import notation as notations
-    from gezhumai_mate.ends import NoProgram
-    from gezhumai_mate.program import path as proved_program
-except ImportError:
-    # A clone that has no package for Python yet.
-    from mate import NoProgram, program as proved_program
-    notations = None
+from gezhumai_mate import notation as notations  # noqa: E402
 
 
 def script(name):
@@ -157,8 +150,6 @@ class Placed:
 
 def notation(text, form):
     """Returns a text of ICN or FEN as a position text, or a position text in the notation `form`, with what was left out."""
-    if notations is None:
-        raise ValueError("it is no position text, and python/gezhumai_mate, which reads ICN and FEN, is not here")
     if not form:
         found = notations.read(text)
         return {"text": notations.write(found.position, "text").text, "told": found.remarks, "form": found.form.upper()}
