@@ -1,5 +1,5 @@
 -- Positions that are moved there and back, and sets of positions that translations keep.
-use Rattle.std.proofs.Common.{◌≡◌, Some, ℤ, pos, ◌+ℤ◌, ◌-ℤ◌, sym, ap, ◌∙◌, subst, arith}
+use Rattle.std.proofs.Common.{◌≡◌, Some, ℤ, pos, ◌+ℤ◌, ap, ◌∙◌, subst, arith}
 use Rattle.std.proofs.lemmas.Int.{ints}
 use Rattle.game_rules.specs.Game.{Position, StandsOn, place_square}
 use Rattle.game_rules.specs.declared.men.Man.{Man}

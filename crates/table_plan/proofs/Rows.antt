@@ -1,5 +1,5 @@
 -- The rows of a table, by induction, and the law of the table.
-use Rattle.std.proofs.Common.{◌≡◌, ℕ, zero, suc, ◌-◌, ◌↔◌, List, [], ◌∷◌, length, Some, inl, inr, refl, sym, ap, subst, arith}
+use Rattle.std.proofs.Common.{◌≡◌, ℕ, zero, suc, ◌-◌, ◌↔◌, List, [], ◌∷◌, length, Some, refl, sym, ap, subst, arith}
 use Rattle.std.specs.Prelude.{slice_get}
 use Rattle.std.proofs.lemmas.List.Elements.{All-head, All-tail}
 use Rattle.game_rules.specs.Game.{Lost, Position, Win, other}
@@ -23,7 +23,7 @@ use Rattle.winning_sets.specs.PlanMeans.{IsDecided}
 use Rattle.winning_sets.proofs.KeptSets.{Entries}
 use Rattle.table_plan.specs.Table.{Row, Universe, all_level, lost_level, moved_levels, next_row, ray, row, rows_to, table, universe, with_next}
 use Rattle.table_plan.specs.TableMeans.{AreKnown, IsInLevel, IsNoMore, IsOfStock, IsRowOf, IsStock, KingStandsOn, LostAt0, SoundStandsForStock, TableDecides, TableIsForEver, TableIsWon, TableWinsAll, WonAt0, moved_from}
-use Rattle.table_plan.proofs.Levels.{IsLost, IsUniverse, IsWon, after_move, king_square, lost-next, of_movable, won-next, won-zero}
+use Rattle.table_plan.proofs.Levels.{IsLost, IsUniverse, IsWon, king_square, lost-next, of_movable, won-next, won-zero}
 use Rattle.table_plan.proofs.MovedBack.{king_to_origin}
 use Rattle.table_plan.proofs.MovedSets.{moved_mask}
 use Rattle.game_laws.proofs.BoardMaps.{negated, shift_keeps}

@@ -1,5 +1,5 @@
 -- The variables of a shift are those of the live men.
-use Rattle.std.proofs.Common.{◌≡◌, ◌≢◌, ◌⊎◌, ℕ, zero, suc, ◌*◌, ◌<◌, ◌≤◌, ℤ, Bool, true, false, List, [], ◌∷◌, ◌++◌, map, All, AllPairs, ◌==◌, if◌then◌else◌, inl, inr, refl, sym, ap, ◌∙◌, subst, arith}
+use Rattle.std.proofs.Common.{◌≡◌, ◌≢◌, ℕ, ◌*◌, ◌<◌, ◌≤◌, ℤ, Bool, true, false, List, [], ◌∷◌, map, ◌==◌, if◌then◌else◌, inl, inr, refl, sym, ap, ◌∙◌, subst, arith}
 use Rattle.std.proofs.lemmas.Bool.{eqb-true}
 use Rattle.std.proofs.lemmas.Bool.Decides.{eqb_tells}
 use Rattle.track_word.specs.declared.tracks.Var.{Var}
@@ -7,7 +7,7 @@ use Rattle.lin_formula.specs.Tree.{free_vars}
 use Rattle.lin_formula.specs.Free.{IsOneOf}
 use Rattle.lin_formula.proofs.FreeVars.{same-var}
 use Rattle.rule_formula.specs.Seats.{elsewhere, own, vars_to}
-use Rattle.rule_formula.proofs.TracksTheorem.{IsSeated, Rises, own_low, seated, seated_in, spans_own, spans_rise, tracks_are}
+use Rattle.rule_formula.proofs.TracksTheorem.{Rises, own_low, seated, seated_in, spans_own, spans_rise, tracks_are}
 use Rattle.table_plan.specs.Table.{in_place, shift_tree}
 
 -- a variable of the live men is not the spare one

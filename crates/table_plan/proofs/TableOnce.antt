@@ -1,5 +1,5 @@
 -- The plan of a table has one end, or one first step that exceeds a budget.
-use Rattle.std.proofs.Common.{◌≡◌, ℕ, zero, suc, ◌%◌, ◌==◌, if◌then◌else◌, Bool, true, false, List, [], ◌∷◌, ℤ, pos, negsuc, refl, subst}
+use Rattle.std.proofs.Common.{◌≡◌, ℕ, zero, suc, ◌==◌, if◌then◌else◌, Bool, true, false, List, [], ◌∷◌, ℤ, pos, negsuc, refl, subst}
 use Rattle.track_word.specs.declared.tracks.Var.{Var}
 use Rattle.game_rules.specs.Game.{Position, other}
 use Rattle.game_rules.specs.declared.men.Ray.{Ray}

@@ -1,25 +1,22 @@
 -- The level of all positions stands for all positions.
-use Rattle.std.proofs.Common.{◌≡◌, ◌↔◌, ℕ, List, [], ◌∷◌, Some, ℤ, inl, inr, refl, sym, ap, ◌∙◌, subst}
-use Rattle.std.specs.Prelude.{Contains}
+use Rattle.std.proofs.Common.{◌≡◌, ◌↔◌, ℕ, List, Some, ℤ, inl, inr, refl, sym, ap, ◌∙◌, subst}
 use Rattle.track_word.specs.Tracks.{values_at}
 use Rattle.game_rules.specs.Game.{InCheck, Position, other}
 use Rattle.game_rules.specs.declared.men.Side.{Side}
 use Rattle.lin_formula.specs.SetOf.{Member, Nothing, SetOf}
 use Rattle.mask_sets.specs.Stock.{mask_of}
 use Rattle.mask_sets.specs.Tuple.{tuple_of}
-use Rattle.rule_formula.specs.declared.opt.Bearing.{Bearing}
 use Rattle.rule_formula.specs.Bearings.{bearings_of, king_number}
 use Rattle.rule_formula.specs.Fits.{Fits, IsGameMask, masks_of}
-use Rattle.rule_formula.specs.Mean.{BearingsMean, BearsOnKing, HoldsFitting, RulesMean, mask_tracks}
-use Rattle.set_plan.specs.Program.{Give, Takes, each}
+use Rattle.rule_formula.specs.Mean.{HoldsFitting, RulesMean, mask_tracks}
+use Rattle.set_plan.specs.Program.{Takes}
 use Rattle.set_plan.specs.Unite.{Made, make}
 use Rattle.set_plan.proofs.Composition.{Takes-split}
-use Rattle.set_plan.proofs.Takings.{IsOver, Takes-give, contains_cases, contains_head, contains_none, contains_rest, make-members}
-use Rattle.mate_plan.specs.Plan.{Level, Rules, name, narrow, narrow_by, no_sets, safe_item}
+use Rattle.set_plan.proofs.Takings.{IsOver, make-members}
+use Rattle.mate_plan.specs.Plan.{Level, name, narrow, no_sets}
 use Rattle.mate_plan.specs.PlanOf.{rules_of}
 use Rattle.mate_plan.specs.declared.names.Part.TheVariants as kind
 use Rattle.rule_formula.proofs.MeanTheorem.{rules_mean}
-use Rattle.winning_sets.specs.PlanMeans.{IsLevelOf}
 use Rattle.winning_sets.proofs.KeptBounds.{level-of}
 use Rattle.winning_sets.proofs.KeptSets.{Entries, Stands, for_masks-level, game_mask, in_masks, narrow-stands, narrow_within}
 use Rattle.table_plan.specs.Table.{all_level, all_set, place_item}
