@@ -15,7 +15,7 @@ use Rattle.play_loop.specs.LineReport.{IsReport, LineReport}
 use Rattle.loser_session.specs.Defending.{DefenceMatch, seen}
 use Rattle.loser_session.specs.Unwon.{RestsFit}
 use Rattle.loser_session.proofs.Fitting.{rests_fit}
-use Rattle.loser_session.specs.LoserRules.{loser_rules}
+use Rattle.loser_player.specs.LoserRules.{loser_rules}
 use Rattle.desk_verdict.specs.Verdict.{FitsBudget}
 use Rattle.desk_text.specs.declared.problem.Problem.{Problem}
 use Rattle.desk_games.specs.Defend.{DefendReports, first_defence}

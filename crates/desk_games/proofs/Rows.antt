@@ -10,8 +10,8 @@ use Rattle.play_loop.specs.LineReport.{IsReport}
 use Rattle.play_loop.specs.Turns.{ArePlayable, Rules}
 use Rattle.play_loop.specs.declared.ending.Ending.{Ending}
 use Rattle.play_loop.specs.declared.ending.Ending.TheVariants.{Mated, Held, Stuck, Wide, Quit, NoLine, Many, CutAt, LongAt}
-use Rattle.loser_session.specs.LoserRules.{IsOfDefence, loser_rules}
-use Rattle.loser_session.specs.Playable.{loser_plays}
+use Rattle.loser_player.specs.LoserRules.{IsOfDefence, loser_rules}
+use Rattle.loser_player.specs.Playable.{loser_plays}
 use Rattle.desk_report.specs.Outcome.{done_with}
 use Rattle.desk_report.specs.declared.status.Status.TheVariants as is
 use Rattle.desk_report.proofs.One.{IsDueOf, IsOne, and_row, due_of_row, due_row, either_row}

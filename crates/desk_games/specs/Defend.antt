@@ -10,7 +10,7 @@ use Rattle.game_rules.specs.Game.{Value}
 use Rattle.move_choice.specs.Squares.{all_squares}
 use Rattle.play_loop.specs.LineReport.{IsReport, LineReport}
 use Rattle.loser_session.specs.Defending.{DefenceMatch}
-use Rattle.loser_session.specs.LoserRules.{loser_rules}
+use Rattle.loser_player.specs.LoserRules.{loser_rules}
 use Rattle.desk_report.specs.ByLines.{EndsByLines}
 use Rattle.desk_report.specs.Outcome.{NeverMisses, Report, Seen, done_with}
 use Rattle.desk_report.specs.Ports.{streams_seen}

@@ -8,4 +8,3 @@ mod AnyMoves
 pub mod Matches
 pub mod Defending
 pub mod Fitting
-pub mod Saving

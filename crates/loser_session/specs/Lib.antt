@@ -3,6 +3,3 @@ pub mod Unwon
 pub mod Leading
 pub mod Defending
 pub mod Laws
-pub mod LoserRules
-pub mod PlayerLaws
-pub mod Playable

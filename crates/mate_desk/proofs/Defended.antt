@@ -3,7 +3,7 @@ use Rattle.std.proofs.Common.{ℕ, inl, inr, refl}
 use Rattle.desk_base.specs.Files.{Files}
 use Rattle.desk_base.specs.Lines.{Lines}
 use Rattle.loser_session.proofs.Matches.{first_unwon}
-use Rattle.loser_session.proofs.Saving.{report_saved}
+use Rattle.loser_player.proofs.Saving.{report_saved}
 use Rattle.desk_games.specs.Defend.{DefendReports, first_defence}
 use Rattle.desk_report.specs.Outcome.{Report}
 use Rattle.desk_text.specs.declared.problem.Problem.{Problem}

@@ -17,8 +17,8 @@ use Rattle.arith_desk.specs.Truth.{IsOver}
 use Rattle.desk_formula.specs.Answer.{Answers}
 use Rattle.desk_formula.specs.Arith.{step_line}
 use Rattle.loser_session.specs.Defending.{DefenceMatch}
-use Rattle.loser_session.specs.PlayerLaws.{IsSavedReport}
-use Rattle.loser_session.specs.LoserRules.{loser_rules}
+use Rattle.loser_player.specs.Laws.{IsSavedReport}
+use Rattle.loser_player.specs.LoserRules.{loser_rules}
 use Rattle.mate_plan.specs.Claim.{Claim}
 use Rattle.winning_sets.specs.Reach.{Reach}
 use Rattle.winning_sets.specs.declared.names.StepName.{StepName}

@@ -4,7 +4,7 @@ use Rattle.game_rules.specs.Game.{Value}
 use Rattle.mate_plan.specs.PlanOf.{plan_of}
 use Rattle.winning_sets.specs.Solve.{IsSolveError}
 use Rattle.winning_sets.specs.declared.names.SolveError.{SolveError}
-use Rattle.loser_session.specs.LoserRules.{loser_rules}
+use Rattle.loser_player.specs.LoserRules.{loser_rules}
 use Rattle.desk_report.specs.Outcome.{NeverMisses, Report, done_with}
 use Rattle.desk_verdict.specs.Verdict.{mate_line}
 use Rattle.desk_verdict.proofs.Values.{won_as}

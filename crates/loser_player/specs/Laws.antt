@@ -7,7 +7,7 @@ use Rattle.winning_sets.specs.Reach.{Reach}
 use Rattle.winner_session.specs.Game.{made}
 use Rattle.play_loop.specs.LineReport.{IsReport, LineReport}
 use Rattle.loser_session.specs.Defending.{DefenceMatch, IsUnwonMatch}
-use Rattle.loser_session.specs.LoserRules.{loser_rules}
+use Rattle.loser_player.specs.LoserRules.{loser_rules}
 
 -- Legal moves have led from the start of the first game to the position of the second. The winner has made at most as
 -- many moves as he had, does not mate from there within the moves left, and the loser is not mated.

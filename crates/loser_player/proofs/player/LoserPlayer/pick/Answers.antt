@@ -5,8 +5,8 @@ use Rattle.move_choice.specs.Choice.{target}
 use Rattle.play_loop.specs.Turns.{IsMadeBy}
 use Rattle.winner_session.proofs.Movers.{mover_number}
 use Rattle.loser_session.specs.Defending.{DefenceMatch, DefencePick, seen}
-use Rattle.loser_session.specs.LoserRules.{loser_rules}
-use Rattle.loser_session.proofs.player.LoserPlayer.pick.Goals as goal
+use Rattle.loser_player.specs.LoserRules.{loser_rules}
+use Rattle.loser_player.proofs.player.LoserPlayer.pick.Goals as goal
 
 pub returns-in_default-clause-none : goal.returns-in_default-clause-none
 returns-in_default-clause-none c = subst (λ (m : DefenceMatch). DefencePick m None) c.self.view_is c.in_default.ensures.wide

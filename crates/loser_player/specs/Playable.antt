@@ -18,7 +18,7 @@ use Rattle.loser_session.specs.declared.defence.Stand.{Stand}
 use Rattle.loser_session.specs.declared.defence.Stand.TheVariants.{Held, Stuck, Attack, Answer}
 use Rattle.loser_session.proofs.Defending.{pick_keeps, some_stand, typed_keeps, unwon_or_not}
 use Rattle.loser_session.proofs.Matches.{stands_once}
-use Rattle.loser_session.specs.LoserRules.{IsOfDefence, StandsFor, loser_rules, standing_of}
+use Rattle.loser_player.specs.LoserRules.{IsOfDefence, StandsFor, loser_rules, standing_of}
 
 -- whose turn it is in a state
 abbrev TellsOf : DefenceMatch → GameState → Type 0

@@ -18,9 +18,9 @@ use Rattle.play_loop.specs.declared.player.GameState.TheVariants.{LineDue, ToMov
 use Rattle.play_loop.proofs.Walks.{first, walk}
 use Rattle.loser_session.specs.Defending.{DefenceMatch, DefencePick, IsNextUnwon, IsUnwonMatch, last_of, made_of, moved}
 use Rattle.loser_session.proofs.Matches.{left_is, made_within, pick_unwon, typed_unwon, unmated}
-use Rattle.loser_session.specs.PlayerLaws.{IsSavedGame, IsSavedReport}
-use Rattle.loser_session.specs.LoserRules.{StandsFor, loser_rules}
-use Rattle.loser_session.specs.Playable.{told_turn}
+use Rattle.loser_player.specs.Laws.{IsSavedGame, IsSavedReport}
+use Rattle.loser_player.specs.LoserRules.{StandsFor, loser_rules}
+use Rattle.loser_player.specs.Playable.{told_turn}
 
 -- the game before its first move
 abbrev begun : DefenceMatch → DefenceMatch

@@ -1,10 +1,10 @@
 //! The loser of a game as a player.
 ghost use Rattle.std.specs.Prelude.{◌≡◌};
-ghost use Rattle.loser_session.specs.LoserRules.{standing_of as standing_is};
+ghost use Rattle.loser_player.specs.LoserRules.{standing_of as standing_is};
 ghost use Rattle.loser_session.specs.Defending.{seen};
 
-use crate::defence::{Defence, Stand};
 use chess_game::{Illegal, Move, Side};
+use loser_session::{Defence, Stand};
 use play_loop::{Ending, GameState, Player};
 use std::marker::Model;
 
@@ -44,8 +44,8 @@ fn standing_of(stand: Stand) -> GameState
 }
 
 impl Player for Loser {
-    ghost use Rattle.loser_session.specs.LoserRules.{IsOfDefence, loser_rules};
-    ghost use Rattle.loser_session.specs.Playable.{loser_plays};
+    ghost use Rattle.loser_player.specs.LoserRules.{IsOfDefence, loser_rules};
+    ghost use Rattle.loser_player.specs.Playable.{loser_plays};
     ghost use Rattle.loser_session.specs.Defending.{DefenceMatch};
 
     ghost Seen = { DefenceMatch };

@@ -1,7 +1,7 @@
 use Rattle.std.proofs.Common.{subst}
 use Rattle.loser_session.specs.Defending.{DefenceMatch}
-use Rattle.loser_session.specs.LoserRules.{StandsFor}
-use Rattle.loser_session.proofs.player.LoserPlayer.stand.Goals as goal
+use Rattle.loser_player.specs.LoserRules.{StandsFor}
+use Rattle.loser_player.proofs.player.LoserPlayer.stand.Goals as goal
 
 pub returns-clause-stands : goal.returns-clause-stands
 returns-clause-stands c =

@@ -2,7 +2,7 @@ use Rattle.std.proofs.Common.{OnErr, subst}
 use Rattle.game_rules.specs.Game.{Legal, Position}
 use Rattle.move_choice.specs.Choice.{target}
 use Rattle.loser_session.specs.Defending.{DefenceMatch}
-use Rattle.loser_session.proofs.player.LoserPlayer.typed.Goals as goal
+use Rattle.loser_player.proofs.player.LoserPlayer.typed.Goals as goal
 
 pub returns-clause-illegal : goal.returns-clause-illegal
 returns-clause-illegal c =

@@ -1,0 +1,3 @@
+pub mod LoserRules
+pub mod Laws
+pub mod Playable

@@ -1,5 +1,0 @@
-use Rattle.loser_session.proofs.Saving.{report_saved}
-use Rattle.loser_session.proofs.laws.report_is_saved.Goals as goal
-
-pub returns : goal.returns
-returns c = report_saved
