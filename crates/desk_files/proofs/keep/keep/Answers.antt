@@ -10,8 +10,8 @@ use Rattle.desk_files.proofs.Shelves.{same_kept}
 use Rattle.desk_report.proofs.Writing.{at_sink, ends_as}
 use Rattle.desk_files.proofs.keep.keep.Goals as goal
 
-pub keep_solved-requires-kings : goal.keep_solved-requires-kings
-keep_solved-requires-kings g c =
+pub keep_solved-requires-clause-kings : goal.keep_solved-requires-clause-kings
+keep_solved-requires-clause-kings g c =
     let of = rw (c.in-Ok-Some.field-0-is, c.new-solver.ensures.problem) at c.in-Ok-Some.ensures.found in
     subst HasBothKings (sym of.position) c.requires.task.kings
 
