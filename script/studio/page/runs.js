@@ -3,7 +3,7 @@ import { button, find, make } from "./dom.js";
 
 // The browser lets a page have six connections to one server; some are left for short questions.
 const MOST_AT_ONCE = 4;
-const PAUSE = 400;
+const PAUSE = 400, WAITS = "waits for a processor";
 let most = MOST_AT_ONCE, running = 0;
 const waiting = [];
 
@@ -101,9 +101,8 @@ export async function inPlace(entry, act) {
         return await act();
       } catch (why) {
         if (why.status !== 503) throw why;
-        entry.note = "waits for a processor";
+        entry.note = WAITS;
         await sleep(PAUSE);
-        entry.note = "";
       }
     }
   } finally {
@@ -131,6 +130,7 @@ async function events(response, onEvent) {
 export async function stream(path, body, entry, onLine = () => {}, onStart = () => {}) {
   const lines = [];
   const onEvent = (event) => {
+    if (entry.note === WAITS) entry.note = "";
     if (event.run) onStart(event.run);
     if (event.memory !== undefined) entry.memory = event.memory ? `${Math.round(event.memory)} MB` : "";
     if (event.line !== undefined) {
