@@ -1,4 +1,4 @@
--- What `decide` and `least` write.
+-- What `decide`, `least` and `first` write.
 use Rattle.std.proofs.Common.{◌≡◌, ◌↔◌, ◌⊎◌, ℕ, List, [], ◌++◌, take, Option, Some, None, IfSome, inl, inr, refl, sym, ◌∙◌, ap, subst, arith}
 use Rattle.std.specs.Io.KnownBytes.{Appends, Consumes}
 use Rattle.std.proofs.lemmas.List.{append-nil, append_cancel_left, take_all}
@@ -8,7 +8,8 @@ use Rattle.game_rules.specs.Game.{Position}
 use Rattle.game_rules.specs.declared.men.Side.{Side}
 use Rattle.chess_text.specs.PositionText.{position_text}
 use Rattle.desk_solve.specs.Decide.{IsAnswered, IsOverBudget}
-use Rattle.mate_desk.specs.Laws.{DecideWrites, HasRun, LeastWrites}
+use Rattle.mate_desk.specs.Laws.{DecideWrites, FirstWrites, HasRun, IsOfRays, LeastWrites, WritesRay}
+use Rattle.desk_solve.specs.First.{FirstReports}
 use Rattle.desk_solve.specs.Least.{LeastFinds, LeastReports, least_line}
 use Rattle.desk_report.specs.Outcome.{Report, Seen}
 use Rattle.desk_text.specs.Text.{TextAt, whole}
@@ -19,6 +20,7 @@ use Rattle.desk_args.specs.declared.order.Order.TheVariants as orders
 use Rattle.desk_text.specs.declared.problem.Problem.{Problem}
 use Rattle.desk_report.specs.declared.status.Status.TheVariants as is
 use Rattle.mate_desk.proofs.Exact.{decides_exactly, of_text, of_words}
+use Rattle.mate_desk.proofs.FirstMoves.{none_written, rays_written}
 use Rattle.desk_text.proofs.RoundTrip.{text_is_read}
 
 -- what was given is what the source told
@@ -120,3 +122,32 @@ least_writes words limit budget p winner old new out run =
       all.1,
       record { found = says.found; least = says.finds.0; written = all.2 ∙ ap (λ l. out ++ l) says.wrote },
     )
+
+-- what is reported of `first` that is done
+record SaysFirst (n : ℕ) (problem : Problem) (report : Report) : Type 0 where
+  rays : IsOfRays (WritesRay problem.winner n problem.position) problem.position report.text
+  fault : report.fault ≡ []
+
+says_first : (n budget : ℕ) (problem : Problem) (files : Files) (report : Report) → report.status ≡ is.Done → FirstReports n budget problem files report
+    → SaysFirst n problem report
+says_first n budget problem files report done (inl (none, is')) =
+    let P : List ℕ → Type 0 = IsOfRays (WritesRay problem.winner n problem.position) problem.position in
+    record { rays = subst P (sym (ap (λ r. r.text) is')) (none_written n problem none); fault = ap (λ r. r.fault) is' }
+says_first n budget problem files report done (inr (some, inl (step, stops, is'))) =
+    let e : is.Done ≡ is.Budget = sym done ∙ ap (λ r. r.status) is' in absurd (cc)
+says_first n budget problem files report done (inr (some, inr (fits, (told, (text, men, all), is')))) =
+    record { rays = (text, rays_written n problem some text men, ap (λ r. r.text) is' ∙ all); fault = ap (λ r. r.fault) is' }
+
+pub first_writes : FirstWrites
+first_writes words n budget p winner old new out run =
+    let order = orders.First n budget in
+    let given = run.ends.given in
+    let report = run.ends.ends.0 in
+    let bytes = given.taken ++ given.rest in
+    let read = problem words order p winner old new out run in
+    let reports = of_words words bytes given.files order report run.ordered run.ends.ends.1 in
+    let right =
+    of_text (λ r behind. FirstReports n budget r given.files) given.files bytes read (lines_of run.behind) report (is_read words order p winner old new out run) run.sound reports in
+    let says = says_first n budget read given.files report (sym run.ends.ends.2.reported) right in
+    let all = wrote words order p winner old new out run says.fault in
+    (all.0, all.1, record { text = report.text; rays = says.rays; written = all.2 })

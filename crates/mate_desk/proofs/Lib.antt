@@ -2,6 +2,7 @@ pub mod Crowds
 pub mod Defended
 pub mod Exact
 pub mod Faultless
+pub mod FirstMoves
 pub mod Following
 pub mod Headline
 pub mod KeptLaws

@@ -1,12 +1,20 @@
 -- Laws of what a run does.
-use Rattle.std.specs.Prelude.{◌≡◌, ◌≢◌, ◌↔◌, ◌⊎◌, ℕ, ◌+◌, ◌-◌, ◌≤◌, List, [], ◌++◌, Option, Some, Ok, Err, codes, slice_get}
+use Rattle.std.specs.Prelude.{◌≡◌, ◌≢◌, ◌↔◌, ◌⊎◌, ℕ, suc, ◌+◌, ◌-◌, ◌≤◌, List, [], ◌++◌, length, Option, Some, Ok, Err, codes, slice_get}
 use Rattle.std.specs.FinMap as map
 use Rattle.std.specs.Io.KnownBytes.{Consumes}
 use Rattle.desk_base.specs.Faults.{HasRisen}
 use Rattle.desk_base.specs.Files.{Files}
 use Rattle.desk_base.specs.Lines.{Lines, full, lines_of}
 use Rattle.game_rules.specs.Game.{Position, Least, Lost, SoundWithKings, Value}
+use Rattle.game_rules.specs.declared.men.Ray.{Ray}
 use Rattle.game_rules.specs.declared.men.Side.{Side}
+use Rattle.auto_search.specs.declared.few.Few.TheVariants.{One}
+use Rattle.move_choice.specs.Aims.{IsMover}
+use Rattle.move_choice.specs.Along.{IsLeastOf}
+use Rattle.move_choice.specs.Squares.{all_squares}
+use Rattle.winner_session.specs.Firsts.{Firsts, FirstsInside, IsFirstLine}
+use Rattle.winner_session.specs.declared.first_line.FirstLine.{FirstLine}
+use Rattle.period_sets.specs.Laws.{IsTold}
 use Rattle.chess_text.specs.PositionText.{IsWritable, position_text}
 use Rattle.winner_player.specs.WinnerRules.{Match, winner_rules}
 use Rattle.play_loop.specs.LineReport.{IsReport, LineReport}
@@ -24,6 +32,12 @@ use Rattle.winning_sets.specs.Reach.{Reach}
 use Rattle.winning_sets.specs.declared.names.StepName.{StepName}
 use Rattle.desk_crowd.specs.Crowd.{ExceedsPlan, crowd_texts, step_line as crowd_line}
 use Rattle.desk_solve.specs.Decide.{IsExact}
+use Rattle.desk_solve.specs.First.{Listed, line_of, ray_total}
+use Rattle.desk_describe.specs.Describe.{IsDescribed, MenTell}
+use Rattle.desk_describe.specs.Description.{ray_line}
+use Rattle.desk_describe.specs.RayStep.{ray_step_line}
+use Rattle.desk_describe.specs.declared.description.Description.{Description}
+use Rattle.desk_describe.specs.declared.description.Description.TheVariants.{Repeats}
 use Rattle.claim_plan.specs.CheckPlan.{check_plan}
 use Rattle.mate_plan.specs.SameClaim.{IsSameClaim}
 use Rattle.strategy_file.specs.Claims.{claim_with}
@@ -447,3 +461,100 @@ DecideEnds =
     → IsTold words (orders.Decide n budget) p winner old
     → RunEnds words status old new
     → Causes n budget (text_problem p winner) status old new
+
+-- The winner has a move left, it is his turn, the man has a legal move by this distance along his ray of this number,
+-- and after it the winner mates within the moves left, whatever the replies on the whole board.
+pub record MatesBy (winner : Side) (n : ℕ) (p : Position) (man ray distance : ℕ) : Type 0 where
+  pub some : 1 ≤ n
+  pub turn : p.turn ≡ winner
+  pub first : Firsts winner n p man ray distance
+
+-- the same, to a square whose coordinates are numbers of 64 bits
+pub record MatesInside (winner : Side) (n : ℕ) (p : Position) (man ray distance : ℕ) : Type 0 where
+  pub some : 1 ≤ n
+  pub turn : p.turn ≡ winner
+  pub first : FirstsInside all_squares winner n p man ray distance
+
+-- no move along this ray mates in time
+abbrev pub MatesNowhere : Side → ℕ → Position → (man ray : ℕ) → Type 0
+MatesNowhere winner n p man ray = (distance : ℕ) → ¬ MatesBy winner n p man ray distance
+
+-- the texts of all rays of each man, in order, and a last line
+abbrev pub IsOfRays : (Of : (man ray : ℕ) → List ℕ → Type 0) → Position → List ℕ → Type 0
+IsOfRays Of p all =
+    (text : List ℕ) × Listed (λ before. Listed (Of (suc before)) (ray_total p (suc before))) (length p.men) text
+    × (all ≡ text ++ codes "end\n")
+
+-- if the description lists distances, these are the ones with the property
+abbrev pub ListsOnly : (ℕ → Type 0) → Description → Type 0
+ListsOnly Mates (Repeats periodic) = (distance : ℕ) → 1 ≤ distance → IsTold periodic distance ↔ Mates distance
+ListsOnly Mates description = Unit {0}
+
+-- The line of a ray in what `describe` writes. If it lists distances, they are those by which a move along the ray
+-- mates in time.
+pub record LineDescribes (budget : ℕ) (winner : Side) (n : ℕ) (p : Position) (man ray : ℕ) (text : List ℕ) : Type
+    0 where
+  pub step : Ray
+  pub mover : IsMover p man ray step
+  pub description : Description
+  pub described : IsDescribed budget winner n p man ray description
+  pub lists : ListsOnly (MatesBy winner n p man ray) description
+  pub line : text ≡ ray_line man step description
+
+-- what `describe` writes of a ray: nothing if no move along it mates in time, and otherwise its line
+abbrev pub DescribesRay : (budget : ℕ) → Side → ℕ → Position → (man ray : ℕ) → List ℕ → Type 0
+DescribesRay budget winner n p man ray text =
+    (MatesNowhere winner n p man ray × (text ≡ []))
+    ⊎ ((¬ MatesNowhere winner n p man ray) × LineDescribes budget winner n p man ray text)
+
+-- What `describe` reports of a sound position: the first step that exceeds the budget, of the plan or, if none does
+-- there, of the rays; or the lines of the rays.
+abbrev pub DescribesMoves : (n budget : ℕ) → Problem → Files → Report → Type 0
+DescribesMoves n budget problem files =
+    FirstOver budget_line (ExceedsAt problem budget n)
+    (FirstOver ray_step_line (λ step. MenTell budget problem.winner n problem.position (Err step))
+    (λ report.
+    (text : List ℕ) × IsOfRays (DescribesRay budget problem.winner n problem.position) problem.position text
+    × (report ≡ done_with files text)) files) files
+
+-- this is true of each report of `describe` on the text of a sound position
+abbrev pub DescribesExactly : Type 0
+DescribesExactly =
+    (words : List (List ℕ)) (bytes : List ℕ) (files : Files) (n budget : ℕ) (problem : Problem) (rest : Lines)
+    (report : Report)
+    → Ordered words (Ok (orders.Describe n budget))
+    → TextAt bytes (whole problem rest)
+    → SoundWithKings problem.position
+    → Reports words bytes files report
+    → DescribesMoves n budget problem files report
+
+-- The line of a ray in what `first` writes. The least distance in it is the least one by which a move along the ray, to
+-- a square of 64 bits, mates in time, if there is one. The line ends in `only` if and only if exactly one move along
+-- the ray does.
+pub record LineSaysFirst (winner : Side) (n : ℕ) (p : Position) (man ray : ℕ) (line : FirstLine) : Type 0 where
+  pub of_ray : IsFirstLine all_squares winner n p man ray line
+  pub some : (distance : ℕ) × MatesBy winner n p man ray distance
+  pub least : (distance : ℕ) → (line.least ≡ Some distance) ↔ IsLeastOf (MatesInside winner n p man ray) distance
+  pub only :
+      (line.few ≡ One)
+      ↔ ((distance : ℕ) × MatesBy winner n p man ray distance
+      × ((other : ℕ) → MatesBy winner n p man ray other → other ≡ distance))
+
+-- what `first` writes of a ray: nothing if no move along it mates in time, and otherwise its line
+abbrev pub WritesRay : Side → ℕ → Position → (man ray : ℕ) → List ℕ → Type 0
+WritesRay winner n p man ray text =
+    (MatesNowhere winner n p man ray × (text ≡ []))
+    ⊎ ((line : FirstLine) × LineSaysFirst winner n p man ray line × (text ≡ line_of line))
+
+-- The bytes that `first` appended to `old`: the lines of the rays.
+pub record WritesFirst (n : ℕ) (p : Position) (winner : Side) (old new : List ℕ) : Type 0 where
+  pub text : List ℕ
+  pub rays : IsOfRays (WritesRay winner n p) p text
+  pub written : new ≡ old ++ text
+
+-- what a run of `first` writes
+abbrev pub FirstWrites : Type 0
+FirstWrites =
+    (words : List (List ℕ)) (n budget : ℕ) (p : Position) (winner : Side) (old new : Seen) (out : List ℕ)
+    → HasRun words (orders.First n budget) p winner old new out
+    → (all : List ℕ) × (new.written ≡ Some all) × WritesFirst n p winner out all

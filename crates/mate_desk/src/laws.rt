@@ -3,7 +3,7 @@
 
 ghost use Rattle.desk_text.specs.TextLaws.{TextIsRead};
 ghost use Rattle.mate_desk.specs.Faultless.{ExactWhereNoneFails};
-ghost use Rattle.mate_desk.specs.Laws.{AnswersExactly, CheckedAfterKeep, CrowdAgrees, CrowdDecides, CrowdWrites, DecideEnds, DecidesExactly, DecideWrites, Defends, DefendWrites, FaultsAreCounted, LeastWrites, MemoryLast, MigrateCarries, NoShelfFault, OneReport, PlayKeeps, PlayWrites, ResumeKeeps, UsageExactly};
+ghost use Rattle.mate_desk.specs.Laws.{AnswersExactly, CheckedAfterKeep, CrowdAgrees, CrowdDecides, CrowdWrites, DecideEnds, DecidesExactly, DecideWrites, Defends, DefendWrites, DescribesExactly, FaultsAreCounted, FirstWrites, LeastWrites, MemoryLast, MigrateCarries, NoShelfFault, OneReport, PlayKeeps, PlayWrites, ResumeKeeps, UsageExactly};
 
 /// States what `decide` writes. A run that is done, on the text of a sound position and whatever follows it, writes
 /// `mate in n` if and only if the winner that the text names mates within n moves of his own, whatever the replies on
@@ -16,6 +16,14 @@ pub fn decide_writes()
 /// least number of moves, up to its limit, within which the winner that the text names mates, or that there is none.
 pub fn least_writes()
     ensures { LeastWrites }
+{}
+
+/// States what `first` writes. A run that is done, on the text of a sound position and whatever follows it, writes a
+/// line for a ray of a man if and only if a move along it mates within n moves of the winner's own, whatever the replies
+/// on the whole board. The line says the least distance of such a move to a square of 64 bits, if there is one, and
+/// whether only one move along the ray mates in time.
+pub fn first_writes()
+    ensures { FirstWrites }
 {}
 
 /// States that the text of a position and its winner, whatever follows it, is read as that position and winner.
@@ -55,6 +63,14 @@ pub fn reports_once()
 /// first step that exceeds the budget.
 pub fn decides_exactly()
     ensures { DecidesExactly }
+{}
+
+/// States what `describe` reports for the text of a sound position: a line for each ray of a man along which a move
+/// mates within n moves of the winner's own, whatever the replies on the whole board; or the first step that exceeds
+/// the budget. If the line of a ray lists distances, it lists a positive distance t if and only if the move by t steps
+/// along the ray mates within n moves.
+pub fn describes_exactly()
+    ensures { DescribesExactly }
 {}
 
 /// States what `crowd` reports for the text of a sound crowd: `mate in n` if and only if its winner mates within n
