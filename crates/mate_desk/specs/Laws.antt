@@ -14,7 +14,7 @@ use Rattle.move_choice.specs.Along.{IsLeastOf}
 use Rattle.move_choice.specs.Squares.{all_squares}
 use Rattle.winner_session.specs.Firsts.{Firsts, FirstsInside, IsFirstLine}
 use Rattle.winner_session.specs.declared.first_line.FirstLine.{FirstLine}
-use Rattle.period_sets.specs.Laws.{IsTold}
+use Rattle.period_sets.specs.Laws.{IsTold as IsListed}
 use Rattle.chess_text.specs.PositionText.{IsWritable, position_text}
 use Rattle.winner_player.specs.WinnerRules.{Match, winner_rules}
 use Rattle.play_loop.specs.LineReport.{IsReport, LineReport}
@@ -487,7 +487,7 @@ IsOfRays Of p all =
 
 -- if the description lists distances, these are the ones with the property
 abbrev pub ListsOnly : (ℕ → Type 0) → Description → Type 0
-ListsOnly Mates (Repeats periodic) = (distance : ℕ) → 1 ≤ distance → IsTold periodic distance ↔ Mates distance
+ListsOnly Mates (Repeats periodic) = (distance : ℕ) → 1 ≤ distance → IsListed periodic distance ↔ Mates distance
 ListsOnly Mates description = Unit {0}
 
 -- The line of a ray in what `describe` writes. If it lists distances, they are those by which a move along the ray
